@@ -1,0 +1,11 @@
+-- The items of groups.
+use Rattle.std.specs.Prelude.{ℕ, List, [], ◌∷◌}
+use Rattle.xdr3.specs.Combined.{counted_items}
+use Rattle.xdr3.specs.Item.{Item, Word}
+use Rattle.rpc_head.specs.Names.{names}
+
+abbrev pub group_items : ℕ → List Item
+group_items n = Word names.group n ∷ []
+
+abbrev pub count_items : List ℕ → List Item
+count_items groups = counted_items names.gids group_items groups

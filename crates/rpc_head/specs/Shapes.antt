@@ -1,0 +1,77 @@
+-- The shapes of the heads of messages (RFC 5531, sections 8.2 and 9, appendix A).
+use Rattle.std.specs.Prelude.{ℕ, ◌==◌, if◌then◌else◌, List, [], ◌∷◌}
+use Rattle.xdr3.specs.Shape.{Shape, both, choose, counted, is_listed, listed, nothing, opaque, sized, word}
+use Rattle.xdr3.specs.declared.reason.Reason.TheVariants.{BadEnum, Flavor, RpcVersion}
+use Rattle.xdr3.specs.Item.{Text, Var}
+use Rattle.rpc_head.specs.Names.{names}
+
+infixr 5 ◌then◌
+abbrev pub ◌then◌ : Shape → Shape → Shape
+a then b = both a b
+
+-- an mtype is CALL (0) or REPLY (1)
+abbrev pub message_types : List ℕ
+message_types = 0 ∷ 1 ∷ []
+
+unfoldable pub message_start : Shape
+message_start = word names.xid then listed names.mtype message_types
+
+unfoldable pub gids : Shape
+gids = counted names.gids 16 (word names.group)
+
+unfoldable pub parameters : Shape
+parameters = word names.stamp then opaque Text names.machinename 255 then word names.uid then word names.gid then gids
+
+unfoldable pub auth_sys : Shape
+auth_sys = sized names.cred_length parameters
+
+-- a credential's flavor is AUTH_NONE (0) or AUTH_SYS (1)
+abbrev pub credential_flavors : List ℕ
+credential_flavors = 0 ∷ 1 ∷ []
+
+unfoldable pub credential : Shape
+credential = choose names.cred_flavor (is_listed credential_flavors) Flavor (λ flavor. if flavor == 0 then opaque Var names.cred_body 400 else auth_sys)
+
+-- a verifier's flavor is AUTH_NONE (0)
+abbrev pub verifier_flavors : List ℕ
+verifier_flavors = 0 ∷ []
+
+unfoldable pub verifier : Shape
+verifier = choose names.verf_flavor (is_listed verifier_flavors) Flavor (λ flavor. opaque Var names.verf_body 400)
+
+abbrev pub rpc_versions : List ℕ
+rpc_versions = 2 ∷ []
+
+unfoldable pub call_head : Shape
+call_head =
+    choose names.rpcvers (is_listed rpc_versions) RpcVersion (λ version.
+    word names.prog then word names.vers then word names.proc then credential then verifier)
+
+-- the lowest and the highest version that is there
+abbrev pub versions : Shape
+versions = word names.low then word names.high
+
+-- SUCCESS (0), PROG_UNAVAIL (1), PROG_MISMATCH (2), PROC_UNAVAIL (3), GARBAGE_ARGS (4), SYSTEM_ERR (5)
+abbrev pub accept_stats : List ℕ
+accept_stats = 0 ∷ 1 ∷ 2 ∷ 3 ∷ 4 ∷ 5 ∷ []
+
+unfoldable pub accept : Shape
+accept = choose names.accept_stat (is_listed accept_stats) BadEnum (λ stat. if stat == 2 then versions else nothing)
+
+-- RPC_MISMATCH (0), AUTH_ERROR (1)
+abbrev pub reject_stats : List ℕ
+reject_stats = 0 ∷ 1 ∷ []
+
+-- AUTH_OK (0) to RPCSEC_GSS_CTXPROBLEM (14)
+abbrev pub auth_stats : List ℕ
+auth_stats = 0 ∷ 1 ∷ 2 ∷ 3 ∷ 4 ∷ 5 ∷ 6 ∷ 7 ∷ 8 ∷ 9 ∷ 10 ∷ 11 ∷ 12 ∷ 13 ∷ 14 ∷ []
+
+unfoldable pub deny : Shape
+deny = choose names.reject_stat (is_listed reject_stats) BadEnum (λ stat. if stat == 0 then versions else listed names.auth_stat auth_stats)
+
+-- MSG_ACCEPTED (0), MSG_DENIED (1)
+abbrev pub reply_stats : List ℕ
+reply_stats = 0 ∷ 1 ∷ []
+
+unfoldable pub reply_head : Shape
+reply_head = choose names.reply_stat (is_listed reply_stats) BadEnum (λ stat. if stat == 0 then (verifier then accept) else deny)

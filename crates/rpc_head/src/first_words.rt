@@ -1,0 +1,24 @@
+// The first two words of a message.
+
+ghost use Rattle.rpc_head.specs.Shapes.{message_start};
+ghost use Rattle.rpc_head.specs.Starts.{start_items};
+ghost use Rattle.xdr3.specs.Reading.{reading};
+ghost use Rattle.xdr3.specs.View.{Answers, MovesOn};
+
+use crate::message::Start;
+use xdr3::{Input, Stop};
+
+/// Reads the xid and the mtype. A word that is not whole is `Short`, another mtype `BadEnum`, each at
+/// its own first byte.
+#[tactic(auto, unfolding(xdr3::specs::Reading::reading, crate::specs::Shapes::message_start))]
+pub fn start(input: &mut Input) -> Result<Start, Stop>
+    ensures read { Answers start_items result input.new.at (reading message_start input.old.body input.old.at) }
+    ensures moves { MovesOn input.old input.new }
+{
+    let xid = input.word()?;
+    let mtype = input.listed(&[0, 1])?;
+    Ok(Start {
+        xid,
+        is_reply: mtype == 1,
+    })
+}

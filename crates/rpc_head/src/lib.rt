@@ -1,0 +1,15 @@
+//! The heads of RPC calls and replies (RFC 5531, sections 8 to 10 and appendix A).
+#![tactic(auto)]
+
+mod call;
+mod credential;
+mod first_words;
+mod message;
+mod reply;
+mod word;
+
+pub use call::{CallHead, ProcId};
+pub use credential::{AuthSys, Cred, Gids, Verf};
+pub use first_words::start;
+pub use message::Start;
+pub use reply::{Accept, Deny, ReplyHead};
