@@ -1,0 +1,60 @@
+-- What a position in a capture keeps: its counts are within the limits, and it stands no further than they allow.
+use Rattle.std.specs.Prelude.{◌≡◌, ◌≤◌, ◌<◌, ℕ, ◌+◌, ◌-◌, ◌*◌, Option, Some, None, List, length}
+use Rattle.capture3.specs.declared.fault.Side.{Side}
+use Rattle.capture3.specs.declared.fault.Side.TheVariants as sides
+use Rattle.capture3.specs.declared.position.Event.{Event}
+use Rattle.capture3.specs.declared.position.Position.{Position}
+use Rattle.capture3.specs.declared.position.Taken.{Taken}
+use Rattle.capture3.specs.declared.position.Spot.{Spot}
+use Rattle.capture3.specs.declared.word_part.WordPart.{WordPart}
+use Rattle.capture3.specs.declared.position.Spot.TheVariants.{Magic, Mark, Length, Chunk, Ended}
+
+-- the word 1 of a connection, and behind the client stream its word 0
+abbrev pub words_before : Side → ℕ
+words_before sides.Client = 0
+words_before sides.Server = 4
+
+-- How many bytes there are at most: twelve for each connection's words, and five for each stream byte, in chunks of one byte.
+abbrev pub span : ℕ → ℕ → ℕ
+span connections total = 12 * connections + 5 * total
+
+abbrev pub IsSoundAt : Spot → ℕ → ℕ → ℕ → ℕ → Type 0
+IsSoundAt Magic at total connections records = at < 8
+IsSoundAt (Mark part) at total connections records = (part.count < 4) × (at ≤ 8 + span connections total)
+IsSoundAt (Length side part) at total connections records = (part.count < 4) × (at ≤ words_before side + span connections total)
+IsSoundAt (Chunk side left) at total connections records = (0 < left) × (left ≤ at) × (at ≤ words_before side + span connections total) × (records + left ≤ total)
+IsSoundAt Ended at total connections records = at ≤ 12 + span connections total
+
+pub record IsSound (p : Position) : Type 0 where
+  pub small : p.total ≤ 1073741824
+  pub few : p.connections ≤ 65535
+  pub counted : p.records ≤ p.total
+  pub here : IsSoundAt p.spot p.at p.total p.connections p.records
+
+-- a length word of this stream, at its first byte
+abbrev pub IsBeforeStream : Side → Spot → Type 0
+IsBeforeStream side spot = (part : WordPart) × (part.count ≡ 0) × (spot ≡ Length side part)
+
+-- how many things can become whole within the limits, from here on
+abbrev pub room_here : Spot → ℕ
+room_here Magic = 0
+room_here (Mark part) = 0
+room_here (Length sides.Client part) = 2
+room_here (Length sides.Server part) = 1
+room_here (Chunk sides.Client left) = 2 + left
+room_here (Chunk sides.Server left) = 1 + left
+room_here Ended = 0
+
+abbrev pub room_of : Position → ℕ
+room_of p = 4 * (65535 - p.connections) + (1073741824 - p.total) + room_here p.spot
+
+abbrev pub cost_of : Option Event → ℕ
+cost_of None = 0
+cost_of (Some event) = 1
+
+-- some bytes of these were taken, and what became whole took its room
+pub record TakesSome (before : Position) (bytes : List ℕ) (taken : Taken) : Type 0 where
+  pub some : 0 < taken.count
+  pub within : taken.count ≤ length bytes
+  pub sound : IsSound taken.position
+  pub room : room_of taken.position + cost_of taken.event ≤ room_of before

@@ -1,0 +1,103 @@
+// The container: connections of two streams, each cut into chunks, whose records are joined.
+
+ghost use Rattle.std.specs.Prelude.{◌≡◌, ◌≤◌, ◌<◌, ◌+◌, length, IfOk};
+
+use crate::fault::{Error, Side};
+use crate::position::{Event, Position, Spot, Taken, file_fault};
+use record_mark::{JoinError, Joiner, Step};
+use std::alloc::Global;
+use xdr3::Reason;
+
+/// Takes a capture apart, from pieces cut anywhere.
+#[derive(Drop)]
+pub(crate) struct Container {
+    position: Position,
+    joiner: Joiner,
+}
+
+impl Container {
+    pub(crate) fn new(alloc: Global) -> Container {
+        Container {
+            position: Position::start(),
+            joiner: Joiner::new(alloc),
+        }
+    }
+
+    /// The body of the record that is whole.
+    pub(crate) fn body(&self) -> &[u8] {
+        self.joiner.body()
+    }
+
+    /// Makes room for the next record.
+    pub(crate) fn clear_record(&mut self) {
+        self.joiner.clear();
+    }
+
+    /// A fault of the record that is whole.
+    pub(crate) fn record_fault(&self, side: Side, byte: u32, reason: Reason) -> Error {
+        self.position.record_fault(side, byte, reason)
+    }
+
+    /// Takes bytes of `piece` until something is whole or the piece is used up, and says how many.
+    pub(crate) fn advance(&mut self, piece: &[u8]) -> Result<(usize, Option<Event>), Error>
+        ensures within { IfOk result (λ r. r.0 ≤ length piece.now) }
+    {
+        let mut taken = 0;
+        while taken < piece.len() {
+            let step = self.step(&piece[taken..])?;
+            taken += step.count;
+            self.position = step.position;
+            if step.event.is_some() {
+                return Ok((taken, step.event));
+            }
+        }
+        Ok((taken, None))
+    }
+
+    /// Tests that the file may end here.
+    pub(crate) fn end(&self) -> Result<(), Error> {
+        match self.position.spot {
+            Spot::Ended => Ok(()),
+            _ => Err(file_fault(self.position.bytes_taken(), Reason::CaptureCut)),
+        }
+    }
+
+    /// Takes the bytes of `rest` that belong to the part of the capture that is open.
+    fn step(&mut self, rest: &[u8]) -> Result<Taken, Error>
+        requires { 0 < length rest.now }
+    {
+        match self.position.spot {
+            Spot::Magic => self.position.take_magic(rest),
+            Spot::Mark(part) => self.position.take_mark(part, rest),
+            Spot::Length(side, part) => self
+                .position
+                .take_length(side, part, self.open_body(), rest),
+            Spot::Chunk(side, left) => self.join(side, left, rest),
+            Spot::Ended => Err(file_fault(self.position.at, Reason::AfterEnd)),
+        }
+    }
+
+    /// How many bytes of the body have come of a record that is open.
+    fn open_body(&self) -> Option<u32> {
+        if self.joiner.is_between() {
+            None
+        } else {
+            Some(self.joiner.body().len() as u32)
+        }
+    }
+
+    fn join(&mut self, side: Side, left: u32, rest: &[u8]) -> Result<Taken, Error> {
+        let position = self.position;
+        let piece = &rest[..rest.len().min(left as usize)];
+        match self.joiner.push(piece) {
+            Ok((count, step)) => {
+                let is_record = step == Step::Record;
+                Ok(position.take_chunk(side, left, count as u32, is_record))
+            }
+            Err(JoinError::TooLong { at }) => {
+                Err(position.next_record_fault(side, at, Reason::RecordTooLong))
+            }
+            Err(JoinError::Memory) => Err(Error::Memory),
+        }
+    }
+}

@@ -1,0 +1,21 @@
+//! Captures of NFS version 3 traffic: their container, their messages, and their first fault.
+#![tactic(auto)]
+
+mod calls;
+mod container;
+mod device;
+mod entry;
+mod fault;
+mod message;
+mod plan;
+mod position;
+mod source;
+mod whole;
+mod word_part;
+
+pub use device::DeviceFailed;
+pub use entry::{Entry, KeptCall, KeptReply};
+pub use fault::{Error, Fault, Place, Side};
+pub use message::{CallMsg, ReplyMsg};
+pub use source::{FromRead, MemSource, Source};
+pub use whole::parse;

@@ -1,0 +1,100 @@
+// Whole messages.
+
+ghost use Rattle.std.specs.Prelude.{◌≤◌, length};
+
+use crate::calls::CallList;
+use procs3::{Args, Results};
+use rpc_head::{Accept, CallHead, ProcId, ReplyHead, start};
+use std::alloc::Global;
+use xdr3::{GetError, Input, Reason, Stop, Xdr};
+
+/// A call: its xid, its head and its arguments (RFC 5531, section 9).
+#[derive(Clone, Copy)]
+pub struct CallMsg<'a> {
+    pub xid: u32,
+    pub head: CallHead<'a>,
+    pub args: Args<'a>,
+}
+
+/// A reply: its xid, its procedure, which is that of its call, its head, and its results where it is an
+/// accepted success (RFC 5531, section 9).
+#[derive(Clone, Copy)]
+pub struct ReplyMsg<'a> {
+    pub xid: u32,
+    pub id: ProcId,
+    pub head: ReplyHead<'a>,
+    pub results: Option<Results<'a>>,
+}
+
+/// Reads a body of the client stream, behind the calls of its connection that came before it.
+pub(crate) fn judge_call<'a>(
+    alloc: Global,
+    calls: &CallList,
+    body: &'a [u8],
+) -> Result<CallMsg<'a>, GetError>
+    requires { length body.now ≤ 16777216 }
+{
+    let mut input = Input::new(body);
+    let start = start(&mut input)?;
+    if start.is_reply {
+        return Err(stop(4, Reason::WrongSide));
+    }
+    let head = CallHead::get(alloc, &mut input)?;
+    let args = Args::get(alloc, head.id, &mut input)?;
+    input.end()?;
+    match calls.procedure_of(start.xid) {
+        Some(id) if id != head.id => Err(stop(0, Reason::XidConflict)),
+        _ => Ok(CallMsg {
+            xid: start.xid,
+            head,
+            args,
+        }),
+    }
+}
+
+/// Reads a body of the server stream, behind all calls of its connection.
+pub(crate) fn judge_reply<'a>(
+    alloc: Global,
+    calls: &CallList,
+    body: &'a [u8],
+) -> Result<ReplyMsg<'a>, GetError>
+    requires { length body.now ≤ 16777216 }
+{
+    let mut input = Input::new(body);
+    let start = start(&mut input)?;
+    if !start.is_reply {
+        return Err(stop(4, Reason::WrongSide));
+    }
+    let Some(id) = calls.procedure_of(start.xid) else {
+        return Err(stop(0, Reason::NoCall));
+    };
+    let head = ReplyHead::get(alloc, &mut input)?;
+    let results = results_after(alloc, id, &head, &mut input)?;
+    input.end()?;
+    Ok(ReplyMsg {
+        xid: start.xid,
+        id,
+        head,
+        results,
+    })
+}
+
+/// The results behind a reply's head: none but after an accepted success.
+fn results_after<'a>(
+    alloc: Global,
+    id: ProcId,
+    head: &ReplyHead<'a>,
+    input: &mut Input<'a>,
+) -> Result<Option<Results<'a>>, GetError> {
+    match head {
+        ReplyHead::Accepted(_, Accept::Success) => {
+            let results = Results::get(alloc, id, input)?;
+            Ok(Some(results))
+        }
+        _ => Ok(None),
+    }
+}
+
+fn stop(at: u32, reason: Reason) -> GetError {
+    GetError::Stop(Stop { at, reason })
+}

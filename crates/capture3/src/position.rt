@@ -1,0 +1,312 @@
+// Where the bytes of a capture that were taken end, and what the next ones make of it.
+
+ghost use Rattle.std.specs.Prelude.{◌≡◌, ◌≤◌, ◌<◌, ◌+◌, ◌^◌, length, IfOk, None};
+ghost use Rattle.capture3.specs.Position.{cost_of, IsBeforeStream, IsSound, room_of, TakesSome};
+
+use crate::fault::{Error, Fault, Place, Side};
+use crate::word_part::{Word, WordPart};
+use xdr3::Reason;
+
+/// The first eight bytes of a capture, `NFS3CAP1`.
+pub(crate) const MAGIC: [u8; 8] = *b"NFS3CAP1";
+
+/// The most connections of a capture.
+const MAX_CONNECTIONS: u32 = 65_535;
+
+/// The most stream bytes of a capture, all its streams together.
+const MAX_BYTES: u32 = 1_073_741_824;
+
+/// What is whole in a capture.
+#[derive(Clone, Copy, Debug, PartialEq, Eq)]
+pub(crate) enum Event {
+    /// The word 1 of a connection.
+    Begin,
+    /// A record of this side.
+    Record(Side),
+    /// The word 0 of a client stream.
+    Turn,
+    /// The word 0 of a server stream.
+    Close,
+}
+
+/// Which part of a capture is open.
+#[derive(Clone, Copy)]
+pub(crate) enum Spot {
+    Magic,
+    /// A connection word.
+    Mark(WordPart),
+    /// The length word of a chunk.
+    Length(Side, WordPart),
+    /// A chunk with so many bytes to come, at least one.
+    Chunk(Side, u32),
+    /// Nothing: the last word 0 has come.
+    Ended,
+}
+
+#[derive(Clone, Copy)]
+pub(crate) struct Position {
+    /// The file's byte at which the open word begins, or the byte behind the open chunk, or in the magic
+    /// and at the end the number of bytes taken.
+    pub(crate) at: u64,
+    /// The stream bytes of all chunks so far, the open one's included.
+    pub(crate) total: u32,
+    pub(crate) connections: u32,
+    /// The whole records of the open stream.
+    pub(crate) records: u32,
+    pub(crate) spot: Spot,
+}
+
+/// How many bytes were taken, where that leads, and what is whole with the last of them.
+#[derive(Clone, Copy)]
+pub(crate) struct Taken {
+    pub(crate) count: usize,
+    pub(crate) position: Position,
+    pub(crate) event: Option<Event>,
+}
+
+impl Position {
+    /// Before the first byte.
+    pub(crate) fn start() -> Position
+        ensures { IsSound result }
+    {
+        Position {
+            at: 0,
+            total: 0,
+            connections: 0,
+            records: 0,
+            spot: Spot::Magic,
+        }
+    }
+
+    /// How many bytes of the file were taken.
+    pub(crate) fn bytes_taken(self) -> u64
+        requires { IsSound self }
+    {
+        match self.spot {
+            Spot::Magic | Spot::Ended => self.at,
+            Spot::Mark(part) | Spot::Length(_, part) => self.at + u64::from(part.count()),
+            Spot::Chunk(_, left) => self.at - u64::from(left),
+        }
+    }
+
+    /// Takes bytes of the magic.
+    pub(crate) fn take_magic(self, rest: &[u8]) -> Result<Taken, Error>
+        requires sound { IsSound self }
+        requires here { self.spot ≡ Spot.Magic }
+        requires some { 0 < length rest.now }
+        ensures { IfOk result (TakesSome self rest.now) }
+    {
+        let due = &MAGIC[self.at as usize..];
+        let count = due.len().min(rest.len());
+        for (i, byte) in rest[..count].iter().enumerate() {
+            if *byte != due[i] {
+                return Err(file_fault(self.at + i as u64, Reason::BadMagic));
+            }
+        }
+        let spot = if count == due.len() {
+            Spot::Mark(WordPart::new())
+        } else {
+            Spot::Magic
+        };
+        let at = self.at + count as u64;
+        Ok(self.moved(count, at, spot))
+    }
+
+    /// Takes bytes of a connection word.
+    pub(crate) fn take_mark(self, part: WordPart, rest: &[u8]) -> Result<Taken, Error>
+        requires sound { IsSound self }
+        requires here { self.spot ≡ Spot.Mark part }
+        requires some { 0 < length rest.now }
+        ensures { IfOk result (TakesSome self rest.now) }
+    {
+        let (count, word) = part.taken(rest);
+        match word {
+            Word::Part(part) => Ok(self.moved(count, self.at, Spot::Mark(part))),
+            Word::Whole(0) => Ok(self.moved(count, self.at + 4, Spot::Ended)),
+            Word::Whole(1) if self.connections < MAX_CONNECTIONS => Ok(self.begun(part, count)),
+            Word::Whole(1) => Err(file_fault(self.at, Reason::TooManyConnections)),
+            Word::Whole(_) => Err(file_fault(self.at, Reason::BadMark)),
+        }
+    }
+
+    /// Takes bytes of a chunk's length word. Of a record that is open so many bytes of the body have come.
+    pub(crate) fn take_length(
+        self,
+        side: Side,
+        part: WordPart,
+        open: Option<u32>,
+        rest: &[u8],
+    ) -> Result<Taken, Error>
+        requires sound { IsSound self }
+        requires here { self.spot ≡ Spot.Length side part }
+        requires some { 0 < length rest.now }
+        ensures { IfOk result (TakesSome self rest.now) }
+    {
+        let (count, word) = part.taken(rest);
+        match word {
+            Word::Part(part) => Ok(self.moved(count, self.at, Spot::Length(side, part))),
+            Word::Whole(0) => match open {
+                None => Ok(self.stream_closed(side, part, count)),
+                Some(byte) => Err(self.next_record_fault(side, byte, Reason::RecordCut)),
+            },
+            Word::Whole(len) if len > MAX_BYTES - self.total => {
+                Err(file_fault(self.at, Reason::TooManyBytes))
+            }
+            Word::Whole(len) => Ok(self.chunk_opened(side, part, len, count)),
+        }
+    }
+
+    /// Takes so many bytes of a chunk. With the last of them a record may be whole.
+    pub(crate) fn take_chunk(self, side: Side, left: u32, count: u32, is_record: bool) -> Taken
+        requires sound { IsSound self }
+        requires here { self.spot ≡ Spot.Chunk side left }
+        requires some { 0 < count }
+        requires within { count ≤ left }
+        ensures count { result.count ≡ count }
+        ensures sound { IsSound result.position }
+        ensures room { room_of result.position + cost_of result.event ≤ room_of self }
+    {
+        let left = left - count;
+        let spot = if left == 0 {
+            Spot::Length(side, WordPart::new())
+        } else {
+            Spot::Chunk(side, left)
+        };
+        let moved = self.moved(count as usize, self.at, spot);
+        if !is_record {
+            return moved;
+        }
+        Taken {
+            position: Position {
+                records: self.records + 1,
+                ..moved.position
+            },
+            event: Some(Event::Record(side)),
+            ..moved
+        }
+    }
+
+    /// A fault of the record that became whole last.
+    pub(crate) fn record_fault(self, side: Side, byte: u32, reason: Reason) -> Error {
+        self.fault_in(side, self.records, byte, reason)
+    }
+
+    /// A fault of the record that is open.
+    pub(crate) fn next_record_fault(self, side: Side, byte: u32, reason: Reason) -> Error
+        requires { IsSound self }
+    {
+        self.fault_in(side, self.records + 1, byte, reason)
+    }
+
+    fn fault_in(self, side: Side, rec_no: u32, byte: u32, reason: Reason) -> Error {
+        Error::Refused(Fault {
+            place: Place::Record {
+                conn: self.connections,
+                side,
+                rec_no,
+                byte,
+            },
+            reason,
+        })
+    }
+
+    fn moved(self, count: usize, at: u64, spot: Spot) -> Taken
+        ensures { result ≡ record { count = count; position = record self { at = at; spot = spot }; event = None } }
+    {
+        Taken {
+            count,
+            position: Position { at, spot, ..self },
+            event: None,
+        }
+    }
+
+    /// A connection's word 1 has come.
+    fn begun(self, part: WordPart, count: usize) -> Taken
+        requires sound { IsSound self }
+        requires here { self.spot ≡ Spot.Mark part }
+        requires few { self.connections < MAX_CONNECTIONS }
+        ensures count { result.count ≡ count }
+        ensures sound { IsSound result.position }
+        ensures room { room_of result.position + 1 ≤ room_of self }
+    {
+        Taken {
+            count,
+            position: Position {
+                connections: self.connections + 1,
+                ..self.before_stream(Side::Client)
+            },
+            event: Some(Event::Begin),
+        }
+    }
+
+    /// A stream's word 0 has come, and no record is open.
+    fn stream_closed(self, side: Side, part: WordPart, count: usize) -> Taken
+        requires sound { IsSound self }
+        requires here { self.spot ≡ Spot.Length side part }
+        ensures count { result.count ≡ count }
+        ensures sound { IsSound result.position }
+        ensures room { room_of result.position + 1 ≤ room_of self }
+    {
+        match side {
+            Side::Client => Taken {
+                count,
+                position: self.before_stream(Side::Server),
+                event: Some(Event::Turn),
+            },
+            Side::Server => Taken {
+                count,
+                position: Position {
+                    at: self.at + 4,
+                    spot: Spot::Mark(WordPart::new()),
+                    ..self
+                },
+                event: Some(Event::Close),
+            },
+        }
+    }
+
+    fn before_stream(self, side: Side) -> Position
+        requires { self.at < 2 ^ 60 }
+        ensures at { result.at ≡ self.at + 4 }
+        ensures counts { (result.total ≡ self.total) × (result.connections ≡ self.connections) × (result.records ≡ 0) }
+        ensures spot { IsBeforeStream side result.spot }
+    {
+        Position {
+            at: self.at + 4,
+            records: 0,
+            spot: Spot::Length(side, WordPart::new()),
+            ..self
+        }
+    }
+
+    /// A chunk's length word has come.
+    fn chunk_opened(self, side: Side, part: WordPart, len: u32, count: usize) -> Taken
+        requires sound { IsSound self }
+        requires here { self.spot ≡ Spot.Length side part }
+        requires some { 0 < len }
+        requires fits { self.total + len ≤ MAX_BYTES }
+        ensures count { result.count ≡ count }
+        ensures sound { IsSound result.position }
+        ensures room { room_of result.position ≤ room_of self }
+        ensures event { result.event ≡ None }
+    {
+        Taken {
+            count,
+            position: Position {
+                at: self.at + 4 + u64::from(len),
+                total: self.total + len,
+                spot: Spot::Chunk(side, len),
+                ..self
+            },
+            event: None,
+        }
+    }
+}
+
+/// A fault at a byte of the file.
+pub(crate) fn file_fault(at: u64, reason: Reason) -> Error {
+    Error::Refused(Fault {
+        place: Place::File { at },
+        reason,
+    })
+}

@@ -1,0 +1,58 @@
+// Words of the container that may be cut between two pieces.
+
+ghost use Rattle.std.specs.Prelude.{◌≡◌, ◌≤◌, ◌<◌, ◌+◌, length, IsNone};
+
+use byteorder::{BigEndian, ByteOrder};
+
+/// The bytes of a word so far, fewer than four.
+#[derive(Clone, Copy)]
+pub(crate) struct WordPart {
+    bytes: [u8; 4],
+    count: u8,
+    ghost short: { count < 4 },
+}
+
+impl WordPart {
+    pub(crate) fn new() -> WordPart
+        ensures { result.count ≡ 0 }
+    {
+        WordPart {
+            bytes: [0; 4],
+            count: 0,
+        }
+    }
+
+    /// How many bytes of the word have come.
+    pub(crate) fn count(&self) -> u8
+        ensures { result ≡ self.now.count }
+    {
+        self.count
+    }
+
+    /// Takes bytes of `rest` up to the word's end: how many, and the part or the whole word that they
+    /// make.
+    pub(crate) fn taken(self, rest: &[u8]) -> (usize, Word)
+        requires { 0 < length rest.now }
+        ensures some { 0 < result.0 }
+        ensures within { result.0 ≤ length rest.now }
+    {
+        let count = self.count as usize;
+        let more = (4 - count).min(rest.len());
+        let mut bytes = self.bytes;
+        bytes[count..count + more].copy_from_slice(&rest[..more]);
+        if count + more < 4 {
+            let part = WordPart {
+                bytes,
+                count: (count + more) as u8,
+            };
+            return (more, Word::Part(part));
+        }
+        (more, Word::Whole(BigEndian::read_u32(&bytes)))
+    }
+}
+
+/// A word, or what has come of it.
+pub(crate) enum Word {
+    Part(WordPart),
+    Whole(u32),
+}

@@ -1,0 +1,22 @@
+// The command line.
+
+use crate::outcome::{Job, LineFault};
+use std::alloc::{AllocError, Global};
+
+const USAGE: &str = "usage: nfs3canon check FILE\n";
+
+/// Reads the words of a command line, the program's name first.
+pub fn job<'a>(alloc: Global, words: &'a [String]) -> Result<Job<'a>, LineFault> {
+    match words {
+        [_, command, name] if command.as_str() == "check" => Ok(Job::Check(name.as_str())),
+        _ => Err(usage(alloc)),
+    }
+}
+
+fn usage(alloc: Global) -> LineFault {
+    let text: Result<String, AllocError> = String::from_str(alloc, USAGE);
+    match text {
+        Ok(text) => LineFault::Usage(text),
+        Err(_) => LineFault::Memory,
+    }
+}

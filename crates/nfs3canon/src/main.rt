@@ -1,0 +1,62 @@
+// Checks recorded NFS version 3 traffic.
+#![tactic(auto)]
+
+mod command;
+mod outcome;
+mod printed;
+#[cfg(test)]
+mod tests;
+
+use canon3::check;
+use capture3::FromRead;
+use command::job;
+use outcome::{Job, LineFault, Outcome, Report};
+use printed::report;
+use std::alloc::AllocError;
+use std::io::Write;
+use std::process::ExitCode;
+use std::{env, fs, io};
+
+/// The status of an ending that the outside brought about: a file, a device, or memory.
+const OUTSIDE: u8 = 3;
+
+/// The words of the command line, the program's name first.
+fn words(rt: &HostRuntime) -> Result<Vec<String>, LineFault> {
+    let args = env::args(rt).map_err(|_| LineFault::Memory)?;
+    args.collect(rt.alloc()).map_err(|_| LineFault::Memory)
+}
+
+fn run(rt: &HostRuntime) -> Result<Report, AllocError> {
+    let alloc = rt.alloc();
+    let words = match words(rt) {
+        Ok(words) => words,
+        Err(fault) => return report(alloc, &Outcome::Line(fault)),
+    };
+    match job(alloc, &words) {
+        Ok(Job::Check(name)) => report(alloc, &checked(rt, name)),
+        Err(fault) => report(alloc, &Outcome::Line(fault)),
+    }
+}
+
+fn checked<'a>(rt: &HostRuntime, name: &'a str) -> Outcome<'a> {
+    match fs::open(rt, name) {
+        Ok(file) => Outcome::Counted(check(rt.alloc(), &mut FromRead::new(file))),
+        Err(_) => Outcome::Unopened(name),
+    }
+}
+
+fn print_report(rt: &HostRuntime, report: &Report) -> io::Result<()> {
+    rt.stdout().write_all(&report.out)?;
+    rt.stdout().flush()?;
+    rt.stderr().write_all(&report.err)
+}
+
+fn main(rt: HostRuntime) -> ExitCode {
+    let Ok(report) = run(&rt) else {
+        return ExitCode::from(OUTSIDE);
+    };
+    match print_report(&rt, &report) {
+        Ok(()) => ExitCode::from(report.status),
+        Err(_) => ExitCode::from(OUTSIDE),
+    }
+}
