@@ -1,6 +1,9 @@
 -- Layouts: what reading gives is so, and what is so is read.
-use Rattle.std.proofs.Common.{◌≡◌, ℕ, ◌+◌, ◌≤◌, List, [], ◌∷◌, ◌++◌, length, drop, Ok, Err, refl, sym, ap, subst, ◌∙◌, append_assoc, append-nil, arith, inl, inr}
+use Rattle.std.proofs.Common.{◌≡◌, ℕ, ◌+◌, ◌≤◌, List, [], ◌∷◌, ◌++◌, length, drop, Result, Ok, Err, refl, sym, ap, subst, ◌∙◌, append_assoc, append-nil, arith, inl, inr}
 use Rattle.std.proofs.lemmas.List.{length-append, length-drop, drop_all}
+use Rattle.xdr3.specs.declared.reason.GetError.{GetError}
+use Rattle.xdr3.specs.Gives.{Gives, IsRead}
+use Rattle.xdr3.specs.View.{View}
 use Rattle.xdr3.specs.Item.{Item, Rest, AreBytes, Spells}
 use Rattle.xdr3.specs.Shape.{Shape, Reads}
 use Rattle.xdr3.specs.Reading.{◌>>=◌, reading}
@@ -8,7 +11,7 @@ use Rattle.xdr3.specs.Layout.{Layout, exactly, rest, after, FitsLayout, ReadsLay
 use Rattle.xdr3.specs.Laws.{Decides, IsDecided, ReadsWhole}
 use Rattle.xdr3.proofs.Bytes.{AreBytes-drop, bind_ok, bind_err, pair_is, never, drop_front, front_ends}
 use Rattle.xdr3.proofs.Items.{Spells-append, Spells-split, Spells-one, Spells-single}
-use Rattle.xdr3.proofs.Decided.{both_ways, in_one_way, front_place}
+use Rattle.xdr3.proofs.Decided.{is_read, both_ways, in_one_way, front_place}
 
 -- the items stand at the front, and the rest is left
 pub record StandsFirst (layout : Layout) (bytes : List ℕ) (items : List Item) (left : List ℕ) : Type 0 where
@@ -156,3 +159,8 @@ pub layout_is_decided : (layout : Layout) (bytes : List ℕ) → AreBytes bytes 
 layout_is_decided layout bytes fits =
     in_one_way (reading_layout layout) (ReadsLayout layout) (RefusesLayout layout) bytes (layout_decides layout bytes 0 fits (omega arith))
     (λ items left r. let s = stands_first layout bytes items left r in (length s.front, front_place bytes s.front left s.whole))
+
+-- an exact answer by a layout is one that its relations allow
+pub layout_is_read : {X : Type 0} (layout : Layout) (items : X → List Item) (old new : View) (r : Result X GetError) → AreBytes old.body → old.at ≤ length old.body → Gives items r new.at (reading_layout layout old.body old.at) → IsRead (ReadsLayout layout) (RefusesLayout layout) items old r new
+layout_is_read layout items old new r fits h g =
+    is_read (reading_layout layout) (ReadsLayout layout) (RefusesLayout layout) items old new r (layout_decides layout old.body old.at fits h) g
