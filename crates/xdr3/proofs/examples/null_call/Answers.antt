@@ -1,0 +1,17 @@
+use Rattle.std.proofs.Common.{refl}
+use Rattle.xdr3.specs.Layout.{reading_layout}
+use Rattle.xdr3.specs.Reading.{reading}
+use Rattle.xdr3.specs.Shape.{optional}
+use Rattle.xdr3.proofs.examples.null_call.Goals as goal
+
+pub returns : goal.returns
+unfolding reading reading_layout optional
+returns c = record {
+  read = refl;
+  mtype = refl;
+  rpcvers = refl;
+  cred_flavor = refl;
+  cred_length = refl;
+  verf_flavor = refl;
+  one_word_more = refl;
+}

@@ -1,0 +1,12 @@
+use Rattle.std.proofs.Common.{refl}
+use Rattle.xdr3.specs.Layout.{reading_layout}
+use Rattle.xdr3.specs.Reading.{reading}
+use Rattle.xdr3.specs.Shape.{optional}
+use Rattle.xdr3.proofs.examples.other_call.Goals as goal
+
+pub returns : goal.returns
+unfolding reading reading_layout optional
+returns c = record {
+  read = refl;
+  no_arguments = refl;
+}

@@ -1,0 +1,14 @@
+use Rattle.std.proofs.Common.{refl}
+use Rattle.xdr3.specs.Layout.{reading_layout}
+use Rattle.xdr3.specs.Reading.{reading}
+use Rattle.xdr3.specs.Shape.{optional}
+use Rattle.xdr3.proofs.examples.readdirplus_reply.Goals as goal
+
+pub returns : goal.returns
+unfolding reading reading_layout optional
+returns c = record {
+  read = refl;
+  cut = (refl, (refl, tt));
+  bad_link = refl;
+  bad_eof = refl;
+}

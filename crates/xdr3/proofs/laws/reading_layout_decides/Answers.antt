@@ -1,0 +1,5 @@
+use Rattle.xdr3.proofs.Layouts.{layout_decides}
+use Rattle.xdr3.proofs.laws.reading_layout_decides.Goals as goal
+
+pub returns : goal.returns
+returns c = layout_decides
