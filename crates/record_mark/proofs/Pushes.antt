@@ -8,11 +8,11 @@ use Rattle.record_mark.specs.declared.join.JoinError.TheVariants as error
 use Rattle.record_mark.specs.Machine.{Run, Runs, Stops, Stopped, after}
 use Rattle.record_mark.specs.RecordMark.{IsRecord, IsTooLong, IsUnfinished}
 use Rattle.record_mark.specs.Joining.{Joining, Between, Joined, Whole, TooLong, join_next}
-use Rattle.record_mark.specs.Taking.{Taking, Led, OutOfMemory, HasTaken, IsWhole, IsRunning, joined_body, led_on, EndsWithin, GoesOn, PassesWithin}
+use Rattle.record_mark.specs.Taking.{Taking, Led, OutOfMemory, HasTaken, IsWhole, IsRunning, joining_of, joined_body, body_of, led_on, EndsWithin, GoesOn, PassesWithin}
 use Rattle.record_mark.proofs.Machines.{after-append, not_runs}
 use Rattle.record_mark.proofs.Joins.{record_stops, too_long_stops, joining_runs}
 use Rattle.record_mark.proofs.Endings.{stops_once}
-use Rattle.record_mark.proofs.Takings.{led_by, whole_is, whole_known, running_is, running_known, taken_further, unfinished, standing}
+use Rattle.record_mark.proofs.Takings.{led_by, whole_is, whole_known, running_is, running_known, runs_on, stops_whole, taken_further, unfinished, standing}
 
 abbrev pub ComesTo : Taking → List ℕ → ℕ → Step → Type 0
 ComesTo old piece n Record = (n ≤ length piece) × ((body : List ℕ) × (led_on old (take n piece) ≡ Led (Stops (Whole body))))
@@ -122,3 +122,14 @@ pub history : (old new : Taking) (piece : List ℕ) (result : Result (ℕ × Ste
     → (bytes : List ℕ) → HasTaken old bytes → IfOk result (λ r. HasTaken new (bytes ++ take r.0 piece))
 history old new piece (Ok r) led whole running bytes taken = stands_for old new bytes (take r.0 piece) r.1 taken led whole.0 running.0
 history old new piece (Err e) led whole running bytes taken = tt
+
+-- the clauses by the machine
+pub runs : (old new : Taking) (piece : List ℕ) (result : Result (ℕ × Step) JoinError) → IfOk result (λ r. new ≡ led_on old (take r.0 piece)) → IfOk result (λ r. r.1 ≡ More ↔ IsRunning new) → IsRunning old
+    → IfOk result (λ r. r.1 ≡ More → after join_next (Runs (joining_of old)) (take r.0 piece) ≡ Runs (joining_of new))
+runs old new piece (Ok r) led running h = λ e. runs_on old new (take r.0 piece) h led (running.0 e)
+runs old new piece (Err e) led running h = tt
+
+pub stops : (old new : Taking) (piece : List ℕ) (result : Result (ℕ × Step) JoinError) → IfOk result (λ r. new ≡ led_on old (take r.0 piece)) → IfOk result (λ r. r.1 ≡ Record ↔ IsWhole new) → IsRunning old
+    → IfOk result (λ r. r.1 ≡ Record → after join_next (Runs (joining_of old)) (take r.0 piece) ≡ Stops (Whole (body_of new)))
+stops old new piece (Ok r) led whole h = λ e. stops_whole old new (take r.0 piece) h led (whole.0 e)
+stops old new piece (Err e) led whole h = tt

@@ -4,7 +4,7 @@ use Rattle.std.proofs.Math.Seq.{take-add}
 use Rattle.record_mark.specs.Machine.{Run, Runs, Stops, Stopped, landed, after}
 use Rattle.record_mark.specs.RecordMark.{IsRecord, IsTooLong, IsUnfinished, HasBody}
 use Rattle.record_mark.specs.Joining.{Joining, Between, Header, Bytes, Joined, Whole, TooLong, join_next, HasJoined, EndsRecord}
-use Rattle.record_mark.specs.Taking.{Taking, Led, OutOfMemory, HasTaken, unbegun, IsWhole, IsRunning, joined_body, body_of, led_on}
+use Rattle.record_mark.specs.Taking.{Taking, Led, OutOfMemory, HasTaken, unbegun, IsWhole, IsRunning, joining_of, joined_body, body_of, led_on}
 use Rattle.record_mark.proofs.Machines.{Tells, after-append, not_runs}
 use Rattle.record_mark.proofs.Joins.{join_tells, record_stops, too_long_stops, joining_runs}
 
@@ -99,3 +99,26 @@ led_on-take old now next piece n m is more = more ∙ ap (λ t. led_on t (take m
 pub ran_before : (old now : Taking) (piece : List ℕ) (taken : ℕ) → now ≡ led_on old (take taken piece) → (0 < taken → IsRunning old) → IsRunning now → IsRunning old
 ran_before old now piece zero is moved runs = subst IsRunning (is ∙ led_on-nil old) runs
 ran_before old now piece (suc n) is moved runs = moved (omega arith)
+
+-- the machine by itself, for a joiner whose record is not whole
+pub runs_on : (old new : Taking) (bytes : List ℕ) → IsRunning old → new ≡ led_on old bytes → IsRunning new → after join_next (Runs (joining_of old)) bytes ≡ Runs (joining_of new)
+runs_on old new bytes h led k =
+    let before = running_is old h in
+    let behind = running_is new k in
+    let same : Led (after join_next (Runs before.0) bytes) ≡ Led (Runs behind.0) = ap (λ t. led_on t bytes) (sym before.1) ∙ sym led ∙ behind.1 in
+    ap (λ t. after join_next (Runs (joining_of t)) bytes) before.1 ∙ (cc) ∙ ap (λ t. Runs (joining_of t)) (sym behind.1)
+
+pub stops_at : (old : Taking) (end : Joined) (bytes : List ℕ) → IsRunning old → led_on old bytes ≡ Led (Stops end) → after join_next (Runs (joining_of old)) bytes ≡ Stops end
+stops_at old end bytes h led =
+    let before = running_is old h in
+    let same : Led (after join_next (Runs before.0) bytes) ≡ Led (Stops end) = ap (λ t. led_on t bytes) (sym before.1) ∙ led in
+    ap (λ t. after join_next (Runs (joining_of t)) bytes) before.1 ∙ (cc)
+
+pub stops_whole : (old new : Taking) (bytes : List ℕ) → IsRunning old → new ≡ led_on old bytes → IsWhole new → after join_next (Runs (joining_of old)) bytes ≡ Stops (Whole (body_of new))
+stops_whole old new bytes h led k =
+    let behind = whole_is new k in
+    stops_at old (Whole (body_of new)) bytes h (sym led ∙ behind.1 ∙ ap (λ t. Led (Stops (Whole (body_of t)))) (sym behind.1))
+
+-- what runs, and stands between records, has taken nothing
+pub is_between : (taking : Taking) → IsRunning taking → joining_of taking ≡ Between → taking ≡ unbegun
+is_between taking h e = let is = running_is taking h in is.1 ∙ ap (λ s. Led (Runs s)) (sym (ap joining_of is.1) ∙ e)
