@@ -1,0 +1,24 @@
+//! Laws over the definitions of record marking. They do nothing: each holds by its contract.
+
+ghost use Rattle.std.specs.Prelude.{◌≡◌, ◌↔◌, ℕ, List, ◌++◌};
+ghost use Rattle.record_mark.specs.Machine.{Next, Run, after, Runs, Stops};
+ghost use Rattle.record_mark.specs.RecordMark.{IsRecord, IsTooLong, Marks};
+ghost use Rattle.record_mark.specs.Joining.{Joining, Between, Whole, TooLong, join_next, HasJoined};
+
+/// The machine that joins fragments ends a record exactly where it is whole, refuses it exactly where
+/// it is too long, and runs exactly where one has begun (RFC 5531, section 11).
+pub fn joining()
+    ensures whole { (bytes body : List ℕ) → IsRecord bytes body ↔ (after join_next (Runs Between) bytes ≡ Stops (Whole body)) }
+    ensures long { (bytes : List ℕ) (at : ℕ) → IsTooLong bytes at ↔ (after join_next (Runs Between) bytes ≡ Stops (TooLong at)) }
+    ensures part { (bytes : List ℕ) (s : Joining) → HasJoined bytes s ↔ (after join_next (Runs Between) bytes ≡ Runs s) }
+{}
+
+/// The pieces in which the bytes come play no part, for this machine and for every other.
+pub fn pieces<S, X>()
+    ensures { (next : S → ℕ → Next S X) (run : Run S X) (front back : List ℕ) → after next run (front ++ back) ≡ after next (after next run front) back }
+{}
+
+/// A stream is records in one way at most: it has at most one list of bodies.
+pub fn one_list()
+    ensures { (stream : List ℕ) (bodies others : List (List ℕ)) → Marks stream bodies → Marks stream others → bodies ≡ others }
+{}
