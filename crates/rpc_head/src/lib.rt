@@ -6,6 +6,8 @@ mod credential;
 mod first_words;
 mod message;
 mod reply;
+#[cfg(test)]
+mod tests;
 mod word;
 
 pub use call::{CallHead, ProcId};
