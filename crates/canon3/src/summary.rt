@@ -1,6 +1,6 @@
 // Whether a capture is well formed.
 
-ghost use Rattle.std.specs.Prelude.{◌≡◌, ◌≤◌, ◌<◌, IfOk, vec_len};
+ghost use Rattle.std.specs.Prelude.{◌≡◌, ◌<◌, ◌^◌, length, IfOk, vec_len};
 
 use capture3::{Entry, Error, Source, parse};
 use std::alloc::{AllocError, Global};
@@ -53,7 +53,9 @@ fn new_block(alloc: Global) -> Result<Vec<u8>, AllocError>
     vec![in alloc; 0; BLOCK]
 }
 
-fn counted(entries: &[Entry]) -> Summary {
+fn counted(entries: &[Entry]) -> Summary
+    requires { length entries.now < 2 ^ 32 }
+{
     let mut summary = Summary {
         connections: 0,
         calls: 0,

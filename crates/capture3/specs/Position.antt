@@ -3,6 +3,7 @@ use Rattle.std.specs.Prelude.{◌≡◌, ◌≤◌, ◌<◌, ℕ, ◌+◌, ◌-�
 use Rattle.capture3.specs.declared.fault.Side.{Side}
 use Rattle.capture3.specs.declared.fault.Side.TheVariants as sides
 use Rattle.capture3.specs.declared.position.Event.{Event}
+use Rattle.capture3.specs.declared.position.Event.TheVariants.{Record}
 use Rattle.capture3.specs.declared.position.Position.{Position}
 use Rattle.capture3.specs.declared.position.Taken.{Taken}
 use Rattle.capture3.specs.declared.position.Spot.{Spot}
@@ -48,6 +49,14 @@ room_here Ended = 0
 abbrev pub room_of : Position → ℕ
 room_of p = 4 * (65535 - p.connections) + (1073741824 - p.total) + room_here p.spot
 
+-- The most that can become whole: 65,535 connections with a begin, a turn and a close each, and a record for each stream byte.
+abbrev pub most_things : ℕ
+most_things = 1074003964
+
+-- the same with the capture's end
+abbrev pub most_entries : ℕ
+most_entries = 1074003965
+
 abbrev pub cost_of : Option Event → ℕ
 cost_of None = 0
 cost_of (Some event) = 1
@@ -58,3 +67,8 @@ pub record TakesSome (before : Position) (bytes : List ℕ) (taken : Taken) : Ty
   pub within : taken.count ≤ length bytes
   pub sound : IsSound taken.position
   pub room : room_of taken.position + cost_of taken.event ≤ room_of before
+
+-- it is no record
+abbrev pub IsOfContainer : Option Event → Type 0
+IsOfContainer (Some (Record side)) = ⊥
+IsOfContainer _ = Unit {0}

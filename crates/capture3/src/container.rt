@@ -1,6 +1,10 @@
 // The container: connections of two streams, each cut into chunks, whose records are joined.
 
-ghost use Rattle.std.specs.Prelude.{◌≡◌, ◌≤◌, ◌<◌, ◌+◌, length, IfOk};
+ghost use Rattle.std.specs.Prelude.{◌≡◌, ◌≤◌, ◌<◌, ◌+◌, length, IfOk, OnOk, None};
+ghost use Rattle.capture3.specs.Container.{Leaves};
+ghost use Rattle.capture3.specs.Position.{cost_of, IsSound, most_things, room_of, TakesSome};
+ghost use Rattle.record_mark.specs.RecordMark.{max_body};
+ghost use Rattle.record_mark.specs.Taking.{IsRunning, unbegun};
 
 use crate::fault::{Error, Side};
 use crate::position::{Event, Position, Spot, Taken, file_fault};
@@ -11,12 +15,16 @@ use xdr3::Reason;
 /// Takes a capture apart, from pieces cut anywhere.
 #[derive(Drop)]
 pub(crate) struct Container {
-    position: Position,
-    joiner: Joiner,
+    pub(crate) position: Position,
+    pub(crate) joiner: Joiner,
 }
 
 impl Container {
-    pub(crate) fn new(alloc: Global) -> Container {
+    pub(crate) fn new(alloc: Global) -> Container
+        ensures sound { IsSound result.position }
+        ensures running { IsRunning result.joiner }
+        ensures room { room_of result.position ≡ most_things }
+    {
         Container {
             position: Position::start(),
             joiner: Joiner::new(alloc),
@@ -24,12 +32,17 @@ impl Container {
     }
 
     /// The body of the record that is whole.
-    pub(crate) fn body(&self) -> &[u8] {
+    pub(crate) fn body(&self) -> &[u8]
+        ensures { length result.now ≤ max_body }
+    {
         self.joiner.body()
     }
 
     /// Makes room for the next record.
-    pub(crate) fn clear_record(&mut self) {
+    pub(crate) fn clear_record(&mut self)
+        ensures joiner { self.new.joiner ≡ unbegun }
+        ensures position { self.new.position ≡ self.old.position }
+    {
         self.joiner.clear();
     }
 
@@ -40,7 +53,14 @@ impl Container {
 
     /// Takes bytes of `piece` until something is whole or the piece is used up, and says how many.
     pub(crate) fn advance(&mut self, piece: &[u8]) -> Result<(usize, Option<Event>), Error>
+        requires sound { IsSound self.old.position }
+        requires running { IsRunning self.old.joiner }
         ensures within { IfOk result (λ r. r.0 ≤ length piece.now) }
+        ensures sound { OnOk result (IsSound self.new.position) }
+        ensures some { IfOk result (λ r. 0 < length piece.now → 0 < r.0) }
+        ensures more { IfOk result (λ r. r.1 ≡ None → r.0 ≡ length piece.now) }
+        ensures joiner { IfOk result (λ r. Leaves r.1 self.new.joiner) }
+        ensures room { IfOk result (λ r. room_of self.new.position + cost_of r.1 ≤ room_of self.old.position) }
     {
         let mut taken = 0;
         while taken < piece.len() {
@@ -55,23 +75,31 @@ impl Container {
     }
 
     /// Tests that the file may end here.
-    pub(crate) fn end(&self) -> Result<(), Error> {
+    pub(crate) fn end(&self) -> Result<(), Error>
+        requires { IsSound self.now.position }
+    {
         match self.position.spot {
             Spot::Ended => Ok(()),
             _ => Err(file_fault(self.position.bytes_taken(), Reason::CaptureCut)),
         }
     }
 
-    /// Takes the bytes of `rest` that belong to the part of the capture that is open.
+    /// Takes the bytes of `rest` that belong to the part of the capture that is open. The position stays.
     fn step(&mut self, rest: &[u8]) -> Result<Taken, Error>
-        requires { 0 < length rest.now }
+        requires some { 0 < length rest.now }
+        requires sound { IsSound self.old.position }
+        requires running { IsRunning self.old.joiner }
+        ensures taken { IfOk result (TakesSome self.old.position rest.now) }
+        ensures joiner { IfOk result (λ taken. Leaves taken.event self.new.joiner) }
+        ensures position { self.new.position ≡ self.old.position }
     {
         match self.position.spot {
             Spot::Magic => self.position.take_magic(rest),
             Spot::Mark(part) => self.position.take_mark(part, rest),
-            Spot::Length(side, part) => self
-                .position
-                .take_length(side, part, self.open_body(), rest),
+            Spot::Length(side, part) => {
+                self.position
+                    .take_length(side, part, self.open_body(), rest)
+            }
             Spot::Chunk(side, left) => self.join(side, left, rest),
             Spot::Ended => Err(file_fault(self.position.at, Reason::AfterEnd)),
         }
@@ -86,7 +114,16 @@ impl Container {
         }
     }
 
-    fn join(&mut self, side: Side, left: u32, rest: &[u8]) -> Result<Taken, Error> {
+    /// Takes bytes of a chunk. The position stays.
+    fn join(&mut self, side: Side, left: u32, rest: &[u8]) -> Result<Taken, Error>
+        requires some { 0 < length rest.now }
+        requires sound { IsSound self.old.position }
+        requires running { IsRunning self.old.joiner }
+        requires here { self.old.position.spot ≡ Spot.Chunk side left }
+        ensures taken { IfOk result (TakesSome self.old.position rest.now) }
+        ensures joiner { IfOk result (λ taken. Leaves taken.event self.new.joiner) }
+        ensures position { self.new.position ≡ self.old.position }
+    {
         let position = self.position;
         let piece = &rest[..rest.len().min(left as usize)];
         match self.joiner.push(piece) {

@@ -1,7 +1,7 @@
 // Where the bytes of a capture that were taken end, and what the next ones make of it.
 
-ghost use Rattle.std.specs.Prelude.{◌≡◌, ◌≤◌, ◌<◌, ◌+◌, ◌^◌, length, IfOk, None};
-ghost use Rattle.capture3.specs.Position.{cost_of, IsBeforeStream, IsSound, room_of, TakesSome};
+ghost use Rattle.std.specs.Prelude.{◌≡◌, ◌≤◌, ◌<◌, ◌+◌, ◌^◌, length, IfOk, None, Some, if◌then◌else◌};
+ghost use Rattle.capture3.specs.Position.{cost_of, IsBeforeStream, IsOfContainer, IsSound, most_things, room_of, TakesSome};
 
 use crate::fault::{Error, Fault, Place, Side};
 use crate::word_part::{Word, WordPart};
@@ -67,7 +67,8 @@ pub(crate) struct Taken {
 impl Position {
     /// Before the first byte.
     pub(crate) fn start() -> Position
-        ensures { IsSound result }
+        ensures sound { IsSound result }
+        ensures room { room_of result ≡ most_things }
     {
         Position {
             at: 0,
@@ -94,7 +95,8 @@ impl Position {
         requires sound { IsSound self }
         requires here { self.spot ≡ Spot.Magic }
         requires some { 0 < length rest.now }
-        ensures { IfOk result (TakesSome self rest.now) }
+        ensures taken { IfOk result (TakesSome self rest.now) }
+        ensures event { IfOk result (λ taken. taken.event ≡ None) }
     {
         let due = &MAGIC[self.at as usize..];
         let count = due.len().min(rest.len());
@@ -117,7 +119,8 @@ impl Position {
         requires sound { IsSound self }
         requires here { self.spot ≡ Spot.Mark part }
         requires some { 0 < length rest.now }
-        ensures { IfOk result (TakesSome self rest.now) }
+        ensures taken { IfOk result (TakesSome self rest.now) }
+        ensures event { IfOk result (λ taken. IsOfContainer taken.event) }
     {
         let (count, word) = part.taken(rest);
         match word {
@@ -140,7 +143,8 @@ impl Position {
         requires sound { IsSound self }
         requires here { self.spot ≡ Spot.Length side part }
         requires some { 0 < length rest.now }
-        ensures { IfOk result (TakesSome self rest.now) }
+        ensures taken { IfOk result (TakesSome self rest.now) }
+        ensures event { IfOk result (λ taken. IsOfContainer taken.event) }
     {
         let (count, word) = part.taken(rest);
         match word {
@@ -165,6 +169,7 @@ impl Position {
         ensures count { result.count ≡ count }
         ensures sound { IsSound result.position }
         ensures room { room_of result.position + cost_of result.event ≤ room_of self }
+        ensures event { result.event ≡ (if is_record then Some (Event.Record side) else None) }
     {
         let left = left - count;
         let spot = if left == 0 {
@@ -228,6 +233,7 @@ impl Position {
         ensures count { result.count ≡ count }
         ensures sound { IsSound result.position }
         ensures room { room_of result.position + 1 ≤ room_of self }
+        ensures event { IsOfContainer result.event × (cost_of result.event ≡ 1) }
     {
         Taken {
             count,
@@ -246,6 +252,7 @@ impl Position {
         ensures count { result.count ≡ count }
         ensures sound { IsSound result.position }
         ensures room { room_of result.position + 1 ≤ room_of self }
+        ensures event { IsOfContainer result.event × (cost_of result.event ≡ 1) }
     {
         match side {
             Side::Client => Taken {

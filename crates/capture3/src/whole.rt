@@ -1,6 +1,9 @@
 // A whole capture in memory.
 
-ghost use Rattle.std.specs.Prelude.{◌≤◌, IfOk, vec_len};
+ghost use Rattle.std.specs.Prelude.{◌≡◌, ◌≤◌, IfOk, OnOk, Some, vec_len};
+ghost use Rattle.capture3.specs.Container.{Leaves};
+ghost use Rattle.capture3.specs.Position.{IsSound, most_entries, most_things, room_of};
+ghost use Rattle.record_mark.specs.Taking.{IsRunning};
 
 use crate::calls::CallList;
 use crate::container::Container;
@@ -12,7 +15,9 @@ use std::alloc::{AllocError, AllocFailed, Global};
 use xdr3::GetError;
 
 /// The entries of a capture, or its first fault. It never answers `Read` or `Write`.
-pub fn parse(alloc: Global, bytes: &[u8]) -> Result<Vec<Entry>, Error> {
+pub fn parse(alloc: Global, bytes: &[u8]) -> Result<Vec<Entry>, Error>
+    ensures few { IfOk result (λ entries. vec_len entries ≤ most_entries) }
+{
     let mut capture = Capture::new(alloc);
     let mut entries = Vec::new(alloc);
     let mut taken = 0;
@@ -37,7 +42,11 @@ struct Capture {
 }
 
 impl Capture {
-    fn new(alloc: Global) -> Capture {
+    fn new(alloc: Global) -> Capture
+        ensures sound { IsSound result.container.position }
+        ensures running { IsRunning result.container.joiner }
+        ensures room { room_of result.container.position ≤ most_things }
+    {
         Capture {
             container: Container::new(alloc),
             calls: CallList::new(alloc),
@@ -45,7 +54,11 @@ impl Capture {
     }
 
     /// The entry that is whole.
-    fn entry(&mut self, alloc: Global, event: Event) -> Result<Entry, Error> {
+    fn entry(&mut self, alloc: Global, event: Event) -> Result<Entry, Error>
+        requires { Leaves (Some event) self.old.container.joiner }
+        ensures running { OnOk result (IsRunning self.new.container.joiner) }
+        ensures position { self.new.container.position ≡ self.old.container.position }
+    {
         match event {
             Event::Begin => {
                 self.calls.clear();
@@ -59,7 +72,10 @@ impl Capture {
     }
 
     /// The call that is whole, which joins the calls of its connection.
-    fn call(&mut self, alloc: Global) -> Result<KeptCall, Error> {
+    fn call(&mut self, alloc: Global) -> Result<KeptCall, Error>
+        ensures running { OnOk result (IsRunning self.new.container.joiner) }
+        ensures position { self.new.container.position ≡ self.old.container.position }
+    {
         let body = self.container.body();
         let (xid, id) = match judge_call(alloc, &self.calls, body) {
             Ok(call) => (call.xid, call.head.id),
@@ -72,7 +88,10 @@ impl Capture {
     }
 
     /// The reply that is whole.
-    fn reply(&mut self, alloc: Global) -> Result<KeptReply, Error> {
+    fn reply(&mut self, alloc: Global) -> Result<KeptReply, Error>
+        ensures running { OnOk result (IsRunning self.new.container.joiner) }
+        ensures position { self.new.container.position ≡ self.old.container.position }
+    {
         let body = self.container.body();
         let id = match judge_reply(alloc, &self.calls, body) {
             Ok(reply) => reply.id,

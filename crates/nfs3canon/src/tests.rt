@@ -11,7 +11,7 @@ use crate::printed::report;
 use build::{append_hex, append_word, capture_of, capture_of_hex};
 use canon3::check;
 use capture3::{Error, Fault, MemSource, Place};
-use rows::ROWS;
+use rows::{CREDENTIALS, HEADS, PAIRING};
 use std::alloc::Global;
 use std::process::Abort;
 use std::test::Fail;
@@ -28,16 +28,33 @@ fn printed(alloc: Global, file: &[u8], block: usize) -> Result<String, Fail>
     Ok(text)
 }
 
-#[test]
-fn captures_of_one_connection(rt: HostRuntime) -> Result<(), Fail> {
-    for row in &ROWS {
-        let file = capture_of(rt.alloc(), row.calls, row.replies)?;
-        let text = printed(rt.alloc(), &file, 65_536)?;
-        assert_eq!(rt; text.as_str(), row.line, "{}", row.name);
-        let text = printed(rt.alloc(), &file, 1)?;
-        assert_eq!(rt; text.as_str(), row.line, "{} byte by byte", row.name);
+/// Each text's capture has its line, read whole or byte by byte.
+fn each_has_its_line(rt: &impl Abort, alloc: Global, rows: &[(&str, &str)]) -> Result<(), Fail> {
+    for (text, line) in rows {
+        let file = capture_of(alloc, text)?;
+        assert_eq!(rt; printed(alloc, &file, 65_536)?.as_str(), *line, "{text}");
+        assert_eq!(rt;
+            printed(alloc, &file, 1)?.as_str(),
+            *line,
+            "{text}, byte by byte"
+        );
     }
     Ok(())
+}
+
+#[test]
+fn heads(rt: HostRuntime) -> Result<(), Fail> {
+    each_has_its_line(&rt, rt.alloc(), &HEADS)
+}
+
+#[test]
+fn credentials(rt: HostRuntime) -> Result<(), Fail> {
+    each_has_its_line(&rt, rt.alloc(), &CREDENTIALS)
+}
+
+#[test]
+fn pairing(rt: HostRuntime) -> Result<(), Fail> {
+    each_has_its_line(&rt, rt.alloc(), &PAIRING)
 }
 
 /// Whole files in hexadecimal. `MAGIC` stands for the eight bytes `NFS3CAP1`.
@@ -118,9 +135,7 @@ fn files_byte_for_byte(rt: HostRuntime) -> Result<(), Fail> {
     Ok(())
 }
 
-const NULL_CALL: &str = "deadbeef CALL NFS 00000000 NONE NONE";
-
-const NULL_REPLY: &str = "deadbeef SUCCESS";
+const NULL: &str = "> deadbeef CALL NFS 00000000 NONE NONE < deadbeef SUCCESS";
 
 /// The NULL call in four fragments, one of them empty, and every chunk one byte long.
 #[test]
@@ -148,19 +163,17 @@ fn fragments_in_chunks_of_a_byte(rt: HostRuntime) -> Result<(), Fail> {
     Ok(())
 }
 
-const GETATTR_CALL: &str = "00000007 CALL NFS 00000001 NONE NONE 00000005 61626364 65ffffff";
-
-const GETATTR_REPLY: &str =
-    "00000007 SUCCESS 00000000 00000002 000001ed 00000002 00000000 00000000 00000000 00001000 00000000 00001000 00000000 00000000 00000000 00000001 00000000 00000002 00000001 00000000 00000001 00000000 00000001 00000000";
+const GETATTR: &str =
+    "> 00000007 CALL NFS 00000001 NONE NONE 00000005 61626364 65ffffff < 00000007 SUCCESS 00000000 00000002 000001ed 00000002 00000000 00000000 00000000 00001000 00000000 00001000 00000000 00000000 00000000 00000001 00000000 00000002 00000001 00000000 00000001 00000000 00000001 00000000";
 
 /// Every prefix of a well-formed capture is cut at its own length.
 #[test]
 fn prefixes_are_cut_short(rt: HostRuntime) -> Result<(), Fail> {
     let alloc = rt.alloc();
-    let null = capture_of(alloc, &[NULL_CALL], &[NULL_REPLY])?;
+    let null = capture_of(alloc, NULL)?;
     assert_eq!(rt; null.len(), 104);
     each_prefix_is_cut(&rt, alloc, &null);
-    let getattr = capture_of(alloc, &[GETATTR_CALL], &[GETATTR_REPLY])?;
+    let getattr = capture_of(alloc, GETATTR)?;
     assert_eq!(rt; getattr.len(), 204);
     each_prefix_is_cut(&rt, alloc, &getattr);
     Ok(())
@@ -180,12 +193,14 @@ fn cut_at(at: u64) -> Error {
     })
 }
 
+const MTYPE_2: &str =
+    "> 00000007 00000002 00000002 NFS 00000001 NONE NONE 00000005 61626364 65ffffff < 00000007 SUCCESS 00000000 00000002 000001ed 00000002 00000000 00000000 00000000 00001000 00000000 00001000 00000000 00000000 00000000 00000001 00000000 00000002 00000001 00000000 00000001 00000000 00000001 00000000";
+
 /// A bad mtype is known at its record's last byte, byte 72 of the file, and not before.
 #[test]
 fn a_fault_is_known_at_the_records_end(rt: HostRuntime) -> Result<(), Fail> {
     let alloc = rt.alloc();
-    let call = "00000007 00000002 00000002 NFS 00000001 NONE NONE 00000005 61626364 65ffffff";
-    let file = capture_of(alloc, &[call], &[GETATTR_REPLY])?;
+    let file = capture_of(alloc, MTYPE_2)?;
     let fault = "connection 1 client record 1 byte 4: BadEnum\n";
     for n in 0..=file.len() {
         if n < 72 {
@@ -224,7 +239,7 @@ fn the_most_connections(rt: HostRuntime) -> Result<(), Fail> {
 #[test]
 fn reads_that_fail(rt: HostRuntime) -> Result<(), Fail> {
     let alloc = rt.alloc();
-    let file = capture_of(alloc, &[NULL_CALL], &[NULL_REPLY])?;
+    let file = capture_of(alloc, NULL)?;
     for k in 1..=105 {
         let answer = check(alloc, &mut MemSource::new(&file, 1, k));
         assert_eq!(rt; answer, Err(Error::Read));

@@ -1,6 +1,7 @@
 // Captures from text.
 
 use std::alloc::Global;
+use std::str::Split;
 use std::test::Fail;
 
 /// Appends bytes that are written in hexadecimal, with words that stand for others.
@@ -32,25 +33,37 @@ pub(crate) fn capture_of_hex(alloc: Global, text: &str) -> Result<Vec<u8>, Fail>
     Ok(file)
 }
 
-/// A capture of one connection, with a chunk and a fragment for each record.
-pub(crate) fn capture_of(alloc: Global, calls: &[&str], replies: &[&str]) -> Result<Vec<u8>, Fail> {
+/// A capture of one connection, with a chunk and a fragment for each record. Behind each `>` stands a
+/// body of the client stream, behind each `<` one of the server stream.
+pub(crate) fn capture_of(alloc: Global, text: &str) -> Result<Vec<u8>, Fail> {
+    let (calls, replies) = match text.find('<') {
+        Some(i) => text.split_at(i),
+        None => (text, ""),
+    };
     let mut file = capture_of_hex(alloc, "MAGIC 00000001")?;
-    append_stream(alloc, &mut file, calls)?;
-    append_stream(alloc, &mut file, replies)?;
+    append_stream(alloc, &mut file, calls.split('>'))?;
+    append_stream(alloc, &mut file, replies.split('<'))?;
     append_word(&mut file, 0)?;
     Ok(file)
 }
 
-fn append_stream(alloc: Global, file: &mut Vec<u8>, bodies: &[&str]) -> Result<(), Fail> {
-    for text in bodies {
-        let body = capture_of_hex(alloc, text)?;
-        let Ok(len) = u32::try_from(body.len()) else {
-            return Err(Fail::from("a long body"));
-        };
-        append_word(file, len.wrapping_add(4))?;
-        append_word(file, len.wrapping_add(0x8000_0000))?;
-        file.extend_from_slice(&body)?;
+fn append_stream<'a>(
+    alloc: Global,
+    file: &mut Vec<u8>,
+    bodies: Split<'a, char>,
+) -> Result<(), Fail> {
+    for text in bodies.skip(1) {
+        append_record(file, &capture_of_hex(alloc, text)?)?;
     }
-    append_word(file, 0)?;
+    append_word(file, 0)
+}
+
+fn append_record(file: &mut Vec<u8>, body: &[u8]) -> Result<(), Fail> {
+    let Ok(len) = u32::try_from(body.len()) else {
+        return Err(Fail::from("a long body"));
+    };
+    append_word(file, len.wrapping_add(4))?;
+    append_word(file, len.wrapping_add(0x8000_0000))?;
+    file.extend_from_slice(body)?;
     Ok(())
 }
