@@ -2,3 +2,4 @@ pub mod Device
 pub mod Memory
 pub mod Position
 pub mod Container
+pub mod Entry
