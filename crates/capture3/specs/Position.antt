@@ -1,5 +1,12 @@
 -- What a position in a capture keeps: its counts are within the limits, and it stands no further than they allow.
-use Rattle.std.specs.Prelude.{◌≡◌, ◌≤◌, ◌<◌, ℕ, ◌+◌, ◌-◌, ◌*◌, Option, Some, None, List, length}
+use Rattle.std.specs.Prelude.{◌≡◌, ◌≤◌, ◌<◌, ℕ, ◌+◌, ◌-◌, ◌*◌, Option, Some, None, Result, Ok, Err, List, [], length, take, drop}
+use Rattle.record_mark.specs.Machine.{Run, Runs, Stops, after}
+use Rattle.record_mark.specs.Joining.{Joining}
+use Rattle.capture3.specs.Unpacking.{Unpacking, Unpacked, Opened, Has, Refuses, left_of_magic, awaiting, unpack_next}
+use Rattle.capture3.specs.Unpacking as unpacking
+use Rattle.capture3.specs.declared.position.TheConstants.{MAGIC}
+use Rattle.capture3.specs.declared.fault.Error.{Error}
+use Rattle.capture3.specs.declared.fault.Error.TheVariants.{Refused}
 use Rattle.capture3.specs.declared.fault.Side.{Side}
 use Rattle.capture3.specs.declared.fault.Side.TheVariants as sides
 use Rattle.capture3.specs.declared.position.Event.{Event}
@@ -31,6 +38,36 @@ pub record IsSound (p : Position) : Type 0 where
   pub few : p.connections ≤ 65535
   pub counted : p.records ≤ p.total
   pub here : IsSoundAt p.spot p.at p.total p.connections p.records
+
+-- the bytes of a word so far
+abbrev pub bytes_so_far : WordPart → List ℕ
+bytes_so_far part = take part.count part.bytes
+
+abbrev pub opened_at : Spot → ℕ → Opened
+opened_at Magic at = left_of_magic (drop at MAGIC)
+opened_at (Mark part) at = unpacking.Mark (bytes_so_far part)
+opened_at (Length side part) at = unpacking.Length side (bytes_so_far part)
+opened_at (Chunk side left) at = awaiting side left
+opened_at Ended at = unpacking.Ended
+
+-- the position and the open record, as the machine has them
+abbrev pub unpacking_at : Position → Joining → Unpacking
+unpacking_at p joining = record { at = p.at; total = p.total; connections = p.connections; records = p.records; opened = opened_at p.spot p.at; joining = joining }
+
+-- some of the bytes lead the machine to the fault
+abbrev pub ShowsFault : Unpacking → List ℕ → Error → Type 0
+ShowsFault from bytes (Refused fault) = (n : ℕ) × (n ≤ length bytes) × (after unpack_next (Runs from) (take n bytes) ≡ Stops (Refuses fault))
+ShowsFault from bytes _ = ⊥
+
+-- where the machine is with the last byte taken: it goes on, or something is whole
+abbrev pub landed_at : Option Event → Unpacking → Run Unpacking Unpacked
+landed_at None u = Runs u
+landed_at (Some event) u = Stops (Has event [] u)
+
+-- The bytes taken lead the machine there, or some of the bytes lead it to the fault. The open record stays.
+abbrev pub Moves : Unpacking → List ℕ → Joining → Result Taken Error → Type 0
+Moves from bytes joining (Ok taken) = after unpack_next (Runs from) (take taken.count bytes) ≡ landed_at taken.event (unpacking_at taken.position joining)
+Moves from bytes joining (Err error) = ShowsFault from bytes error
 
 -- a length word of this stream, at its first byte
 abbrev pub IsBeforeStream : Side → Spot → Type 0
