@@ -30,12 +30,6 @@ abbrev pub IsRunning : Taking → Type 0
 IsRunning (Led (Runs s)) = Unit {0}
 IsRunning _ = ⊥
 
--- a fault was met, which stays until the start of the next record
-abbrev pub IsFault : Taking → Type 0
-IsFault (Led (Stops (TooLong at))) = Unit {0}
-IsFault OutOfMemory = Unit {0}
-IsFault _ = ⊥
-
 -- where the machine stands that runs
 abbrev pub joining_of : Taking → Joining
 joining_of (Led (Runs s)) = s
