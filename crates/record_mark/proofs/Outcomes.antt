@@ -1,10 +1,10 @@
 -- What bytes are, they are alone; and what is unfinished is a front of what ends.
-use Rattle.std.proofs.Common.{◌≡◌, inl, inr, ℕ, zero, suc, ◌+◌, List, [], ◌∷◌, ◌++◌, length, refl, sym, ap, ◌∙◌, append_assoc, Bool, true, false, cond, nat_lt}
-use Rattle.record_mark.specs.Machine.{Next, Goes, Ends, Run, Runs, Stops, Stopped, landed, after}
+use Rattle.std.proofs.Common.{◌≡◌, inl, inr, ℕ, zero, suc, ◌+◌, List, [], ◌∷◌, ◌++◌, length, refl, sym, ap, ◌∙◌, Bool, true, false, cond, nat_lt}
+use Rattle.record_mark.specs.Machine.{Ends, Run, Runs, Stops, landed, after}
 use Rattle.record_mark.specs.Word.{number}
 use Rattle.record_mark.specs.RecordMark.{max_body, is_last, length_of, IsRecord, IsTooLong, IsUnfinished, HasBody}
-use Rattle.record_mark.specs.Joining.{Joining, Between, Header, Bytes, Joined, Whole, TooLong, ended, expecting, headed, join_next, EndsRecord}
-use Rattle.record_mark.specs.Taking.{Led, joined_body}
+use Rattle.record_mark.specs.Joining.{Joining, Between, Header, Bytes, Joined, Whole, TooLong, expecting, headed, join_next, EndsRecord}
+use Rattle.record_mark.specs.Taking.{joined_body}
 use Rattle.record_mark.proofs.Machines.{after-append, ran_before}
 use Rattle.record_mark.proofs.Joins.{record_stops, too_long_stops, joining_runs, header_runs}
 use Rattle.record_mark.proofs.Takings.{standing, unfinished, led_by, taken_by}

@@ -1,11 +1,9 @@
 -- The stages of a joiner, as what it has taken.
-use Rattle.std.proofs.Common.{◌≡◌, inl, inr, ℕ, zero, suc, List, [], ◌∷◌, length, refl, sym, ap, subst, ◌∙◌, arith, Bool, true, false}
+use Rattle.std.proofs.Common.{◌≡◌, ℕ, zero, suc, List, [], refl, sym, ap, subst, ◌∙◌, arith}
 use Rattle.record_mark.specs.declared.join.Stage.{Stage}
 use Rattle.record_mark.specs.declared.join.Stage.TheVariants.{Unbegun, Header, Fragment, Done, Refused, Starved}
-use Rattle.record_mark.specs.Machine.{Run, Runs, after}
 use Rattle.record_mark.specs.RecordMark.{HasBody}
-use Rattle.record_mark.specs.Joining.{Joining, Between, Joined, join_next}
-use Rattle.record_mark.specs.Taking.{Taking, Led, OutOfMemory, HasTaken, IsRunning, unbegun, body_of}
+use Rattle.record_mark.specs.Taking.{Taking, Led, OutOfMemory, HasTaken, IsRunning, unbegun}
 use Rattle.record_mark.specs.Stage.{taking_at, IsSoundAt, IsOpenAt}
 use Rattle.record_mark.proofs.Takings.{led_by, has_body}
 use Rattle.record_mark.proofs.Outcomes.{too_long_alone}

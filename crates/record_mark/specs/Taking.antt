@@ -2,7 +2,7 @@
 use Rattle.std.specs.Prelude.{◌≡◌, ◌≤◌, ℕ, List, [], ◌++◌, length, take}
 use Rattle.record_mark.specs.Machine.{Run, Runs, Stops, Stopped, after}
 use Rattle.record_mark.specs.RecordMark.{IsRecord, IsTooLong, IsUnfinished}
-use Rattle.record_mark.specs.Joining.{Joining, Between, Header, Bytes, Joined, Whole, TooLong, join_next, HasJoined, EndsRecord}
+use Rattle.record_mark.specs.Joining.{Joining, Between, Header, Bytes, Joined, Whole, join_next, HasJoined, EndsRecord}
 
 -- the bytes taken have led the machine here; or memory ran out, so that some of them are lost
 pub data Taking : Type 0 where
