@@ -1,9 +1,8 @@
 -- A machine ends once, so that a stream has one list of bodies.
-use Rattle.std.proofs.Common.{◌≡◌, ℕ, List, [], ◌∷◌, ◌++◌, length, refl, sym, ap, ap₂, subst, ◌∙◌, arith, length-append}
-use Rattle.record_mark.specs.Machine.{Next, Run, Runs, Stops, Stopped, step, after}
-use Rattle.record_mark.specs.Word.{Joins}
+use Rattle.std.proofs.Common.{◌≡◌, ℕ, List, [], ◌∷◌, ◌++◌, refl, sym, ap, ap₂, subst, ◌∙◌}
+use Rattle.record_mark.specs.Machine.{Next, Run, Runs, Stops, step, after}
 use Rattle.record_mark.specs.RecordMark.{IsRecord, Marks}
-use Rattle.record_mark.specs.Joining.{Between, Joined, Whole, join_next}
+use Rattle.record_mark.specs.Joining.{Between, Whole, join_next}
 use Rattle.record_mark.proofs.Machines.{after_stopped}
 use Rattle.record_mark.proofs.Joins.{record_stops}
 

@@ -1,12 +1,11 @@
 -- What a push comes to, by where the machine stands: it is one answer.
-use Rattle.std.proofs.Common.{◌≡◌, ◌≢◌, ◌↔◌, inl, inr, ℕ, zero, suc, ◌<◌, ◌≤◌, List, [], ◌∷◌, ◌++◌, length, take, drop, refl, sym, ap, ap₂, subst, ◌∙◌, arith, Result, Ok, Err, IfOk, length-take}
+use Rattle.std.proofs.Common.{◌≡◌, ◌≢◌, ◌↔◌, ℕ, ◌≤◌, List, ◌++◌, length, take, drop, refl, sym, ap, ap₂, subst, ◌∙◌, arith, Result, Ok, Err, IfOk, length-take}
 use Rattle.std.proofs.lemmas.List.{take-append-drop, take_all}
 use Rattle.record_mark.specs.declared.join.Step.{Step}
 use Rattle.record_mark.specs.declared.join.Step.TheVariants.{Record, More}
 use Rattle.record_mark.specs.declared.join.JoinError.{JoinError}
 use Rattle.record_mark.specs.declared.join.JoinError.TheVariants as error
-use Rattle.record_mark.specs.Machine.{Run, Runs, Stops, Stopped, after}
-use Rattle.record_mark.specs.RecordMark.{IsRecord, IsTooLong, IsUnfinished}
+use Rattle.record_mark.specs.Machine.{Run, Runs, Stops, after}
 use Rattle.record_mark.specs.Joining.{Joining, Between, Joined, Whole, TooLong, join_next}
 use Rattle.record_mark.specs.Taking.{Taking, Led, OutOfMemory, HasTaken, IsWhole, IsRunning, joining_of, joined_body, body_of, led_on, EndsWithin, GoesOn, PassesWithin}
 use Rattle.record_mark.proofs.Machines.{after-append, not_runs}

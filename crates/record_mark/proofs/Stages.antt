@@ -1,14 +1,12 @@
 -- The stages of a joiner, as what it has taken.
-use Rattle.std.proofs.Common.{◌≡◌, inl, inr, ℕ, zero, suc, List, [], ◌∷◌, length, refl, sym, ap, subst, ◌∙◌, arith, Bool, true, false}
+use Rattle.std.proofs.Common.{◌≡◌, ℕ, zero, suc, List, [], refl, sym, ap, subst, ◌∙◌, arith}
 use Rattle.record_mark.specs.declared.join.Stage.{Stage}
 use Rattle.record_mark.specs.declared.join.Stage.TheVariants.{Unbegun, Header, Fragment, Done, Refused, Starved}
-use Rattle.record_mark.specs.Machine.{Run, Runs, after}
-use Rattle.record_mark.specs.RecordMark.{HasBody, IsTooLong}
-use Rattle.record_mark.specs.Joining.{Joining, Between, Joined, join_next}
-use Rattle.record_mark.specs.Taking.{Taking, Led, OutOfMemory, HasTaken, IsRunning, unbegun, body_of}
+use Rattle.record_mark.specs.RecordMark.{HasBody}
+use Rattle.record_mark.specs.Taking.{Taking, Led, OutOfMemory, HasTaken, IsRunning, unbegun}
 use Rattle.record_mark.specs.Stage.{taking_at, IsSoundAt, IsOpenAt}
-use Rattle.record_mark.proofs.Takings.{led_by, has_body, standing}
-use Rattle.record_mark.proofs.Joins.{record_stops, too_long_stops, joining_runs}
+use Rattle.record_mark.proofs.Takings.{led_by, has_body}
+use Rattle.record_mark.proofs.Outcomes.{too_long_alone}
 
 -- a joiner that has taken nothing is at its first stage
 pub is_unbegun : (stage : Stage) (body : List ℕ) → IsSoundAt stage body → taking_at stage body ≡ unbegun → stage ≡ Unbegun
@@ -27,10 +25,6 @@ took_nothing OutOfMemory h = absurd h
 pub has_taken_nothing : (taking : Taking) (bytes : List ℕ) → HasTaken taking bytes → bytes ≡ [] → taking ≡ unbegun
 has_taken_nothing taking bytes h none = took_nothing taking (subst (HasTaken taking) none h)
 
-not_whole_too_long : (bytes body : List ℕ) (at : ℕ) → HasBody bytes body → IsTooLong bytes at → ⊥
-not_whole_too_long bytes body at (inl k) h = let e = sym (too_long_stops bytes at h) ∙ record_stops bytes body k in cc
-not_whole_too_long bytes body at (inr k) h = let is = standing bytes body k in let e = sym (too_long_stops bytes at h) ∙ joining_runs bytes is.joining is.joined in cc
-
 -- what a joiner holds as the body is the body of the bytes that it has taken
 pub stage_body : (stage : Stage) (held bytes body : List ℕ) → IsSoundAt stage held → HasTaken (taking_at stage held) bytes → HasBody bytes body → held ≡ body
 stage_body Unbegun held bytes body sound h k = sound ∙ has_body unbegun bytes body h k
@@ -38,7 +32,7 @@ stage_body (Header part count) held bytes body sound h k = has_body (taking_at (
 stage_body (Fragment zero is_last) held bytes body sound h k = absurd (omega (arith, sound.0))
 stage_body (Fragment (suc left) is_last) held bytes body sound h k = has_body (taking_at (Fragment (suc left) is_last) held) bytes body h k
 stage_body Done held bytes body sound h k = has_body (taking_at Done held) bytes body h k
-stage_body (Refused at) held bytes body sound h k = absurd (not_whole_too_long bytes body at k h)
+stage_body (Refused at) held bytes body sound h k = absurd (too_long_alone bytes body at h k)
 stage_body Starved held bytes body sound h k = absurd h
 
 pub is_open : (stage : Stage) → (stage ≡ Done → ⊥) → ((at : ℕ) → stage ≡ Refused at → ⊥) → (stage ≡ Starved → ⊥) → IsOpenAt stage

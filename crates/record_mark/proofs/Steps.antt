@@ -1,11 +1,11 @@
 -- Many bytes at once: those of a header, and those of a fragment.
-use Rattle.std.proofs.Common.{◌≡◌, ℕ, zero, suc, ◌+◌, ◌%◌, ◌^◌, ◌<◌, ◌≤◌, List, [], ◌∷◌, ◌++◌, length, refl, sym, ap, ◌∙◌, append-nil, arith, length-append, Bool, true, cond, nat_lt, nat_le, lt-ltb, le-ltb, le-leb}
+use Rattle.std.proofs.Common.{◌≡◌, ℕ, ◌+◌, ◌^◌, ◌<◌, ◌≤◌, List, [], ◌++◌, length, refl, sym, ap, ◌∙◌, append-nil, arith, length-append, Bool, true, cond, lt-ltb, le-ltb, le-leb}
 use Rattle.byteorder.specs.Numbers.{length-bytes_high_first, big_number-reads_back}
 use Rattle.byteorder.specs.Endian.{big_bytes}
-use Rattle.record_mark.specs.Machine.{Ends, Runs, Stops, landed, after}
+use Rattle.record_mark.specs.Machine.{Ends, Runs, landed, after}
 use Rattle.record_mark.specs.Word.{IsWord, number, word_next}
 use Rattle.record_mark.specs.RecordMark.{max_body, is_last, length_of, IsHeader, IsRecord}
-use Rattle.record_mark.specs.Joining.{Header, Bytes, TooLong, headed, expecting, join_next}
+use Rattle.record_mark.specs.Joining.{Header, TooLong, headed, expecting, join_next}
 use Rattle.record_mark.proofs.Machines.{after-append, nested_runs}
 use Rattle.record_mark.proofs.Words.{word_runs}
 use Rattle.record_mark.proofs.Joins.{header_runs, begun}

@@ -1,11 +1,11 @@
 -- What a joiner has taken, and where that leads the machine.
-use Rattle.std.proofs.Common.{◌≡◌, ◌≢◌, inl, inr, ℕ, zero, suc, ◌+◌, ◌<◌, List, [], ◌∷◌, ◌++◌, length, take, drop, refl, sym, ap, subst, ◌∙◌, append-nil, arith, Bool, true, false}
+use Rattle.std.proofs.Common.{◌≡◌, inl, inr, ℕ, zero, suc, ◌+◌, ◌<◌, List, [], ◌++◌, take, drop, refl, sym, ap, subst, ◌∙◌, arith}
 use Rattle.std.proofs.Math.Seq.{take-add}
-use Rattle.record_mark.specs.Machine.{Run, Runs, Stops, Stopped, landed, after}
-use Rattle.record_mark.specs.RecordMark.{IsRecord, IsTooLong, IsUnfinished, HasBody}
+use Rattle.record_mark.specs.Machine.{Run, Runs, Stops, Stopped, after}
+use Rattle.record_mark.specs.RecordMark.{IsUnfinished, HasBody}
 use Rattle.record_mark.specs.Joining.{Joining, Between, Header, Bytes, Joined, Whole, TooLong, join_next, HasJoined, EndsRecord}
 use Rattle.record_mark.specs.Taking.{Taking, Led, OutOfMemory, HasTaken, unbegun, IsWhole, IsRunning, joining_of, joined_body, body_of, led_on}
-use Rattle.record_mark.proofs.Machines.{Tells, after-append, not_runs}
+use Rattle.record_mark.proofs.Machines.{Tells, after-append}
 use Rattle.record_mark.proofs.Joins.{join_tells, record_stops, too_long_stops, joining_runs}
 
 pub led_by : (run : Run Joining Joined) (bytes : List ℕ) → HasTaken (Led run) bytes → after join_next (Runs Between) bytes ≡ run

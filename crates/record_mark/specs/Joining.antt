@@ -25,7 +25,7 @@ abbrev pub expecting : List ℕ → Bool → ℕ → Next Joining Joined
 expecting body last zero = ended body last
 expecting body last (suc left) = Goes (Bytes body last left)
 
--- a header has come
+-- a header has come, with which the body fits its limit or not
 abbrev pub headed : List ℕ → ℕ → Next Joining Joined
 headed body header = cond (nat_lt max_body (length body + length_of header)) (Ends (TooLong (length body))) (expecting body (is_last header) (length_of header))
 
@@ -34,13 +34,13 @@ join_next Between byte = within (Header []) (headed []) (word_next [] byte)
 join_next (Header body part) byte = within (Header body) (headed body) (word_next part byte)
 join_next (Bytes body last left) byte = expecting (body ++ byte ∷ []) last left
 
--- the bytes of a record so far
+-- what the bytes of a record so far are, by where the machine stands (RFC 5531, section 11)
 abbrev pub HasJoined : List ℕ → Joining → Type 0
 HasJoined bytes Between = bytes ≡ []
 HasJoined bytes (Header body part) = InHeader bytes body part
 HasJoined bytes (Bytes body last left) = InBytes bytes body last left
 
--- a record, or one that is too long
+-- what bytes are that end a record: whole, or too long (RFC 5531, section 11)
 abbrev pub EndsRecord : List ℕ → Joined → Type 0
 EndsRecord bytes (Whole body) = IsRecord bytes body
 EndsRecord bytes (TooLong at) = IsTooLong bytes at

@@ -78,14 +78,14 @@ pub record InBytes (bytes body : List ℕ) (last : Bool) (left : ℕ) : Type 0 w
   pub carried : body ≡ concat fragments ++ got
   pub fits : length body + suc left ≤ max_body
 
--- a record that is begun and not whole, and the bytes of its body so far
+-- a record that is begun and not whole, and the bytes of its body so far (RFC 5531, section 11)
 abbrev pub IsOpen : List ℕ → List ℕ → Type 0
 IsOpen bytes body = ((part : List ℕ) × InHeader bytes body part) ⊎ ((last : Bool) × (left : ℕ) × InBytes bytes body last left)
 
--- none of a record's bytes, or some that are not all: what a record begins with, and the bytes of its body so far
+-- none of a record's bytes, or some that are not all, and the bytes of its body so far (RFC 5531, section 11)
 abbrev pub IsUnfinished : List ℕ → List ℕ → Type 0
 IsUnfinished bytes body = ((bytes ≡ []) × (body ≡ [])) ⊎ IsOpen bytes body
 
--- the bytes are a record or what one begins with, and these are the bytes of its body so far
+-- the bytes are a record, or unfinished, and these are the bytes of its body so far (RFC 5531, section 11)
 abbrev pub HasBody : List ℕ → List ℕ → Type 0
 HasBody bytes body = IsRecord bytes body ⊎ IsUnfinished bytes body

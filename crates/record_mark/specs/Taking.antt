@@ -2,7 +2,7 @@
 use Rattle.std.specs.Prelude.{◌≡◌, ◌≤◌, ℕ, List, [], ◌++◌, length, take}
 use Rattle.record_mark.specs.Machine.{Run, Runs, Stops, Stopped, after}
 use Rattle.record_mark.specs.RecordMark.{IsRecord, IsTooLong, IsUnfinished}
-use Rattle.record_mark.specs.Joining.{Joining, Between, Header, Bytes, Joined, Whole, TooLong, join_next, HasJoined, EndsRecord}
+use Rattle.record_mark.specs.Joining.{Joining, Between, Header, Bytes, Joined, Whole, join_next, HasJoined, EndsRecord}
 
 -- the bytes taken have led the machine here; or memory ran out, so that some of them are lost
 pub data Taking : Type 0 where
@@ -29,12 +29,6 @@ IsWhole _ = ⊥
 abbrev pub IsRunning : Taking → Type 0
 IsRunning (Led (Runs s)) = Unit {0}
 IsRunning _ = ⊥
-
--- a fault was met, which stays until the start of the next record
-abbrev pub IsFault : Taking → Type 0
-IsFault (Led (Stops (TooLong at))) = Unit {0}
-IsFault OutOfMemory = Unit {0}
-IsFault _ = ⊥
 
 -- where the machine stands that runs
 abbrev pub joining_of : Taking → Joining

@@ -1,5 +1,5 @@
-use Rattle.std.proofs.Common.{◌≡◌, ◌+◌, ◌<◌, ◌≤◌, ◌^◌, ◌%◌, length, sym, ap, refl, ◌∙◌, arith}
-use Rattle.record_mark.specs.RecordMark.{max_body, is_last, length_of}
+use Rattle.std.proofs.Common.{sym, ap, refl, ◌∙◌, arith}
+use Rattle.record_mark.specs.RecordMark.{is_last, length_of}
 use Rattle.record_mark.specs.Machine.{landed}
 use Rattle.record_mark.specs.Taking.{Led}
 use Rattle.record_mark.proofs.Steps.{headed_passes, headed_goes_on}

@@ -1,4 +1,4 @@
-use Rattle.std.proofs.Common.{true, subst, arith, sym}
+use Rattle.std.proofs.Common.{true, subst, sym}
 use Rattle.record_mark.specs.RecordMark.{IsHeader}
 use Rattle.record_mark.proofs.Steps.{heads, one_fragment}
 use Rattle.record_mark.proofs.join.header.Goals as goal

@@ -1,6 +1,5 @@
-use Rattle.std.proofs.Common.{◌≡◌, ◌-◌, ◌∙◌, length, take, drop, sym, arith}
+use Rattle.std.proofs.Common.{◌≡◌, ◌-◌, length, take, drop, arith}
 use Rattle.std.proofs.lemmas.Grind.{common_steps}
-use Rattle.record_mark.specs.Taking.{led_on}
 use Rattle.record_mark.specs.Joiner.{taking_of}
 use Rattle.record_mark.proofs.Takings.{led_on-take, ran_before}
 use Rattle.record_mark.proofs.Stages.{is_open, open_runs}

@@ -1,5 +1,4 @@
 use Rattle.std.proofs.Common.{sym, ◌∙◌, subst}
-use Rattle.record_mark.specs.Joiner.{taking_of}
 use Rattle.record_mark.specs.Taking.{HasTaken}
 use Rattle.record_mark.proofs.Stages.{stage_body}
 use Rattle.record_mark.proofs.join.Joiner.body.Goals as goal

@@ -1,4 +1,4 @@
-use Rattle.std.proofs.Common.{◌≡◌, true, false, ◌∙◌}
+use Rattle.std.proofs.Common.{◌∙◌}
 use Rattle.record_mark.proofs.Stages.{is_unbegun, has_taken_nothing}
 use Rattle.record_mark.proofs.Takings.{is_between}
 use Rattle.record_mark.proofs.join.Joiner.is_between.Goals as goal
