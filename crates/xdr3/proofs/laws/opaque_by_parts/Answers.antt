@@ -1,0 +1,5 @@
+use Rattle.xdr3.proofs.Parts as parts
+use Rattle.xdr3.proofs.laws.opaque_by_parts.Goals as goal
+
+pub returns : goal.returns
+returns c = parts.opaque_by_parts

@@ -1,0 +1,260 @@
+ghost use Rattle.std.specs.Prelude.{◌∷◌, [], codes};
+ghost use Rattle.xdr3.specs.Item.{Hyper, Opaque, Text, Word};
+ghost use Rattle.xdr3.specs.Shape.{both, hyper, opaque, word};
+
+use super::{
+    Field, GetError, Input, Reason, Stop, Visit, Walk, Writer, Xdr, get_counted, get_linked,
+    get_optional, get_sized, read, walk_counted, walk_fields, walk_linked, walk_optional,
+};
+use std::alloc::{AllocError, Global};
+use std::test::Fail;
+
+#[derive(Clone, Copy, Debug, PartialEq, Eq)]
+struct Group {
+    number: u32,
+}
+
+impl<'a> Xdr<'a> for Group {
+    ghost shape = { word (codes "group") };
+
+    #[tactic(auto, unfolding(crate::specs::Reading::reading))]
+    fn get(_alloc: Global, input: &mut Input<'a>) -> Result<Group, GetError> {
+        let number = input.word()?;
+        Ok(Group { number })
+    }
+}
+
+impl Walk for Group {
+    ghost items = { λ g. Word (codes "group") g.number ∷ [] };
+
+    fn walk<V: Visit>(&self, visitor: &mut V) -> Result<(), AllocError> {
+        walk_fields(&[Field::Word("group", self.number)], visitor)
+    }
+}
+
+#[derive(Clone, Copy)]
+struct Entry<'a> {
+    fileid: u64,
+    name: &'a [u8],
+}
+
+impl<'a> Xdr<'a> for Entry<'a> {
+    ghost shape = { both (hyper (codes "fileid")) (opaque Text (codes "name") 255) };
+
+    #[tactic(auto, unfolding(crate::specs::Reading::reading))]
+    fn get(_alloc: Global, input: &mut Input<'a>) -> Result<Entry<'a>, GetError> {
+        let fileid = input.hyper()?;
+        let name = input.var(255)?;
+        Ok(Entry { fileid, name })
+    }
+}
+
+impl<'a> Walk for Entry<'a> {
+    ghost items = { λ e. Hyper (codes "fileid") e.fileid ∷ Opaque Text (codes "name") e.name.now ∷ [] };
+
+    fn walk<V: Visit>(&self, visitor: &mut V) -> Result<(), AllocError> {
+        let all = [
+            Field::Hyper("fileid", self.fileid),
+            Field::Text("name", self.name),
+        ];
+        walk_fields(&all, visitor)
+    }
+}
+
+#[test]
+fn items_of_a_body(rt: HostRuntime) -> Result<(), Fail> {
+    let body = [
+        0, 0, 0, 7, 0, 0, 0, 0, 0, 0, 0, 9, 0, 0, 0, 1, 0, 0, 0, 2, 0, 0, 0, 3, 1, 2, 3, 4, 5, 6,
+        7, 8, 0, 0, 0, 5, 97, 98, 99, 100, 101, 255, 255, 255, 0, 0, 0, 6, 170,
+    ];
+    let mut input = Input::new(&body);
+    assert_eq!(rt; input.left(), 49);
+    assert_eq!(rt; input.word(), Ok(7));
+    assert_eq!(rt; input.hyper(), Ok(9));
+    assert_eq!(rt; input.boolean(), Ok(true));
+    assert_eq!(rt; input.listed(&[1, 2]), Ok(2));
+    assert_eq!(rt; input.at_most(3), Ok(3));
+    assert_eq!(rt; input.fixed8(), Ok([1, 2, 3, 4, 5, 6, 7, 8]));
+    assert_eq!(rt; input.at(), 32);
+    assert_eq!(rt; input.var(5)?, [97, 98, 99, 100, 101].as_slice());
+    let mut window = input.window(4)?;
+    assert_eq!(rt; window.at(), 44);
+    assert_eq!(rt; window.word(), Ok(6));
+    assert_eq!(rt; window.end(), Ok(()));
+    assert_eq!(rt;
+        window.word(),
+        Err(Stop {
+            at: 48,
+            reason: Reason::Short
+        })
+    );
+    assert_eq!(rt;
+        input.end(),
+        Err(Stop {
+            at: 48,
+            reason: Reason::Trailing
+        })
+    );
+    assert_eq!(rt; input.rest(), [170].as_slice());
+    assert_eq!(rt; input.end(), Ok(()));
+    Ok(())
+}
+
+#[test]
+fn faults_of_a_word(rt: HostRuntime) {
+    for (body, reason) in [
+        ([0, 0, 0, 2].as_slice(), Reason::BadBool),
+        ([0, 0, 0].as_slice(), Reason::Short),
+        ([].as_slice(), Reason::Short),
+    ] {
+        let mut input = Input::new(body);
+        assert_eq!(rt; input.boolean(), Err(Stop { at: 0, reason }));
+        assert_eq!(rt; input.at(), 0);
+    }
+    let mut input = Input::new(&[0, 0, 0, 5, 1, 2, 3, 4, 5, 0, 0]);
+    assert_eq!(rt;
+        input.listed(&[3, 4]),
+        Err(Stop {
+            at: 0,
+            reason: Reason::BadEnum
+        })
+    );
+    assert_eq!(rt;
+        input.at_most(4),
+        Err(Stop {
+            at: 0,
+            reason: Reason::TooLong
+        })
+    );
+    assert_eq!(rt;
+        input.var(4).err(),
+        Some(Stop {
+            at: 0,
+            reason: Reason::TooLong
+        })
+    );
+    assert_eq!(rt;
+        input.var(5).err(),
+        Some(Stop {
+            at: 4,
+            reason: Reason::Short
+        })
+    );
+    assert_eq!(rt; input.at(), 0);
+}
+
+#[test]
+fn numbers_and_names_of_reasons(rt: HostRuntime) {
+    assert_eq!(rt; Reason::BadMagic.number(), 1);
+    assert_eq!(rt; Reason::Short.number(), 9);
+    assert_eq!(rt; Reason::XidConflict.number(), 19);
+    assert_eq!(rt; Reason::BadMagic.name(), "BadMagic");
+    assert_eq!(rt; Reason::RecordTooLong.name(), "RecordTooLong");
+    assert_eq!(rt; Reason::XidConflict.name(), "XidConflict");
+}
+
+#[test]
+#[tactic(auto, unfolding(crate::specs::Visit::AreWithinLimit))]
+fn spelling_of_each_item(rt: HostRuntime) -> Result<(), Fail> {
+    let mut writer = Writer::new(rt.alloc());
+    let all = [
+        Field::Word("prog", 100_003),
+        Field::Hyper("size", 4096),
+        Field::Fixed("cookieverf", [1, 2, 3, 4, 5, 6, 7, 8]),
+        Field::WriteVerf("verf", [8, 7, 6, 5, 4, 3, 2, 1]),
+        Field::Var("cred_body", &[1, 2, 3]),
+        Field::Text("name", b"client"),
+        Field::Handle("fh", &[0xaa]),
+        Field::Var("verf_body", &[]),
+        Field::Rest("rest", &[9]),
+    ];
+    walk_fields(&all, &mut writer)?;
+    let expected = [
+        0, 1, 0x86, 0xa3, 0, 0, 0, 0, 0, 0, 0x10, 0, 1, 2, 3, 4, 5, 6, 7, 8, 8, 7, 6, 5, 4, 3, 2,
+        1, 0, 0, 0, 3, 1, 2, 3, 0, 0, 0, 0, 6, 99, 108, 105, 101, 110, 116, 0, 0, 0, 0, 0, 1, 0xaa,
+        0, 0, 0, 0, 0, 0, 0, 9,
+    ];
+    assert_eq!(rt; writer.bytes(), expected.as_slice());
+    writer.clear();
+    assert!(rt; writer.bytes().is_empty());
+    Ok(())
+}
+
+#[test]
+fn lists_that_are_read(rt: HostRuntime) -> Result<(), Fail> {
+    let body = [
+        0, 0, 0, 1, 0, 0, 0, 0, 0, 0, 0, 1, 0, 0, 0, 1, 46, 255, 255, 255, 0, 0, 0, 1, 0, 0, 0, 0,
+        0, 0, 0, 2, 0, 0, 0, 2, 46, 46, 1, 2, 0, 0, 0, 0, 0, 0, 0, 2, 0, 0, 0, 8, 0, 0, 0, 9,
+    ];
+    let mut input = Input::new(&body);
+    let entries: Vec<Entry> = get_linked(rt.alloc(), &mut input)?;
+    assert_eq!(rt; input.at(), 44);
+    assert_eq!(rt; entries.len(), 2);
+    assert_eq!(rt; entries[1].name, [46, 46].as_slice());
+    let groups: Vec<Group> = get_counted(rt.alloc(), &mut input, 2)?;
+    assert_eq!(rt;
+        groups.as_slice(),
+        [Group { number: 8 }, Group { number: 9 }].as_slice()
+    );
+    assert_eq!(rt; input.left(), 0);
+    Ok(())
+}
+
+#[test]
+#[tactic(auto, unfolding(crate::specs::Visit::AreWithinLimit))]
+fn spelling_of_lists(rt: HostRuntime) -> Result<(), Fail> {
+    let mut writer = Writer::new(rt.alloc());
+    let entries = [
+        Entry {
+            fileid: 1,
+            name: b".",
+        },
+        Entry {
+            fileid: 2,
+            name: b"..",
+        },
+    ];
+    walk_linked("entry", &entries, &mut writer)?;
+    walk_counted("gids", &[Group { number: 8 }], &mut writer)?;
+    walk_optional("gid", &Some(Group { number: 5 }), &mut writer)?;
+    let expected = [
+        0, 0, 0, 1, 0, 0, 0, 0, 0, 0, 0, 1, 0, 0, 0, 1, 46, 0, 0, 0, 0, 0, 0, 1, 0, 0, 0, 0, 0, 0,
+        0, 2, 0, 0, 0, 2, 46, 46, 0, 0, 0, 0, 0, 0, 0, 0, 0, 1, 0, 0, 0, 8, 0, 0, 0, 1, 0, 0, 0, 5,
+    ];
+    assert_eq!(rt; writer.bytes(), expected.as_slice());
+    Ok(())
+}
+
+#[test]
+fn values_behind_a_word(rt: HostRuntime) -> Result<(), Fail> {
+    let mut input = Input::new(&[
+        0, 0, 0, 0, 0, 0, 0, 1, 0, 0, 0, 5, 0, 0, 0, 4, 0, 0, 0, 6, 0, 0, 0, 7,
+    ]);
+    let missing: Option<Group> = get_optional(rt.alloc(), &mut input)?;
+    assert_eq!(rt; missing, None);
+    let found: Option<Group> = get_optional(rt.alloc(), &mut input)?;
+    assert_eq!(rt; found, Some(Group { number: 5 }));
+    let sized: Group = get_sized(rt.alloc(), &mut input)?;
+    assert_eq!(rt; sized.number, 6);
+    let last: Group = read(rt.alloc(), &mut input)?;
+    assert_eq!(rt; last.number, 7);
+    Ok(())
+}
+
+#[test]
+fn faults_of_a_told_length(rt: HostRuntime) {
+    for (len, at, reason) in [
+        (3, 4, Reason::AuthLength),
+        (5, 8, Reason::AuthLength),
+        (9, 4, Reason::Short),
+    ] {
+        let body = [0, 0, 0, len, 0, 0, 0, 5, 0, 0, 0, 6];
+        let mut input = Input::new(&body);
+        let refused: Result<Group, GetError> = get_sized(rt.alloc(), &mut input);
+        assert_eq!(rt;
+            refused,
+            Err(GetError::Stop(Stop { at, reason })),
+            "at {len}"
+        );
+    }
+}
