@@ -1,13 +1,10 @@
 -- A message is read as its parts are: its first two words, its head, and what the head chooses.
-use Rattle.std.proofs.Common.{◌≡◌, ℕ, Bool, true, false, cond, List, [], ◌∷◌, ◌++◌, Ok, Err, refl, sym, ap, subst, ◌∙◌, inl, inr}
-use Rattle.std.specs.Prelude.{◌⊎◌}
-use Rattle.std.specs.Int.{from_bool}
-use Rattle.xdr3.specs.declared.reason.Reason.{Reason}
+use Rattle.std.proofs.Common.{◌≡◌, ℕ, Bool, true, false, cond, List, [], ◌∷◌, ◌++◌, Ok, Err, refl, sym, ap, subst, ◌∙◌}
 use Rattle.xdr3.specs.declared.reason.Reason.TheVariants.{BadEnum}
 use Rattle.xdr3.specs.declared.reason.Stop.{Stop}
 use Rattle.xdr3.specs.Item.{Item, Word, followed_by}
 use Rattle.xdr3.specs.Layout.{Layout, after, exactly, reading_layout}
-use Rattle.xdr3.specs.Reading.{Outcome, ◌>>=◌, number_at, reading, refused, word_at}
+use Rattle.xdr3.specs.Reading.{◌>>=◌, number_at, reading, refused, word_at}
 use Rattle.xdr3.specs.Shape.{Shape, both, choose, is_any, is_listed, listed, nothing, word}
 use Rattle.xdr3.specs.View.{word_of}
 use Rattle.xdr3.proofs.Bytes.{accept_ok, bind_ok, ok_is}

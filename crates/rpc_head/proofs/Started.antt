@@ -1,5 +1,5 @@
 -- What reading a message's start gives is a start.
-use Rattle.std.proofs.Common.{ℕ, ◌≤◌, List, length, Result, Ok, Err}
+use Rattle.std.proofs.Common.{◌≤◌, length, Result, Ok, Err}
 use Rattle.xdr3.specs.declared.reason.Stop.{Stop}
 use Rattle.xdr3.specs.Item.{AreBytes}
 use Rattle.xdr3.specs.Reading.{reading}
