@@ -1,9 +1,8 @@
 -- How many bytes the body of a credential has.
-use Rattle.std.proofs.Common.{◌≡◌, ℕ, ◌+◌, ◌*◌, ◌^◌, ◌<◌, List, [], ◌∷◌, ◌++◌, length, replicate, arith}
+use Rattle.std.proofs.Common.{◌≡◌, ℕ, ◌+◌, ◌*◌, List, [], ◌∷◌, ◌++◌, length, replicate, arith}
 use Rattle.std.specs.List.{flat_map}
 use Rattle.std.proofs.lemmas.List.{length-append, length-replicate}
 use Rattle.xdr3.specs.Item.{Item, Opaque, Text, Word, followed_by, residue, word_bytes, zero_spelling, zero_spelling_of}
-use Rattle.xdr3.specs.Visit.{AreWithinLimit}
 use Rattle.xdr3.proofs.Walks.{length-zero_spelling}
 use Rattle.rpc_head.specs.declared.credential.AuthSys.{AuthSys}
 use Rattle.rpc_head.specs.Credentials.{parameter_items}

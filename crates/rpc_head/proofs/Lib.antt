@@ -1,2 +1,4 @@
 pub mod Lengths
 pub mod Limits
+pub mod Messages
+pub mod Started

@@ -6,3 +6,4 @@ pub mod Starts
 pub mod Credentials
 pub mod Calls
 pub mod Replies
+pub mod Messages

@@ -1,7 +1,7 @@
 // The first two words of a message.
 
 ghost use Rattle.rpc_head.specs.Shapes.{message_start};
-ghost use Rattle.rpc_head.specs.Starts.{start_items};
+ghost use Rattle.rpc_head.specs.Starts.{IsStart, start_items};
 ghost use Rattle.xdr3.specs.Reading.{reading};
 ghost use Rattle.xdr3.specs.View.{Answers, MovesOn};
 
@@ -10,11 +10,13 @@ use xdr3::{Input, Stop};
 
 /// Reads the xid and the mtype. A word that is not whole is `Short`, another mtype `BadEnum`, each at
 /// its own first byte.
-#[tactic(auto, unfolding(xdr3::specs::Reading::reading, crate::specs::Shapes::message_start))]
+#[tactic(auto, using(crate::proofs::Started::is_start), unfolding(xdr3::specs::Reading::reading, crate::specs::Shapes::message_start))]
 pub fn start(input: &mut Input) -> Result<Start, Stop>
     ensures read { Answers start_items result input.new.at (reading message_start input.old.body input.old.at) }
+    ensures is_start { IsStart input.old result input.new }
     ensures moves { MovesOn input.old input.new }
 {
+    input.at();
     let xid = input.word()?;
     let mtype = input.listed(&[0, 1])?;
     Ok(Start {

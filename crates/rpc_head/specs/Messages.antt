@@ -1,0 +1,46 @@
+-- How whole messages are laid out (RFC 5531, section 9).
+use Rattle.std.specs.Prelude.{ℕ, zero, suc, Bool, ◌==◌, ◌&&◌, if◌then◌else◌, List, [], ◌∷◌}
+use Rattle.xdr3.specs.Item.{Item, Fixed, Hyper, Opaque, Rest, Word, WriteVerf}
+use Rattle.xdr3.specs.Layout.{Layout, after, exactly}
+use Rattle.xdr3.specs.Shape.{Shape, listed, nothing, word}
+use Rattle.rpc_head.specs.declared.call.ProcId.{ProcId}
+use Rattle.rpc_head.specs.Names.{names}
+use Rattle.rpc_head.specs.Shapes.{◌then◌, call_head, reply_head}
+
+abbrev pub number_of_word : Item → ℕ
+number_of_word (Word name n) = n
+number_of_word (Hyper name n) = 0
+number_of_word (Fixed name bytes) = 0
+number_of_word (WriteVerf name bytes) = 0
+number_of_word (Opaque kind name bytes) = 0
+number_of_word (Rest name bytes) = 0
+
+-- the number of the word that stands at an index among the items, counted from 0
+abbrev pub word_in : List Item → ℕ → ℕ
+word_in [] i = 0
+word_in (item ∷ items) zero = number_of_word item
+word_in (item ∷ items) (suc i) = word_in items i
+
+-- an mtype is CALL (0) in a call and REPLY (1) in a reply
+unfoldable pub call_start : Shape
+call_start = word names.xid then listed names.mtype (0 ∷ [])
+
+unfoldable pub reply_start : Shape
+reply_start = word names.xid then listed names.mtype (1 ∷ [])
+
+-- a call's items begin with xid, mtype, rpcvers, prog, vers and proc
+abbrev pub procedure_in : List Item → ProcId
+procedure_in items = record { prog = word_in items 3; vers = word_in items 4; proc_no = word_in items 5 }
+
+-- a call, whose procedure chooses how its arguments are laid out
+unfoldable pub call_layout : (ProcId → Layout) → Layout
+call_layout arguments = after (call_start then call_head) (λ items. arguments (procedure_in items))
+
+-- An accepted reply's items begin with xid, mtype, reply_stat, verf_flavor, verf_body and accept_stat. Results follow where
+-- reply_stat is MSG_ACCEPTED (0) and accept_stat is SUCCESS (0).
+abbrev pub has_results : List Item → Bool
+has_results items = (word_in items 2 == 0) && (word_in items 5 == 0)
+
+-- a reply, with these results behind an accepted success and nothing behind any other head
+unfoldable pub reply_layout : Layout → Layout
+reply_layout results = after (reply_start then reply_head) (λ items. if has_results items then results else exactly nothing)
