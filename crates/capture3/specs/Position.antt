@@ -1,7 +1,8 @@
 -- What a position in a capture keeps: its counts are within the limits, and it stands no further than they allow.
-use Rattle.std.specs.Prelude.{◌≡◌, ◌≤◌, ◌<◌, ℕ, ◌+◌, ◌-◌, ◌*◌, Option, Some, None, Result, Ok, Err, List, [], length, take, drop}
-use Rattle.record_mark.specs.Machine.{Run, Runs, Stops, after}
-use Rattle.record_mark.specs.Joining.{Joining}
+use Rattle.std.specs.Prelude.{◌≡◌, ◌≢◌, ◌≤◌, ◌<◌, ℕ, ◌+◌, ◌-◌, ◌*◌, Option, Some, None, Result, Ok, Err, List, [], ◌++◌, length, take, drop}
+use Rattle.record_mark.specs.Machine.{Next, Ends, Run, Runs, Stops, after, landed}
+use Rattle.record_mark.specs.Joining.{Joining, Between}
+use Rattle.record_mark.specs.Taking.{joined_body}
 use Rattle.capture3.specs.Unpacking.{Unpacking, Unpacked, Opened, Has, Refuses, left_of_magic, awaiting, unpack_next}
 use Rattle.capture3.specs.Unpacking as unpacking
 use Rattle.capture3.specs.declared.position.TheConstants.{MAGIC}
@@ -14,7 +15,10 @@ use Rattle.capture3.specs.declared.position.Event.TheVariants.{Record}
 use Rattle.capture3.specs.declared.position.Position.{Position}
 use Rattle.capture3.specs.declared.position.Taken.{Taken}
 use Rattle.capture3.specs.declared.position.Spot.{Spot}
+use Rattle.record_mark.specs.Word.{IsWord}
 use Rattle.capture3.specs.declared.word_part.WordPart.{WordPart}
+use Rattle.capture3.specs.declared.word_part.Word.{Word}
+use Rattle.capture3.specs.declared.word_part.Word.TheVariants.{Part, Whole}
 use Rattle.capture3.specs.declared.position.Spot.TheVariants.{Magic, Mark, Length, Chunk, Ended}
 
 -- the word 1 of a connection, and behind the client stream its word 0
@@ -50,6 +54,11 @@ opened_at (Length side part) at = unpacking.Length side (bytes_so_far part)
 opened_at (Chunk side left) at = awaiting side left
 opened_at Ended at = unpacking.Ended
 
+-- What came of a word: the bytes taken belong to it, and it is whole, or they are all that there were.
+abbrev pub TakesWord : WordPart → List ℕ → ℕ → Word → Type 0
+TakesWord before bytes count (Part part) = (bytes_so_far part ≡ bytes_so_far before ++ take count bytes) × (count ≡ length bytes)
+TakesWord before bytes count (Whole n) = IsWord (bytes_so_far before ++ take count bytes) n
+
 -- the position and the open record, as the machine has them
 abbrev pub unpacking_at : Position → Joining → Unpacking
 unpacking_at p joining = record { at = p.at; total = p.total; connections = p.connections; records = p.records; opened = opened_at p.spot p.at; joining = joining }
@@ -59,10 +68,21 @@ abbrev pub ShowsFault : Unpacking → List ℕ → Error → Type 0
 ShowsFault from bytes (Refused fault) = (n : ℕ) × (n ≤ length bytes) × (after unpack_next (Runs from) (take n bytes) ≡ Stops (Refuses fault))
 ShowsFault from bytes _ = ⊥
 
+-- the bytes so far of the body of a record that is open, or none between records
+abbrev pub IsOpenBody : Option ℕ → Joining → Type 0
+IsOpenBody None joining = joining ≡ Between
+IsOpenBody (Some n) joining = (joining ≢ Between) × (n ≡ length (joined_body joining))
+
 -- where the machine is with the last byte taken: it goes on, or something is whole
 abbrev pub landed_at : Option Event → Unpacking → Run Unpacking Unpacked
 landed_at None u = Runs u
 landed_at (Some event) u = Stops (Has event [] u)
+
+-- What a whole word leads the machine to: there, or to the fault. The open record stays.
+abbrev pub Lands : Next Unpacking Unpacked → Joining → Result Taken Error → Type 0
+Lands next joining (Ok taken) = landed next ≡ landed_at taken.event (unpacking_at taken.position joining)
+Lands next joining (Err (Refused fault)) = next ≡ Ends (Refuses fault)
+Lands next joining (Err _) = ⊥
 
 -- The bytes taken lead the machine there, or some of the bytes lead it to the fault. The open record stays.
 abbrev pub Moves : Unpacking → List ℕ → Joining → Result Taken Error → Type 0

@@ -39,8 +39,8 @@ pub data Unpacked : Type 0 where
 abbrev pub at_byte : ℕ → Reason → Unpacked
 at_byte at reason = Refuses (record { place = places.File at; reason = reason })
 
-abbrev pub in_record : Unpacking → Side → ℕ → Reason → Unpacked
-in_record u side byte reason = Refuses (record { place = places.Record u.connections side (u.records + 1) byte; reason = reason })
+abbrev pub in_record : ℕ → Side → ℕ → ℕ → Reason → Unpacked
+in_record connection side record_number byte reason = Refuses (record { place = places.Record connection side record_number byte; reason = reason })
 
 -- the bytes of the magic that are left
 abbrev pub left_of_magic : List ℕ → Opened
@@ -52,43 +52,61 @@ abbrev pub awaiting : Side → ℕ → Opened
 awaiting side zero = Length side []
 awaiting side (suc left) = Chunk side left
 
--- before a stream's first length word
-abbrev pub before_stream : Unpacking → Side → Unpacking
-before_stream u side = record u { at = u.at + 4; records = 0; opened = Length side [] }
+-- in a chunk with so many bytes to come
+abbrev pub in_chunk : (at total connections records : ℕ) → Side → ℕ → Joining → Unpacking
+in_chunk at total connections records side left joining =
+    record { at = at; total = total; connections = connections; records = records; opened = awaiting side left; joining = joining }
+
+-- before a stream's first length word, behind a word
+abbrev pub before_stream : (at total connections : ℕ) → Joining → Side → Unpacking
+before_stream at total connections joining side =
+    record { at = at + 4; total = total; connections = connections; records = 0; opened = Length side []; joining = joining }
 
 -- a connection word has come
-abbrev pub marked : Unpacking → ℕ → Next Unpacking Unpacked
-marked u zero = Goes (record u { at = u.at + 4; opened = Ended })
-marked u (suc zero) =
-    cond (nat_lt u.connections 65535) (Ends (Has Begin [] (record (before_stream u Client) { connections = u.connections + 1 }))) (Ends (at_byte u.at TooManyConnections))
-marked u (suc (suc more)) = Ends (at_byte u.at BadMark)
+abbrev pub marked : (at total connections records : ℕ) → Joining → ℕ → Next Unpacking Unpacked
+marked at total connections records joining zero =
+    Goes (record { at = at + 4; total = total; connections = connections; records = records; opened = Ended; joining = joining })
+marked at total connections records joining (suc zero) =
+    cond (nat_lt connections 65535) (Ends (Has Begin [] (before_stream at total (connections + 1) joining Client))) (Ends (at_byte at TooManyConnections))
+marked at total connections records joining (suc (suc more)) = Ends (at_byte at BadMark)
 
 -- a stream's word 0 has come
-abbrev pub closed : Unpacking → Side → Joining → Unpacked
-closed u Client Between = Has Turn [] (before_stream u Server)
-closed u Server Between = Has Close [] (record u { at = u.at + 4; opened = Mark [] })
-closed u side (Header body part) = in_record u side (length body) RecordCut
-closed u side (Bytes body last left) = in_record u side (length body) RecordCut
+abbrev pub closed : (at total connections records : ℕ) → Side → Joining → Unpacked
+closed at total connections records Client Between = Has Turn [] (before_stream at total connections Between Server)
+closed at total connections records Server Between =
+    Has Close [] (record { at = at + 4; total = total; connections = connections; records = records; opened = Mark []; joining = Between })
+closed at total connections records side (Header body part) = in_record connections side (records + 1) (length body) RecordCut
+closed at total connections records side (Bytes body last left) = in_record connections side (records + 1) (length body) RecordCut
 
 -- a chunk's length word has come
-abbrev pub counted : Unpacking → Side → ℕ → Next Unpacking Unpacked
-counted u side zero = Ends (closed u side u.joining)
-counted u side (suc left) =
-    cond (nat_lt 1073741824 (u.total + suc left)) (Ends (at_byte u.at TooManyBytes))
-    (Goes (record u { at = u.at + 4 + suc left; total = u.total + suc left; opened = Chunk side left }))
+abbrev pub counted : (at total connections records : ℕ) → Side → Joining → ℕ → Next Unpacking Unpacked
+counted at total connections records side joining zero = Ends (closed at total connections records side joining)
+counted at total connections records side joining (suc left) =
+    cond (nat_lt 1073741824 (total + suc left)) (Ends (at_byte at TooManyBytes))
+    (Goes (record { at = at + 4 + suc left; total = total + suc left; connections = connections; records = records; opened = Chunk side left; joining = joining }))
 
 -- a record has ended
-abbrev pub joined : Unpacking → Side → ℕ → Joined → Next Unpacking Unpacked
-joined u side left (Whole body) = Ends (Has (Record side) body (record u { records = u.records + 1; opened = awaiting side left; joining = Between }))
-joined u side left (TooLong at) = Ends (in_record u side at RecordTooLong)
+abbrev pub joined : (at total connections records : ℕ) → Side → ℕ → Joined → Next Unpacking Unpacked
+joined at total connections records side left (Whole body) =
+    Ends (Has (Record side) body (in_chunk at total connections (records + 1) side left Between))
+joined at total connections records side left (TooLong byte) = Ends (in_record connections side (records + 1) byte RecordTooLong)
 
-abbrev pub open_step : Unpacking → Opened → ℕ → Next Unpacking Unpacked
-open_step u (Magic []) byte = Ends (at_byte u.at BadMagic)
-open_step u (Magic (due ∷ more)) byte = cond (nat_eq byte due) (Goes (record u { at = u.at + 1; opened = left_of_magic more })) (Ends (at_byte u.at BadMagic))
-open_step u (Mark part) byte = within (λ p. record u { opened = Mark p }) (marked u) (word_next part byte)
-open_step u (Length side part) byte = within (λ p. record u { opened = Length side p }) (counted u side) (word_next part byte)
-open_step u (Chunk side left) byte = within (λ j. record u { opened = awaiting side left; joining = j }) (joined u side left) (join_next u.joining byte)
-open_step u Ended byte = Ends (at_byte u.at AfterEnd)
+abbrev pub open_step : (at total connections records : ℕ) → Joining → Opened → ℕ → Next Unpacking Unpacked
+open_step at total connections records joining (Magic []) byte = Ends (at_byte at BadMagic)
+open_step at total connections records joining (Magic (due ∷ more)) byte =
+    cond (nat_eq byte due)
+    (Goes (record { at = at + 1; total = total; connections = connections; records = records; opened = left_of_magic more; joining = joining }))
+    (Ends (at_byte at BadMagic))
+open_step at total connections records joining (Mark part) byte =
+    within (λ p. record { at = at; total = total; connections = connections; records = records; opened = Mark p; joining = joining })
+    (marked at total connections records joining) (word_next part byte)
+open_step at total connections records joining (Length side part) byte =
+    within (λ p. record { at = at; total = total; connections = connections; records = records; opened = Length side p; joining = joining })
+    (counted at total connections records side joining) (word_next part byte)
+open_step at total connections records joining (Chunk side left) byte =
+    within (in_chunk at total connections records side left)
+    (joined at total connections records side left) (join_next joining byte)
+open_step at total connections records joining Ended byte = Ends (at_byte at AfterEnd)
 
 abbrev pub unpack_next : Unpacking → ℕ → Next Unpacking Unpacked
-unpack_next u byte = open_step u u.opened byte
+unpack_next u byte = open_step u.at u.total u.connections u.records u.joining u.opened byte

@@ -1,10 +1,10 @@
 // The container: connections of two streams, each cut into chunks, whose records are joined.
 
-ghost use Rattle.std.specs.Prelude.{◌≡◌, ◌≤◌, ◌<◌, ◌+◌, length, IfOk, OnOk, None};
-ghost use Rattle.capture3.specs.Container.{Leaves};
-ghost use Rattle.capture3.specs.Position.{cost_of, IsSound, most_things, room_of, TakesSome};
+ghost use Rattle.std.specs.Prelude.{◌≡◌, ◌≤◌, ◌<◌, ◌+◌, length, take, IfOk, IfErr, OnOk, None};
+ghost use Rattle.capture3.specs.Container.{Arrives, Fails, Leaves, unpacking_of};
+ghost use Rattle.capture3.specs.Position.{cost_of, IsOpenBody, IsSound, most_things, room_of, TakesSome};
 ghost use Rattle.record_mark.specs.RecordMark.{max_body};
-ghost use Rattle.record_mark.specs.Taking.{IsRunning, unbegun};
+ghost use Rattle.record_mark.specs.Taking.{IsRunning, joining_of, unbegun};
 
 use crate::fault::{Error, Side};
 use crate::position::{Event, Position, Spot, Taken, file_fault};
@@ -60,15 +60,21 @@ impl Container {
         ensures some { IfOk result (λ r. 0 < length piece.now → 0 < r.0) }
         ensures more { IfOk result (λ r. r.1 ≡ None → r.0 ≡ length piece.now) }
         ensures joiner { IfOk result (λ r. Leaves r.1 self.new.joiner) }
+        ensures machine { IfOk result (λ r. Arrives (unpacking_of self.old.position self.old.joiner) (take r.0 piece.now) r.1 self.new.position self.new.joiner) }
+        ensures fault { IfErr result (Fails (unpacking_of self.old.position self.old.joiner) piece.now) }
         ensures room { IfOk result (λ r. room_of self.new.position + cost_of r.1 ≤ room_of self.old.position) }
     {
         let mut taken = 0;
         while taken < piece.len() {
-            let step = self.step(&piece[taken..])?;
-            taken += step.count;
-            self.position = step.position;
-            if step.event.is_some() {
-                return Ok((taken, step.event));
+            match self.step(&piece[taken..]) {
+                Ok(step) => {
+                    taken += step.count;
+                    self.position = step.position;
+                    if step.event.is_some() {
+                        return Ok((taken, step.event));
+                    }
+                }
+                Err(error) => return Err(error),
             }
         }
         Ok((taken, None))
@@ -91,6 +97,8 @@ impl Container {
         requires running { IsRunning self.old.joiner }
         ensures taken { IfOk result (TakesSome self.old.position rest.now) }
         ensures joiner { IfOk result (λ taken. Leaves taken.event self.new.joiner) }
+        ensures machine { IfOk result (λ taken. Arrives (unpacking_of self.old.position self.old.joiner) (take taken.count rest.now) taken.event taken.position self.new.joiner) }
+        ensures fault { IfErr result (Fails (unpacking_of self.old.position self.old.joiner) rest.now) }
         ensures position { self.new.position ≡ self.old.position }
     {
         match self.position.spot {
@@ -106,7 +114,10 @@ impl Container {
     }
 
     /// How many bytes of the body have come of a record that is open.
-    fn open_body(&self) -> Option<u32> {
+    fn open_body(&self) -> Option<u32>
+        requires { IsRunning self.now.joiner }
+        ensures { IsOpenBody result (joining_of self.now.joiner) }
+    {
         if self.joiner.is_between() {
             None
         } else {
@@ -122,15 +133,15 @@ impl Container {
         requires here { self.old.position.spot ≡ Spot.Chunk side left }
         ensures taken { IfOk result (TakesSome self.old.position rest.now) }
         ensures joiner { IfOk result (λ taken. Leaves taken.event self.new.joiner) }
+        ensures machine { IfOk result (λ taken. Arrives (unpacking_of self.old.position self.old.joiner) (take taken.count rest.now) taken.event taken.position self.new.joiner) }
+        ensures fault { IfErr result (Fails (unpacking_of self.old.position self.old.joiner) rest.now) }
         ensures position { self.new.position ≡ self.old.position }
     {
         let position = self.position;
         let piece = &rest[..rest.len().min(left as usize)];
         match self.joiner.push(piece) {
-            Ok((count, step)) => {
-                let is_record = step == Step::Record;
-                Ok(position.take_chunk(side, left, count as u32, is_record))
-            }
+            Ok((count, Step::Record)) => Ok(position.take_chunk(side, left, count as u32, true)),
+            Ok((count, Step::More)) => Ok(position.take_chunk(side, left, count as u32, false)),
             Err(JoinError::TooLong { at }) => {
                 Err(position.next_record_fault(side, at, Reason::RecordTooLong))
             }

@@ -1,7 +1,11 @@
 // Where the bytes of a capture that were taken end, and what the next ones make of it.
 
-ghost use Rattle.std.specs.Prelude.{◌≡◌, ◌≤◌, ◌<◌, ◌+◌, ◌^◌, length, IfOk, None, Some, if◌then◌else◌};
-ghost use Rattle.capture3.specs.Position.{cost_of, IsBeforeStream, IsOfContainer, IsSound, most_things, room_of, TakesSome};
+ghost use Rattle.std.specs.Prelude.{◌≡◌, ◌≤◌, ◌<◌, ◌+◌, ◌-◌, ◌^◌, length, IfOk, None, Some, if◌then◌else◌};
+ghost use Rattle.capture3.specs.Position.{cost_of, IsBeforeStream, IsOfContainer, IsOpenBody, IsSound, landed_at, Lands, most_things, Moves, room_of, TakesSome, unpacking_at};
+ghost use Rattle.capture3.specs.Unpacking.{closed, counted, in_chunk, marked};
+ghost use Rattle.capture3.specs.Unpacking as spec;
+ghost use Rattle.record_mark.specs.Joining.{Between, Joining};
+ghost use Rattle.record_mark.specs.Machine.{Ends, Goes, Stops};
 
 use crate::fault::{Error, Fault, Place, Side};
 use crate::word_part::{Word, WordPart};
@@ -96,16 +100,17 @@ impl Position {
         requires here { self.spot ≡ Spot.Magic }
         requires some { 0 < length rest.now }
         ensures taken { IfOk result (TakesSome self rest.now) }
-        ensures event { IfOk result (λ taken. taken.event ≡ None) }
+        ensures event { IfOk result (λ taken. IsOfContainer taken.event) }
+        ensures machine { (joining : Joining) → Moves (unpacking_at self joining) rest.now joining result }
     {
-        let due = &MAGIC[self.at as usize..];
-        let count = due.len().min(rest.len());
-        for (i, byte) in rest[..count].iter().enumerate() {
-            if *byte != due[i] {
+        let from = self.at as usize;
+        let count = (MAGIC.len() - from).min(rest.len());
+        for i in 0..count {
+            if rest[i] != MAGIC[from + i] {
                 return Err(file_fault(self.at + i as u64, Reason::BadMagic));
             }
         }
-        let spot = if count == due.len() {
+        let spot = if from + count == MAGIC.len() {
             Spot::Mark(WordPart::new())
         } else {
             Spot::Magic
@@ -121,14 +126,30 @@ impl Position {
         requires some { 0 < length rest.now }
         ensures taken { IfOk result (TakesSome self rest.now) }
         ensures event { IfOk result (λ taken. IsOfContainer taken.event) }
+        ensures machine { (joining : Joining) → Moves (unpacking_at self joining) rest.now joining result }
     {
         let (count, word) = part.taken(rest);
         match word {
             Word::Part(part) => Ok(self.moved(count, self.at, Spot::Mark(part))),
-            Word::Whole(0) => Ok(self.moved(count, self.at + 4, Spot::Ended)),
-            Word::Whole(1) if self.connections < MAX_CONNECTIONS => Ok(self.begun(part, count)),
-            Word::Whole(1) => Err(file_fault(self.at, Reason::TooManyConnections)),
-            Word::Whole(_) => Err(file_fault(self.at, Reason::BadMark)),
+            Word::Whole(n) => self.behind_mark(part, n, count),
+        }
+    }
+
+    /// A connection word has come.
+    fn behind_mark(self, part: WordPart, n: u32, count: usize) -> Result<Taken, Error>
+        requires sound { IsSound self }
+        requires here { self.spot ≡ Spot.Mark part }
+        ensures count { IfOk result (λ taken. taken.count ≡ count) }
+        ensures sound { IfOk result (λ taken. IsSound taken.position) }
+        ensures room { IfOk result (λ taken. room_of taken.position + cost_of taken.event ≤ room_of self) }
+        ensures event { IfOk result (λ taken. IsOfContainer taken.event) }
+        ensures machine { (joining : Joining) → Lands (marked self.at self.total self.connections self.records joining n) joining result }
+    {
+        match n {
+            0 => Ok(self.moved(count, self.at + 4, Spot::Ended)),
+            1 if self.connections < MAX_CONNECTIONS => Ok(self.begun(part, count)),
+            1 => Err(file_fault(self.at, Reason::TooManyConnections)),
+            _ => Err(file_fault(self.at, Reason::BadMark)),
         }
     }
 
@@ -137,7 +158,7 @@ impl Position {
         self,
         side: Side,
         part: WordPart,
-        open: Option<u32>,
+        so_far: Option<u32>,
         rest: &[u8],
     ) -> Result<Taken, Error>
         requires sound { IsSound self }
@@ -145,19 +166,59 @@ impl Position {
         requires some { 0 < length rest.now }
         ensures taken { IfOk result (TakesSome self rest.now) }
         ensures event { IfOk result (λ taken. IsOfContainer taken.event) }
+        ensures machine { (joining : Joining) → IsOpenBody so_far joining → Moves (unpacking_at self joining) rest.now joining result }
     {
         let (count, word) = part.taken(rest);
         match word {
             Word::Part(part) => Ok(self.moved(count, self.at, Spot::Length(side, part))),
-            Word::Whole(0) => match open {
-                None => Ok(self.stream_closed(side, part, count)),
-                Some(byte) => Err(self.next_record_fault(side, byte, Reason::RecordCut)),
-            },
-            Word::Whole(len) if len > MAX_BYTES - self.total => {
-                Err(file_fault(self.at, Reason::TooManyBytes))
-            }
-            Word::Whole(len) => Ok(self.chunk_opened(side, part, len, count)),
+            Word::Whole(0) => self.behind_stream(side, part, so_far, count),
+            Word::Whole(len) => self.behind_length(side, part, len, count),
         }
+    }
+
+    /// A stream's word 0 has come.
+    fn behind_stream(
+        self,
+        side: Side,
+        part: WordPart,
+        so_far: Option<u32>,
+        count: usize,
+    ) -> Result<Taken, Error>
+        requires sound { IsSound self }
+        requires here { self.spot ≡ Spot.Length side part }
+        ensures count { IfOk result (λ taken. taken.count ≡ count) }
+        ensures sound { IfOk result (λ taken. IsSound taken.position) }
+        ensures room { IfOk result (λ taken. room_of taken.position + cost_of taken.event ≤ room_of self) }
+        ensures event { IfOk result (λ taken. IsOfContainer taken.event) }
+        ensures machine { (joining : Joining) → IsOpenBody so_far joining → Lands (Ends (closed self.at self.total self.connections self.records side joining)) joining result }
+    {
+        match so_far {
+            None => Ok(self.stream_closed(side, part, count)),
+            Some(byte) => Err(self.next_record_fault(side, byte, Reason::RecordCut)),
+        }
+    }
+
+    /// The length word of a chunk has come.
+    fn behind_length(
+        self,
+        side: Side,
+        part: WordPart,
+        len: u32,
+        count: usize,
+    ) -> Result<Taken, Error>
+        requires sound { IsSound self }
+        requires here { self.spot ≡ Spot.Length side part }
+        requires some { 0 < len }
+        ensures count { IfOk result (λ taken. taken.count ≡ count) }
+        ensures sound { IfOk result (λ taken. IsSound taken.position) }
+        ensures room { IfOk result (λ taken. room_of taken.position + cost_of taken.event ≤ room_of self) }
+        ensures event { IfOk result (λ taken. IsOfContainer taken.event) }
+        ensures machine { (joining : Joining) → Lands (counted self.at self.total self.connections self.records side joining len) joining result }
+    {
+        if len > MAX_BYTES - self.total {
+            return Err(file_fault(self.at, Reason::TooManyBytes));
+        }
+        Ok(self.chunk_opened(side, part, len, count))
     }
 
     /// Takes so many bytes of a chunk. With the last of them a record may be whole.
@@ -170,6 +231,7 @@ impl Position {
         ensures sound { IsSound result.position }
         ensures room { room_of result.position + cost_of result.event ≤ room_of self }
         ensures event { result.event ≡ (if is_record then Some (Event.Record side) else None) }
+        ensures machine { (joining : Joining) → unpacking_at result.position joining ≡ in_chunk self.at self.total self.connections (if is_record then self.records + 1 else self.records) side (left - count) joining }
     {
         let left = left - count;
         let spot = if left == 0 {
@@ -192,18 +254,23 @@ impl Position {
     }
 
     /// A fault of the record that became whole last.
-    pub(crate) fn record_fault(self, side: Side, byte: u32, reason: Reason) -> Error {
+    pub(crate) fn record_fault(self, side: Side, byte: u32, reason: Reason) -> Error
+        ensures { result ≡ Error.Refused (record { place = Place.Record self.connections side self.records byte; reason = reason }) }
+    {
         self.fault_in(side, self.records, byte, reason)
     }
 
     /// A fault of the record that is open.
     pub(crate) fn next_record_fault(self, side: Side, byte: u32, reason: Reason) -> Error
         requires { IsSound self }
+        ensures { result ≡ Error.Refused (record { place = Place.Record self.connections side (self.records + 1) byte; reason = reason }) }
     {
         self.fault_in(side, self.records + 1, byte, reason)
     }
 
-    fn fault_in(self, side: Side, rec_no: u32, byte: u32, reason: Reason) -> Error {
+    fn fault_in(self, side: Side, rec_no: u32, byte: u32, reason: Reason) -> Error
+        ensures { result ≡ Error.Refused (record { place = Place.Record self.connections side rec_no byte; reason = reason }) }
+    {
         Error::Refused(Fault {
             place: Place::Record {
                 conn: self.connections,
@@ -233,7 +300,8 @@ impl Position {
         ensures count { result.count ≡ count }
         ensures sound { IsSound result.position }
         ensures room { room_of result.position + 1 ≤ room_of self }
-        ensures event { IsOfContainer result.event × (cost_of result.event ≡ 1) }
+        ensures event { result.event ≡ Some Event.Begin }
+        ensures machine { (joining : Joining) → unpacking_at result.position joining ≡ spec.before_stream self.at self.total (self.connections + 1) joining Side.Client }
     {
         Taken {
             count,
@@ -253,6 +321,7 @@ impl Position {
         ensures sound { IsSound result.position }
         ensures room { room_of result.position + 1 ≤ room_of self }
         ensures event { IsOfContainer result.event × (cost_of result.event ≡ 1) }
+        ensures machine { landed_at result.event (unpacking_at result.position Between) ≡ Stops (closed self.at self.total self.connections self.records side Between) }
     {
         match side {
             Side::Client => Taken {
@@ -277,6 +346,7 @@ impl Position {
         ensures at { result.at ≡ self.at + 4 }
         ensures counts { (result.total ≡ self.total) × (result.connections ≡ self.connections) × (result.records ≡ 0) }
         ensures spot { IsBeforeStream side result.spot }
+        ensures machine { (joining : Joining) → unpacking_at result joining ≡ spec.before_stream self.at self.total self.connections joining side }
     {
         Position {
             at: self.at + 4,
@@ -296,6 +366,7 @@ impl Position {
         ensures sound { IsSound result.position }
         ensures room { room_of result.position ≤ room_of self }
         ensures event { result.event ≡ None }
+        ensures machine { (joining : Joining) → Goes (unpacking_at result.position joining) ≡ counted self.at self.total self.connections self.records side joining len }
     {
         Taken {
             count,
@@ -311,7 +382,9 @@ impl Position {
 }
 
 /// A fault at a byte of the file.
-pub(crate) fn file_fault(at: u64, reason: Reason) -> Error {
+pub(crate) fn file_fault(at: u64, reason: Reason) -> Error
+    ensures { result ≡ Error.Refused (record { place = Place.File at; reason = reason }) }
+{
     Error::Refused(Fault {
         place: Place::File { at },
         reason,

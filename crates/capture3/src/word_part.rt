@@ -1,6 +1,6 @@
 // Words of the container that may be cut between two pieces.
 
-ghost use Rattle.std.specs.Prelude.{◌≡◌, ◌≤◌, ◌<◌, ◌+◌, length, IsNone};
+ghost use Rattle.std.specs.Prelude.{◌≡◌, ◌≤◌, ◌<◌, ◌+◌, ◌++◌, length, take};
 
 use byteorder::{BigEndian, ByteOrder};
 
@@ -13,6 +13,8 @@ pub(crate) struct WordPart {
 }
 
 impl WordPart {
+    ghost use Rattle.capture3.specs.Position.{TakesWord};
+
     pub(crate) fn new() -> WordPart
         ensures { result.count ≡ 0 }
     {
@@ -35,11 +37,11 @@ impl WordPart {
         requires { 0 < length rest.now }
         ensures some { 0 < result.0 }
         ensures within { result.0 ≤ length rest.now }
+        ensures word { TakesWord self rest.now result.0 result.1 }
     {
         let count = self.count as usize;
         let more = (4 - count).min(rest.len());
-        let mut bytes = self.bytes;
-        bytes[count..count + more].copy_from_slice(&rest[..more]);
+        let bytes = with_more(self.bytes, count, &rest[..more]);
         if count + more < 4 {
             let part = WordPart {
                 bytes,
@@ -49,6 +51,15 @@ impl WordPart {
         }
         (more, Word::Whole(BigEndian::read_u32(&bytes)))
     }
+}
+
+/// The word with its first `count` bytes kept and `more` behind them.
+fn with_more(mut word: [u8; 4], count: usize, more: &[u8]) -> [u8; 4]
+    requires { count + length more.now ≤ 4 }
+    ensures { take (count + length more.now) result ≡ take count word ++ more.now }
+{
+    word[count..count + more.len()].copy_from_slice(more);
+    word
 }
 
 /// A word, or what has come of it.

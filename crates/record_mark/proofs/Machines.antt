@@ -1,5 +1,5 @@
 -- Laws of every machine over bytes.
-use Rattle.std.proofs.Common.{◌≡◌, ◌≢◌, ℕ, suc, ◌+◌, ap₂, List, [], ◌∷◌, ◌++◌, length, refl, sym, ap, subst, ◌∙◌, append_assoc, append-nil, arith}
+use Rattle.std.proofs.Common.{zero-add, ◌≡◌, ◌≢◌, ℕ, suc, ◌+◌, ap₂, List, [], ◌∷◌, ◌++◌, length, refl, sym, ap, subst, ◌∙◌, append_assoc, append-nil, arith}
 use Rattle.record_mark.specs.Machine.{Next, Goes, Ends, Run, Runs, Stops, Stopped, landed, step, after, within, last_running}
 
 -- it does not matter how the bytes are cut
@@ -79,8 +79,8 @@ runs_on : {S X T Y : Type 0} (inner : S → ℕ → Next S X) (outer : T → ℕ
 runs_on inner outer inside closing bytes t end on (Goes s) e = on s e
 runs_on inner outer inside closing bytes t end on (Ends x) e = absurd (not_runs inner x t bytes e)
 
-pub counted_runs : {S X T Y : Type 0} (inner : S → ℕ → Next S X) (outer : T → ℕ → Next T Y) (inside : ℕ → S → T) (closing : X → Next T Y)
-    → ((n : ℕ) (s : S) (byte : ℕ) → outer (inside (suc n) s) byte ≡ within (inside n) closing (inner s byte))
+pub counted_runs : {S X T Y : Type 0} (inner : S → ℕ → Next S X) (outer : T → ℕ → Next T Y) (inside : ℕ → S → T) (closing : ℕ → X → Next T Y)
+    → ((n : ℕ) (s : S) (byte : ℕ) → outer (inside (suc n) s) byte ≡ within (inside n) (closing n) (inner s byte))
     → (bytes : List ℕ) (n m : ℕ) (s t : S) → n ≡ length bytes + m → after inner (Runs s) bytes ≡ Runs t → after outer (Runs (inside n s)) bytes ≡ Runs (inside m t)
 counted_runs inner outer inside closing commutes [] n m s t size e =
     let same : s ≡ t = cc in
@@ -90,38 +90,40 @@ counted_runs inner outer inside closing commutes (byte ∷ bytes) n m s t size e
     let more : n ≡ suc (length bytes + m) = omega arith in
     ap (λ k. after outer (Runs (inside k s)) (byte ∷ bytes)) more
     ∙ ap (λ next. after outer (landed next) bytes) (commutes (length bytes + m) s byte)
-    ∙ runs_on inner outer (inside (length bytes + m)) closing bytes t (inside m t) (λ u. counted_runs inner outer inside closing commutes bytes (length bytes + m) m u t refl) (inner s byte) e
+    ∙ runs_on inner outer (inside (length bytes + m)) (closing (length bytes + m)) bytes t (inside m t) (λ u. counted_runs inner outer inside closing commutes bytes (length bytes + m) m u t refl) (inner s byte) e
 
 -- where the inner machine stops, the outer one closes it
-stops_on : {S X T Y : Type 0} (inner : S → ℕ → Next S X) (outer : T → ℕ → Next T Y) (inside : S → T) (closing : X → Next T Y) (bytes : List ℕ) (x : X)
-    → ((s : S) → after inner (Runs s) bytes ≡ Stops x → after outer (Runs (inside s)) bytes ≡ landed (closing x))
-    → (n : Next S X) → after inner (landed n) bytes ≡ Stops x → after outer (landed (within inside closing n)) bytes ≡ landed (closing x)
-stops_on inner outer inside closing bytes x on (Goes s) e = on s e
-stops_on inner outer inside closing bytes x on (Ends y) e =
+stops_on : {S X T Y : Type 0} (inner : S → ℕ → Next S X) (outer : T → ℕ → Next T Y) (inside : S → T) (closing : ℕ → X → Next T Y) (bytes : List ℕ) (m : ℕ) (x : X)
+    → ((s : S) → after inner (Runs s) bytes ≡ Stops x → after outer (Runs (inside s)) bytes ≡ landed (closing m x))
+    → (n : Next S X) → after inner (landed n) bytes ≡ Stops x → after outer (landed (within inside (closing (length bytes + m)) n)) bytes ≡ landed (closing m x)
+stops_on inner outer inside closing bytes m x on (Goes s) e = on s e
+stops_on inner outer inside closing bytes m x on (Ends y) e =
     let (none, same) = only_stops inner y x bytes e in
-    ap (λ b. after outer (landed (closing y)) b) none ∙ ap (λ z. landed (closing z)) same
+    let size : length bytes + m ≡ m = ap (λ b. length b + m) none ∙ zero-add m in
+    ap (λ b. after outer (landed (closing (length bytes + m) y)) b) none ∙ ap (λ k. landed (closing k y)) size ∙ ap (λ z. landed (closing m z)) same
 
-pub counted_stops : {S X T Y : Type 0} (inner : S → ℕ → Next S X) (outer : T → ℕ → Next T Y) (inside : ℕ → S → T) (closing : X → Next T Y)
-    → ((n : ℕ) (s : S) (byte : ℕ) → outer (inside (suc n) s) byte ≡ within (inside n) closing (inner s byte))
-    → (bytes : List ℕ) (n m : ℕ) (s : S) (x : X) → n ≡ length bytes + m → after inner (Runs s) bytes ≡ Stops x → after outer (Runs (inside n s)) bytes ≡ landed (closing x)
+-- What closes may count the bytes that are left, too.
+pub counted_stops : {S X T Y : Type 0} (inner : S → ℕ → Next S X) (outer : T → ℕ → Next T Y) (inside : ℕ → S → T) (closing : ℕ → X → Next T Y)
+    → ((n : ℕ) (s : S) (byte : ℕ) → outer (inside (suc n) s) byte ≡ within (inside n) (closing n) (inner s byte))
+    → (bytes : List ℕ) (n m : ℕ) (s : S) (x : X) → n ≡ length bytes + m → after inner (Runs s) bytes ≡ Stops x → after outer (Runs (inside n s)) bytes ≡ landed (closing m x)
 counted_stops inner outer inside closing commutes [] n m s x size e = cc
 counted_stops inner outer inside closing commutes (byte ∷ bytes) n m s x size e =
     let more : n ≡ suc (length bytes + m) = omega arith in
     ap (λ k. after outer (Runs (inside k s)) (byte ∷ bytes)) more
     ∙ ap (λ next. after outer (landed next) bytes) (commutes (length bytes + m) s byte)
-    ∙ stops_on inner outer (inside (length bytes + m)) closing bytes x (λ u. counted_stops inner outer inside closing commutes bytes (length bytes + m) m u x refl) (inner s byte) e
+    ∙ stops_on inner outer (inside (length bytes + m)) closing bytes m x (λ u. counted_stops inner outer inside closing commutes bytes (length bytes + m) m u x refl) (inner s byte) e
 
 pub nested_runs : {S X T Y : Type 0} (inner : S → ℕ → Next S X) (outer : T → ℕ → Next T Y) (inside : S → T) (closing : X → Next T Y)
     → ((s : S) (byte : ℕ) → outer (inside s) byte ≡ within inside closing (inner s byte))
     → (bytes : List ℕ) (s t : S) → after inner (Runs s) bytes ≡ Runs t → after outer (Runs (inside s)) bytes ≡ Runs (inside t)
 nested_runs inner outer inside closing commutes bytes s t =
     let size : length bytes + 0 ≡ length bytes + 0 = refl in
-    counted_runs inner outer (λ _. inside) closing (λ _. commutes) bytes (length bytes + 0) 0 s t size
+    counted_runs inner outer (λ _. inside) (λ _. closing) (λ _. commutes) bytes (length bytes + 0) 0 s t size
 
 pub nested_stops : {S X T Y : Type 0} (inner : S → ℕ → Next S X) (outer : T → ℕ → Next T Y) (inside : S → T) (closing : X → Next T Y)
     → ((s : S) (byte : ℕ) → outer (inside s) byte ≡ within inside closing (inner s byte))
     → (bytes : List ℕ) (s : S) (x : X) → after inner (Runs s) bytes ≡ Stops x → after outer (Runs (inside s)) bytes ≡ landed (closing x)
-nested_stops inner outer inside closing commutes bytes s x = counted_stops inner outer (λ _. inside) closing (λ _. commutes) bytes (length bytes + 0) 0 s x refl
+nested_stops inner outer inside closing commutes bytes s x = counted_stops inner outer (λ _. inside) (λ _. closing) (λ _. commutes) bytes (length bytes + 0) 0 s x refl
 
 -- before the last byte it ran
 ran : {S X : Type 0} (next : S → ℕ → Next S X) (run : Run S X) (byte : ℕ) (bytes : List ℕ) (x : X) → after next run (byte ∷ bytes) ≡ Stops x → (s : S) × (run ≡ Runs s)

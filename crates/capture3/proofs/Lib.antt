@@ -1,0 +1,4 @@
+-- Lemmas of captures.
+pub mod Unpackings
+pub mod Positions
+pub mod Containers
