@@ -1,0 +1,74 @@
+-- The first fault of a file.
+use Rattle.std.specs.Prelude.{◌≡◌, ◌≢◌, ◌⊎◌, ℕ, suc, ◌+◌, ◌<◌, ◌≤◌, List, [], ◌∷◌, ◌++◌, length}
+use Rattle.record_mark.specs.Word.{IsWord, Joins}
+use Rattle.xdr3.specs.declared.reason.Reason.TheVariants.{BadMagic, CaptureCut, BadMark, AfterEnd, TooManyConnections}
+use Rattle.capture3.specs.declared.fault.Fault.{Fault}
+use Rattle.capture3.specs.Capture.{Version, magic, max_connections, Streams, total_size, IsConnection}
+use Rattle.capture3.specs.Chunks.{max_bytes}
+use Rattle.capture3.specs.Connections.{Refusal, refusal, ConnectionShows}
+use Rattle.capture3.specs.Entry.{Entry}
+use Rattle.capture3.specs.Sides.{file_fault}
+use Rattle.capture3.specs.Typed.{HaveEntries, IsWellFormed}
+
+-- the magic and whole connections, with these entries
+pub record Opens (version : Version) (bytes : List ℕ) (connections : List Streams) (entries : List Entry) : Type 0 where
+  pub rest : List ℕ
+  pub split : bytes ≡ magic version ++ rest
+  pub joined : Joins (IsConnection version) rest connections
+  pub messages : HaveEntries connections entries
+  pub few : length connections ≤ max_connections
+  pub small : total_size connections ≤ max_bytes
+
+-- a byte among the first 8, which differs from that of each magic
+pub record DiffersFromMagic (bytes : List ℕ) (fault : Fault) : Type 0 where
+  pub front : List ℕ
+  pub byte : ℕ
+  pub split : bytes ≡ front ++ byte ∷ []
+  pub version : Version
+  pub due : ℕ
+  pub more : List ℕ
+  pub begins : magic version ≡ front ++ due ∷ more
+  pub differs : (other : Version) (expected : ℕ) (rest : List ℕ) → magic other ≡ front ++ expected ∷ rest → byte ≢ expected
+  pub is : fault ≡ file_fault (length front) BadMagic
+
+-- whole connections, a connection word, and what comes behind it
+pub record BehindConnections (bytes : List ℕ) : Type 0 where
+  pub version : Version
+  pub front : List ℕ
+  pub word : List ℕ
+  pub rest : List ℕ
+  pub connections : List Streams
+  pub entries : List Entry
+  pub mark : ℕ
+  pub split : bytes ≡ front ++ word ++ rest
+  pub opens : Opens version front connections entries
+  pub is_word : IsWord word mark
+
+-- the rules: the last byte of these bytes shows this fault
+pub data Rule (bytes : List ℕ) (shown : Refusal) : Type 0 where
+  -- a byte among the first 8 differs from the magic's
+  MagicDiffers : DiffersFromMagic bytes shown.fault → shown ≡ refusal shown.fault → Rule bytes shown
+  -- a whole connection word is not 0 or 1
+  MarkIsBad : (b : BehindConnections bytes) → b.rest ≡ [] → 1 < b.mark → shown ≡ refusal (file_fault (length b.front) BadMark) → Rule bytes shown
+  -- it is 1 after 65,535 connections
+  ConnectionIsTooMany : (b : BehindConnections bytes) → b.rest ≡ [] → b.mark ≡ 1 → length b.connections ≡ max_connections → shown ≡ refusal (file_fault (length b.front) TooManyConnections) → Rule bytes shown
+  -- in a connection
+  WithinConnection : (b : BehindConnections bytes) → b.mark ≡ 1 → length b.connections < max_connections
+      → ConnectionShows b.version (record { number = suc (length b.connections); start = length b.front + 4; before = total_size b.connections }) b.rest shown → Rule bytes shown
+  -- a byte after the last word 0
+  ByteBehindEnd : (b : BehindConnections bytes) → b.mark ≡ 0 → length b.rest ≡ 1 → shown ≡ refusal (file_fault (length b.front + 4) AfterEnd) → Rule bytes shown
+
+-- A rule holds of the bytes, and none of any shorter prefix.
+pub record Shows (bytes : List ℕ) (shown : Refusal) : Type 0 where
+  pub rule : Rule bytes shown
+  pub first : (front more : List ℕ) (byte : ℕ) (other : Refusal) → bytes ≡ front ++ byte ∷ more → Rule front other → ⊥
+
+-- no prefix shows a fault
+abbrev pub IsClean : List ℕ → Type 0
+IsClean bytes = (front rest : List ℕ) (shown : Refusal) → bytes ≡ front ++ rest → Shows front shown → ⊥
+
+-- A prefix of the file shows the fault; or the file is clean and not well formed, and is cut at its length.
+abbrev pub FirstFault : List ℕ → Fault → Type 0
+FirstFault file fault =
+    ((front : List ℕ) × (rest : List ℕ) × (shown : Refusal) × (file ≡ front ++ rest) × Shows front shown × (fault ≡ shown.fault))
+    ⊎ (IsClean file × (IsWellFormed file → ⊥) × (fault ≡ file_fault (length file) CaptureCut))

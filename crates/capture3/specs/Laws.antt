@@ -1,0 +1,73 @@
+-- Laws of captures.
+use Rattle.std.specs.Prelude.{◌≡◌, ◌⊎◌, ◌↔◌, ℕ, ◌+◌, ◌≤◌, List, [], ◌∷◌, ◌++◌, length}
+use Rattle.xdr3.specs.declared.reason.Reason.TheVariants.{CaptureCut}
+use Rattle.xdr3.specs.declared.reason.Stop.{Stop}
+use Rattle.xdr3.specs.Item.{Item, zero_spelling}
+use Rattle.capture3.specs.declared.fault.Fault.{Fault}
+use Rattle.capture3.specs.Bodies.{ReplyItems}
+use Rattle.capture3.specs.Capture.{Streams, max_connections}
+use Rattle.capture3.specs.Chunks.{max_bytes}
+use Rattle.capture3.specs.Connections.{calls_in_turn, replies_to}
+use Rattle.capture3.specs.Entry.{Entry, Begin, Call, Turn, Reply, Close, End}
+use Rattle.capture3.specs.FirstFault.{FirstFault}
+use Rattle.capture3.specs.Records.{Judgement, Holds}
+use Rattle.capture3.specs.Sides.{file_fault}
+use Rattle.capture3.specs.Typed.{Converses, Typed}
+
+-- one list of entries is Typed, and there is no first fault
+pub record HasEntries (file : List ℕ) : Type 0 where
+  pub entries : List Entry
+  pub typed : Typed file entries
+  pub only : (others : List Entry) → Typed file others → others ≡ entries
+  pub sound : (fault : Fault) → FirstFault file fault → ⊥
+
+-- one fault is the first, and no list of entries is Typed
+pub record HasFault (file : List ℕ) : Type 0 where
+  pub fault : Fault
+  pub first : FirstFault file fault
+  pub only : (other : Fault) → FirstFault file other → other ≡ fault
+  pub refused : (entries : List Entry) → Typed file entries → ⊥
+
+-- exactly one of them holds
+abbrev pub HasOneVerdict : List ℕ → Type 0
+HasOneVerdict file = HasEntries file ⊎ HasFault file
+
+-- each shorter prefix of a well-formed file is cut at its own length
+abbrev pub IsCutShort : List ℕ → Type 0
+IsCutShort file = (entries : List Entry) (front more : List ℕ) (byte : ℕ) → Typed file entries → file ≡ front ++ byte ∷ more → FirstFault front (file_fault (length front) CaptureCut)
+
+-- a body is accepted as one message, or refused with one fault, and not both
+pub record IsJudgedOnce {M : Type 0} (judge : Judgement M) (before : List M) (body : List ℕ) : Type 0 where
+  pub one : ((m : M) × judge.accepts before body m) ⊎ ((stop : Stop) × judge.refuses before body stop)
+  pub not_both : (m : M) (stop : Stop) → judge.accepts before body m → judge.refuses before body stop → ⊥
+  pub same_message : (m n : M) → judge.accepts before body m → judge.accepts before body n → m ≡ n
+  pub same_fault : (stop other : Stop) → judge.refuses before body stop → judge.refuses before body other → stop ≡ other
+
+-- judging body by body says the same of a connection as what its messages are together
+abbrev pub IsJudgedInTurn : Streams → List (List Item) → List ReplyItems → Type 0
+IsJudgedInTurn streams calls replies = Converses streams calls replies ↔ (Holds calls_in_turn streams.client calls × Holds (replies_to calls) streams.server replies)
+
+-- how many connections entries begin
+abbrev pub begins : List Entry → ℕ
+begins [] = 0
+begins (Begin ∷ entries) = 1 + begins entries
+begins (Call items ∷ entries) = begins entries
+begins (Turn ∷ entries) = begins entries
+begins (Reply id items ∷ entries) = begins entries
+begins (Close ∷ entries) = begins entries
+begins (End ∷ entries) = begins entries
+
+-- how many bytes the zero spellings of their messages have together
+abbrev pub spelled : List Entry → ℕ
+spelled [] = 0
+spelled (Begin ∷ entries) = spelled entries
+spelled (Call items ∷ entries) = length (zero_spelling items) + spelled entries
+spelled (Turn ∷ entries) = spelled entries
+spelled (Reply id items ∷ entries) = length (zero_spelling items) + spelled entries
+spelled (Close ∷ entries) = spelled entries
+spelled (End ∷ entries) = spelled entries
+
+-- entries of a capture within the limits
+pub record AreWithinLimits (entries : List Entry) : Type 0 where
+  pub few : begins entries ≤ max_connections
+  pub small : spelled entries ≤ max_bytes

@@ -1,0 +1,48 @@
+-- The machine for one connection, behind its word 1.
+use Rattle.std.specs.Prelude.{ℕ, List, ◌∷◌, ◌++◌, map}
+use Rattle.xdr3.specs.Item.{Item}
+use Rattle.record_mark.specs.Machine.{Next, Goes, Ends, within}
+use Rattle.capture3.specs.declared.fault.Side.TheVariants.{Client, Server}
+use Rattle.capture3.specs.Bodies.{ReplyItems}
+use Rattle.capture3.specs.Capture.{Version, One}
+use Rattle.capture3.specs.Connections.{Refusal, refusal}
+use Rattle.capture3.specs.Entry.{Entry, Begin, Call, Turn}
+use Rattle.capture3.specs.Judging.{judge_call, judge_reply}
+use Rattle.capture3.specs.Reading.{Judge}
+use Rattle.capture3.specs.Sides.{place_at}
+use Rattle.capture3.specs.Siding.{Siding, SideEnd, SideCloses, SideRefuses, side_next, siding_from}
+use Rattle.capture3.specs.Typed.{reply_entry, connection_entries}
+
+-- replies are judged by the calls, and not by the replies before
+abbrev pub judge_replies : List (List Item) → Judge ReplyItems
+judge_replies calls = λ _. judge_reply calls
+
+pub data Opening : Type 0 where
+  InClient : Siding (List Item) → Opening
+  InServer : (calls : List (List Item)) → Siding ReplyItems → Opening
+
+pub data Closing : Type 0 where
+  Closes : (at total : ℕ) → (entries : List Entry) → Closing
+  Refuses : Refusal → Closing
+
+-- the client side is whole
+abbrev pub turning : SideEnd (List Item) → Next Opening Closing
+turning (SideCloses at total calls) = Goes (InServer calls (siding_from at total))
+turning (SideRefuses fault) = Ends (Refuses (refusal fault))
+
+-- the server side is whole
+abbrev pub ending : List (List Item) → SideEnd ReplyItems → Next Opening Closing
+ending calls (SideCloses at total replies) = Ends (Closes at total (connection_entries calls replies))
+ending calls (SideRefuses fault) = Ends (Refuses (refusal fault))
+
+abbrev pub opening_next : ℕ → Opening → ℕ → Next Opening Closing
+opening_next number (InClient s) byte = within InClient turning (side_next judge_call (place_at number Client) s byte)
+opening_next number (InServer calls s) byte = within (InServer calls) (ending calls) (side_next (judge_replies calls) (place_at number Server) s byte)
+
+abbrev pub opened : Version → ℕ → ℕ → Opening
+opened One start before = InClient (siding_from start before)
+
+-- the entries of a connection that are whole
+abbrev pub opening_entries : Opening → List Entry
+opening_entries (InClient s) = Begin ∷ map Call s.reading.messages
+opening_entries (InServer calls s) = (Begin ∷ map Call calls) ++ (Turn ∷ map reply_entry s.reading.messages)

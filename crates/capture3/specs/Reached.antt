@@ -1,0 +1,63 @@
+-- The entries that a prefix of a file reaches.
+use Rattle.std.specs.Prelude.{◌≡◌, ◌⊎◌, ℕ, ◌+◌, ◌<◌, ◌≤◌, List, [], ◌∷◌, ◌++◌, length, map}
+use Rattle.record_mark.specs.Word.{IsWord}
+use Rattle.xdr3.specs.Item.{Item}
+use Rattle.capture3.specs.Bodies.{ReplyItems}
+use Rattle.capture3.specs.Capture.{Version, One, magic, max_connections, Streams, total_size}
+use Rattle.capture3.specs.Chunks.{max_bytes, IsStream, BeginsStream}
+use Rattle.capture3.specs.Connections.{Refusal, calls_in_turn, replies_to}
+use Rattle.capture3.specs.Entry.{Entry, Begin, Call, Turn}
+use Rattle.capture3.specs.FirstFault.{Opens, Shows, IsClean}
+use Rattle.capture3.specs.Records.{Holds, HoldsSoFar}
+use Rattle.capture3.specs.Typed.{reply_entry, Typed, IsWellFormed}
+
+-- in the client stream, behind so many stream bytes before: the calls whose records are whole
+pub record ReachesCalls (before : ℕ) (bytes : List ℕ) (entries : List Entry) : Type 0 where
+  pub stream : List ℕ
+  pub calls : List (List Item)
+  pub begins : BeginsStream before bytes stream
+  pub holds : HoldsSoFar calls_in_turn stream calls
+  pub entries_are : entries ≡ Begin ∷ map Call calls
+
+-- behind the client stream: all calls, and the replies whose records are whole
+pub record ReachesReplies (before : ℕ) (bytes : List ℕ) (entries : List Entry) : Type 0 where
+  pub front : List ℕ
+  pub last : List ℕ
+  pub client : List ℕ
+  pub server : List ℕ
+  pub calls : List (List Item)
+  pub replies : List ReplyItems
+  pub split : bytes ≡ front ++ last
+  pub first : IsStream front client
+  pub holds : Holds calls_in_turn client calls
+  pub fits : before + length client ≤ max_bytes
+  pub begins : BeginsStream (before + length client) last server
+  pub answers : HoldsSoFar (replies_to calls) server replies
+  pub entries_are : entries ≡ (Begin ∷ map Call calls) ++ (Turn ∷ map reply_entry replies)
+
+-- what is whole of a connection that is not, behind its word 1
+abbrev pub ReachesInside : Version → ℕ → List ℕ → List Entry → Type 0
+ReachesInside One before bytes entries = ReachesCalls before bytes entries ⊎ ReachesReplies before bytes entries
+
+-- what is whole in bytes that show no fault
+pub data AreWhole (bytes : List ℕ) (entries : List Entry) : Type 0 where
+  -- a part of a magic
+  InMagic : (version : Version) (more : List ℕ) → magic version ≡ bytes ++ more → entries ≡ [] → AreWhole bytes entries
+  -- whole connections, and a part of a connection word, or the last word 0
+  BetweenConnections : (version : Version) (front part : List ℕ) (connections : List Streams) → bytes ≡ front ++ part → Opens version front connections entries → (length part < 4) ⊎ IsWord part 0 → AreWhole bytes entries
+  -- whole connections, the word 1, and a connection that is not whole
+  InConnection : (version : Version) (front mark rest : List ℕ) (connections : List Streams) (before more : List Entry) → bytes ≡ front ++ mark ++ rest → Opens version front connections before → IsWord mark 1 → length connections < max_connections
+      → ReachesInside version (total_size connections) rest more → entries ≡ before ++ more → AreWhole bytes entries
+
+-- the longest clean prefix of the bytes, and the entries that the byte after it still reaches, whose fault it shows
+pub record IsLongestClean (bytes front : List ℕ) (more : List Entry) : Type 0 where
+  pub rest : List ℕ
+  pub split : bytes ≡ front ++ rest
+  pub clean : IsClean front
+  pub longest : ((rest ≡ []) × (more ≡ [])) ⊎ ((byte : ℕ) × (back : List ℕ) × (shown : Refusal) × (rest ≡ byte ∷ back) × Shows (front ++ byte ∷ []) shown × (more ≡ shown.more))
+
+-- The entries that are whole in the longest clean prefix. The capture's end is one of them only where the bytes are well formed.
+abbrev pub Reached : List ℕ → List Entry → Type 0
+Reached bytes entries =
+    Typed bytes entries
+    ⊎ ((IsWellFormed bytes → ⊥) × (front : List ℕ) × (whole : List Entry) × (more : List Entry) × IsLongestClean bytes front more × AreWhole front whole × (entries ≡ whole ++ more))
