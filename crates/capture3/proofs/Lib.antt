@@ -2,3 +2,4 @@
 pub mod Unpackings
 pub mod Positions
 pub mod Containers
+pub mod Judgements

@@ -10,6 +10,8 @@ pub mod Chunks
 pub mod Connections
 pub mod FirstFault
 pub mod Judging
+pub mod Calls
+pub mod Messages
 pub mod Laws
 pub mod Opening
 pub mod Parsing

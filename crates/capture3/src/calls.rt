@@ -1,6 +1,7 @@
 // The calls of a connection.
 
-ghost use Rattle.std.specs.Prelude.{◌≡◌, [], ◌∷◌, ◌++◌, OnOk, OnErr};
+ghost use Rattle.std.specs.Prelude.{◌≡◌, [], OnOk, OnErr};
+ghost use Rattle.capture3.specs.Calls.{found, with_call};
 
 use rpc_head::ProcId;
 use std::alloc::{AllocError, Global};
@@ -44,13 +45,15 @@ impl CallList {
     }
 
     /// The procedure of the calls with this xid.
-    pub(crate) fn procedure_of(&self, xid: u32) -> Option<ProcId> {
-        let call = self.calls.iter().find(|call| call.xid == xid)?;
-        Some(call.id)
+    pub(crate) fn procedure_of(&self, xid: u32) -> Option<ProcId>
+        ensures { result ≡ found self.now xid }
+    {
+        procedure_in(&self.calls, xid)
     }
 
     /// Adds a call, unless its xid is there.
     pub(crate) fn add(&mut self, xid: u32, id: ProcId) -> Result<(), AllocError>
+        ensures ok { OnOk result (self.new ≡ with_call self.old xid id) }
         ensures err { OnErr result (self.new ≡ self.old) }
     {
         if self.procedure_of(xid).is_none() {
@@ -58,4 +61,15 @@ impl CallList {
         }
         Ok(())
     }
+}
+
+fn procedure_in(calls: &[NumberedCall], xid: u32) -> Option<ProcId>
+    ensures { result ≡ found calls.now xid }
+{
+    for call in calls {
+        if call.xid == xid {
+            return Some(call.id);
+        }
+    }
+    None
 }

@@ -1,2 +1,1 @@
 //! Laws over the definitions of captures.
-

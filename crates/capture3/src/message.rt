@@ -1,6 +1,12 @@
 // Whole messages.
 
-ghost use Rattle.std.specs.Prelude.{◌≤◌, length};
+ghost use Rattle.std.specs.Prelude.{◌≡◌, ◌≤◌, List, length};
+ghost use Rattle.procs3.specs.Table.{results_of};
+ghost use Rattle.xdr3.specs.Gives.{Gives};
+ghost use Rattle.xdr3.specs.Item.{Item};
+ghost use Rattle.xdr3.specs.View.{MovesOn};
+ghost use Rattle.capture3.specs.Judging as spec;
+ghost use Rattle.capture3.specs.Messages.{answered_items, behind_items, call_items, IsTableOf, Judged, reading_behind};
 
 use crate::calls::CallList;
 use procs3::{Args, Results};
@@ -33,6 +39,7 @@ pub(crate) fn judge_call<'a>(
     body: &'a [u8],
 ) -> Result<CallMsg<'a>, GetError>
     requires { length body.now ≤ 16777216 }
+    ensures { (before : List (List Item)) → IsTableOf calls.now before → Judged call_items result (spec.judge_call before body.now) }
 {
     let mut input = Input::new(body);
     let start = start(&mut input)?;
@@ -59,6 +66,7 @@ pub(crate) fn judge_reply<'a>(
     body: &'a [u8],
 ) -> Result<ReplyMsg<'a>, GetError>
     requires { length body.now ≤ 16777216 }
+    ensures { (before : List (List Item)) → IsTableOf calls.now before → Judged answered_items result (spec.judge_reply before body.now) }
 {
     let mut input = Input::new(body);
     let start = start(&mut input)?;
@@ -85,7 +93,11 @@ fn results_after<'a>(
     id: ProcId,
     head: &ReplyHead<'a>,
     input: &mut Input<'a>,
-) -> Result<Option<Results<'a>>, GetError> {
+) -> Result<Option<Results<'a>>, GetError>
+    ensures read { Gives behind_items result input.new.at (reading_behind head.now (results_of id) input.old.body input.old.at) }
+    ensures moves { MovesOn input.old input.new }
+{
+    input.at();
     match head {
         ReplyHead::Accepted(_, Accept::Success) => {
             let results = Results::get(alloc, id, input)?;
@@ -95,6 +107,8 @@ fn results_after<'a>(
     }
 }
 
-fn stop(at: u32, reason: Reason) -> GetError {
+fn stop(at: u32, reason: Reason) -> GetError
+    ensures { result ≡ GetError.Stop (record { at = at; reason = reason }) }
+{
     GetError::Stop(Stop { at, reason })
 }

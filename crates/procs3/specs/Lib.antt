@@ -1,1 +1,4 @@
+-- Arguments and results by procedure.
 pub mod Table
+pub mod Items
+pub mod Names

@@ -1,0 +1,210 @@
+-- Judging a body as the code does: its first two words, its side, its head, what stands behind the head, its end.
+use Rattle.std.proofs.Common.{◌≡◌, ◌≢◌, ℕ, Bool, true, false, cond, List, [], ◌∷◌, ◌++◌, length, Option, Some, None, Result, Ok, Err, refl, sym, ap, ◌∙◌, append_assoc, append-nil, eq-eqb, nat_eq}
+use Rattle.std.proofs.lemmas.Bool.{ne_eqb}
+use Rattle.xdr3.specs.declared.reason.Reason.TheVariants.{Trailing, WrongSide, NoCall, XidConflict}
+use Rattle.xdr3.specs.declared.reason.Stop.{Stop}
+use Rattle.xdr3.specs.Item.{Item, followed_by}
+use Rattle.xdr3.specs.Layout.{Layout, reading_layout}
+use Rattle.xdr3.specs.Reading.{◌>>=◌, reading, refused}
+use Rattle.xdr3.proofs.Linked.{with_front}
+use Rattle.rpc_head.specs.declared.call.CallHead.{CallHead}
+use Rattle.rpc_head.specs.declared.call.ProcId.{ProcId}
+use Rattle.rpc_head.specs.declared.message.Start.{Start}
+use Rattle.rpc_head.specs.declared.reply.Accept.TheVariants.{Success, ProgUnavail, ProgMismatch, ProcUnavail, GarbageArgs, SystemErr}
+use Rattle.rpc_head.specs.declared.reply.ReplyHead.{ReplyHead}
+use Rattle.rpc_head.specs.declared.reply.ReplyHead.TheVariants.{Accepted, Denied}
+use Rattle.rpc_head.specs.Calls.{call_head_items}
+use Rattle.rpc_head.specs.Messages.{call_layout, reply_layout, procedure_in}
+use Rattle.rpc_head.specs.Replies.{reply_head_items}
+use Rattle.rpc_head.specs.Shapes.{call_head, message_start, reply_head}
+use Rattle.rpc_head.specs.Starts.{start_items}
+use Rattle.rpc_head.proofs.Messages.{call_read, call_head_refused, reply_read, reply_head_refused, results_behind}
+use Rattle.procs3.specs.Table.{arguments_of, results_of}
+use Rattle.capture3.specs.Bodies.{ReplyItems, procedure_of, xid_in}
+use Rattle.capture3.specs.Judging.{judge_call, judge_reply, read_whole, ended, agreed, agrees, is_same, answering}
+use Rattle.capture3.specs.Messages.{reading_behind}
+
+-- ---- a whole layout, read in parts
+
+whole_ends : (layout : Layout) (body : List ℕ) (front more : List Item) (end to : ℕ) → reading_layout layout body 0 ≡ with_front front (Ok (more, to)) → to ≡ length body
+    → read_whole layout body ≡ Ok (front ++ more)
+unfolding with_front
+whole_ends layout body front more end to read is =
+    ap (λ r. r >>= ended body) read ∙ ap (λ b. cond b (Ok (front ++ more)) (refused to Trailing)) (eq-eqb to (length body) is)
+
+whole_trails : (layout : Layout) (body : List ℕ) (front more : List Item) (end to : ℕ) → reading_layout layout body 0 ≡ with_front front (Ok (more, to)) → to ≢ length body
+    → read_whole layout body ≡ refused to Trailing
+unfolding with_front
+whole_trails layout body front more end to read other =
+    ap (λ r. r >>= ended body) read ∙ ap (λ b. cond b (Ok (front ++ more)) (refused to Trailing)) (ne_eqb to (length body) other)
+
+whole_refused : (layout : Layout) (body : List ℕ) (stop : Stop) → reading_layout layout body 0 ≡ Err stop → read_whole layout body ≡ Err stop
+whole_refused layout body stop read = ap (λ r. r >>= ended body) read
+
+front_refused : (front : List Item) (stop : Stop) → with_front front (Err stop) ≡ Err stop
+unfolding with_front
+front_refused front stop = refl
+
+-- ---- calls
+
+-- what was read of a call: its start and its head
+pub record CallBegins (body : List ℕ) (s : Start) (h : CallHead) (head end : ℕ) : Type 0 where
+  pub start : reading message_start body 0 ≡ Ok (start_items s, head)
+  pub is_call : s.is_reply ≡ false
+  pub read : reading call_head body head ≡ Ok (call_head_items h, end)
+
+pub call_bad_start : (before : List (List Item)) (body : List ℕ) (stop : Stop) → reading message_start body 0 ≡ Err stop → judge_call before body ≡ Err stop
+unfolding judge_call
+call_bad_start before body stop e = rw e refl
+
+pub call_wrong_side : (before : List (List Item)) (body : List ℕ) (s : Start) (to : ℕ) → reading message_start body 0 ≡ Ok (start_items s, to) → s.is_reply ≡ true
+    → judge_call before body ≡ refused 4 WrongSide
+unfolding judge_call
+call_wrong_side before body s to e is = rw (e, is) refl
+
+-- on the right side the whole call is read
+call_read_on : (before : List (List Item)) (body : List ℕ) (s : Start) (to : ℕ) → reading message_start body 0 ≡ Ok (start_items s, to) → s.is_reply ≡ false
+    → judge_call before body ≡ (read_whole (call_layout arguments_of) body >>= agreed before)
+unfolding judge_call
+call_read_on before body s to e is = rw (e, is) refl
+
+pub call_bad_head : (before : List (List Item)) (body : List ℕ) (s : Start) (stop : Stop) (head : ℕ) → reading message_start body 0 ≡ Ok (start_items s, head) → s.is_reply ≡ false
+    → reading call_head body head ≡ Err stop → judge_call before body ≡ Err stop
+call_bad_head before body s stop head e is read =
+    call_read_on before body s head e is
+    ∙ ap (λ r. r >>= agreed before) (whole_refused (call_layout arguments_of) body stop (call_head_refused arguments_of body s stop 0 head e is read))
+
+pub call_bad_arguments : (before : List (List Item)) (body : List ℕ) (s : Start) (h : CallHead) (head end : ℕ) (stop : Stop) → CallBegins body s h head end
+    → reading_layout (arguments_of h.id) body end ≡ Err stop → judge_call before body ≡ Err stop
+call_bad_arguments before body s h head end stop b read =
+    call_read_on before body s head b.start b.is_call
+    ∙ ap (λ r. r >>= agreed before)
+    (whole_refused (call_layout arguments_of) body stop
+    (call_read arguments_of body s h 0 head end b.start b.is_call b.read ∙ ap (with_front (start_items s ++ call_head_items h)) read ∙ front_refused (start_items s ++ call_head_items h) stop))
+
+pub call_trails : (before : List (List Item)) (body : List ℕ) (s : Start) (h : CallHead) (head end to : ℕ) (more : List Item) → CallBegins body s h head end
+    → reading_layout (arguments_of h.id) body end ≡ Ok (more, to) → to ≢ length body → judge_call before body ≡ refused to Trailing
+call_trails before body s h head end to more b read other =
+    call_read_on before body s head b.start b.is_call
+    ∙ ap (λ r. r >>= agreed before)
+    (whole_trails (call_layout arguments_of) body (start_items s ++ call_head_items h) more end to
+    (call_read arguments_of body s h 0 head end b.start b.is_call b.read ∙ ap (with_front (start_items s ++ call_head_items h)) read) other)
+
+-- a whole call's items, as its value has them
+abbrev pub whole_call : Start → CallHead → List Item → List Item
+whole_call s h more = followed_by (start_items s) (followed_by (call_head_items h) more)
+
+call_whole : (before : List (List Item)) (body : List ℕ) (s : Start) (h : CallHead) (head end to : ℕ) (more : List Item) → CallBegins body s h head end
+    → reading_layout (arguments_of h.id) body end ≡ Ok (more, to) → to ≡ length body → judge_call before body ≡ agreed before (whole_call s h more)
+unfolding followed_by
+call_whole before body s h head end to more b read is =
+    call_read_on before body s head b.start b.is_call
+    ∙ ap (λ r. r >>= agreed before)
+    (whole_ends (call_layout arguments_of) body (start_items s ++ call_head_items h) more end to
+    (call_read arguments_of body s h 0 head end b.start b.is_call b.read ∙ ap (with_front (start_items s ++ call_head_items h)) read) is
+    ∙ ap (λ (items : List Item). Ok items) (append_assoc (start_items s) (call_head_items h) more))
+
+-- the procedure and the xid stand among its items
+pub call_procedure : (s : Start) (h : CallHead) (more : List Item) → procedure_in (whole_call s h more) ≡ h.id
+unfolding followed_by
+call_procedure s h more = refl
+
+pub call_xid : (s : Start) (h : CallHead) (more : List Item) → xid_in (whole_call s h more) ≡ s.xid
+unfolding followed_by
+call_xid s h more = refl
+
+pub call_accepted : (before : List (List Item)) (body : List ℕ) (s : Start) (h : CallHead) (head end to : ℕ) (more : List Item) → CallBegins body s h head end
+    → reading_layout (arguments_of h.id) body end ≡ Ok (more, to) → to ≡ length body → agrees (procedure_of before s.xid) h.id ≡ true
+    → judge_call before body ≡ Ok (whole_call s h more)
+unfolding followed_by
+call_accepted before body s h head end to more b read is agree =
+    call_whole before body s h head end to more b read is ∙ ap (λ c. cond c (Ok (whole_call s h more)) (refused 0 XidConflict)) agree
+
+pub call_conflicts : (before : List (List Item)) (body : List ℕ) (s : Start) (h : CallHead) (head end to : ℕ) (more : List Item) → CallBegins body s h head end
+    → reading_layout (arguments_of h.id) body end ≡ Ok (more, to) → to ≡ length body → agrees (procedure_of before s.xid) h.id ≡ false
+    → judge_call before body ≡ refused 0 XidConflict
+unfolding followed_by
+call_conflicts before body s h head end to more b read is disagree =
+    call_whole before body s h head end to more b read is ∙ ap (λ c. cond c (Ok (whole_call s h more)) (refused 0 XidConflict)) disagree
+
+-- ---- replies
+
+pub record ReplyBegins (calls : List (List Item)) (body : List ℕ) (s : Start) (id : ProcId) (h : ReplyHead) (head end : ℕ) : Type 0 where
+  pub start : reading message_start body 0 ≡ Ok (start_items s, head)
+  pub is_reply : s.is_reply ≡ true
+  pub asked : procedure_of calls s.xid ≡ Some id
+  pub read : reading reply_head body head ≡ Ok (reply_head_items h, end)
+
+pub reply_bad_start : (calls : List (List Item)) (body : List ℕ) (stop : Stop) → reading message_start body 0 ≡ Err stop → judge_reply calls body ≡ Err stop
+unfolding judge_reply
+reply_bad_start calls body stop e = rw e refl
+
+pub reply_wrong_side : (calls : List (List Item)) (body : List ℕ) (s : Start) (to : ℕ) → reading message_start body 0 ≡ Ok (start_items s, to) → s.is_reply ≡ false
+    → judge_reply calls body ≡ refused 4 WrongSide
+unfolding judge_reply
+reply_wrong_side calls body s to e is = rw (e, is) refl
+
+reply_read_on : (calls : List (List Item)) (body : List ℕ) (s : Start) (to : ℕ) → reading message_start body 0 ≡ Ok (start_items s, to) → s.is_reply ≡ true
+    → judge_reply calls body ≡ answering body (procedure_of calls s.xid)
+unfolding judge_reply
+reply_read_on calls body s to e is = rw (e, is) refl
+
+pub reply_unasked : (calls : List (List Item)) (body : List ℕ) (s : Start) (to : ℕ) → reading message_start body 0 ≡ Ok (start_items s, to) → s.is_reply ≡ true
+    → procedure_of calls s.xid ≡ None → judge_reply calls body ≡ refused 0 NoCall
+reply_unasked calls body s to e is none = reply_read_on calls body s to e is ∙ ap (answering body) none
+
+pub reply_bad_head : (calls : List (List Item)) (body : List ℕ) (s : Start) (id : ProcId) (stop : Stop) (head : ℕ) → reading message_start body 0 ≡ Ok (start_items s, head) → s.is_reply ≡ true
+    → procedure_of calls s.xid ≡ Some id → reading reply_head body head ≡ Err stop → judge_reply calls body ≡ Err stop
+reply_bad_head calls body s id stop head e is asked read =
+    reply_read_on calls body s head e is
+    ∙ ap (answering body) asked
+    ∙ ap (λ r. r >>= λ items. Ok (record { id = id; items = items })) (whole_refused (reply_layout (results_of id)) body stop (reply_head_refused (results_of id) body s stop 0 head e is read))
+
+-- behind the head
+behind_is : (h : ReplyHead) (results : Layout) (body : List ℕ) (at : ℕ) → reading_layout (results_behind h results) body at ≡ reading_behind h results body at
+unfolding results_behind reading_layout reading
+behind_is (Accepted verf Success) results body at = refl
+behind_is (Accepted verf ProgUnavail) results body at = refl
+behind_is (Accepted verf (ProgMismatch low high)) results body at = refl
+behind_is (Accepted verf ProcUnavail) results body at = refl
+behind_is (Accepted verf GarbageArgs) results body at = refl
+behind_is (Accepted verf SystemErr) results body at = refl
+behind_is (Denied deny) results body at = refl
+
+reply_layout_read : (calls : List (List Item)) (body : List ℕ) (s : Start) (id : ProcId) (h : ReplyHead) (head end : ℕ) → ReplyBegins calls body s id h head end
+    → reading_layout (reply_layout (results_of id)) body 0 ≡ with_front (start_items s ++ reply_head_items h) (reading_behind h (results_of id) body end)
+reply_layout_read calls body s id h head end b =
+    reply_read (results_of id) body s h 0 head end b.start b.is_reply b.read ∙ ap (with_front (start_items s ++ reply_head_items h)) (behind_is h (results_of id) body end)
+
+reply_answers : (calls : List (List Item)) (body : List ℕ) (s : Start) (id : ProcId) (h : ReplyHead) (head end : ℕ) → ReplyBegins calls body s id h head end
+    → judge_reply calls body ≡ (read_whole (reply_layout (results_of id)) body >>= λ items. Ok (record { id = id; items = items }))
+reply_answers calls body s id h head end b = reply_read_on calls body s head b.start b.is_reply ∙ ap (answering body) b.asked
+
+pub reply_bad_results : (calls : List (List Item)) (body : List ℕ) (s : Start) (id : ProcId) (h : ReplyHead) (head end : ℕ) (stop : Stop) → ReplyBegins calls body s id h head end
+    → reading_behind h (results_of id) body end ≡ Err stop → judge_reply calls body ≡ Err stop
+reply_bad_results calls body s id h head end stop b read =
+    reply_answers calls body s id h head end b
+    ∙ ap (λ r. r >>= λ items. Ok (record { id = id; items = items }))
+    (whole_refused (reply_layout (results_of id)) body stop (reply_layout_read calls body s id h head end b ∙ ap (with_front (start_items s ++ reply_head_items h)) read ∙ front_refused (start_items s ++ reply_head_items h) stop))
+
+pub reply_trails : (calls : List (List Item)) (body : List ℕ) (s : Start) (id : ProcId) (h : ReplyHead) (head end to : ℕ) (more : List Item) → ReplyBegins calls body s id h head end
+    → reading_behind h (results_of id) body end ≡ Ok (more, to) → to ≢ length body → judge_reply calls body ≡ refused to Trailing
+reply_trails calls body s id h head end to more b read other =
+    reply_answers calls body s id h head end b
+    ∙ ap (λ r. r >>= λ items. Ok (record { id = id; items = items }))
+    (whole_trails (reply_layout (results_of id)) body (start_items s ++ reply_head_items h) more end to
+    (reply_layout_read calls body s id h head end b ∙ ap (with_front (start_items s ++ reply_head_items h)) read) other)
+
+-- a whole reply's items, as its value has them
+abbrev pub whole_reply : Start → ReplyHead → List Item → List Item
+whole_reply s h more = followed_by (start_items s) (followed_by (reply_head_items h) more)
+
+pub reply_accepted : (calls : List (List Item)) (body : List ℕ) (s : Start) (id : ProcId) (h : ReplyHead) (head end to : ℕ) (more : List Item) → ReplyBegins calls body s id h head end
+    → reading_behind h (results_of id) body end ≡ Ok (more, to) → to ≡ length body → judge_reply calls body ≡ Ok (record { id = id; items = whole_reply s h more })
+unfolding followed_by
+reply_accepted calls body s id h head end to more b read is =
+    reply_answers calls body s id h head end b
+    ∙ ap (λ r. r >>= λ items. Ok (record { id = id; items = items }))
+    (whole_ends (reply_layout (results_of id)) body (start_items s ++ reply_head_items h) more end to
+    (reply_layout_read calls body s id h head end b ∙ ap (with_front (start_items s ++ reply_head_items h)) read) is
+    ∙ ap (λ (items : List Item). Ok items) (append_assoc (start_items s) (reply_head_items h) more))
