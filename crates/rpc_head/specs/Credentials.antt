@@ -1,4 +1,4 @@
--- The items of credentials and verifiers.
+-- The items of credentials and verifiers (RFC 5531, section 8.2 and appendix A).
 use Rattle.std.specs.Prelude.{List, [], ◌∷◌, length}
 use Rattle.xdr3.specs.Item.{Item, followed_by, Opaque, Text, Var, Word, zero_spelling}
 use Rattle.rpc_head.specs.declared.credential.AuthSys.{AuthSys}

@@ -1,4 +1,4 @@
--- The groups of a credential.
+-- The groups of a credential (RFC 5531, appendix A).
 use Rattle.std.specs.Prelude.{ℕ, List, take}
 use Rattle.rpc_head.specs.declared.credential.Gids.{Gids}
 

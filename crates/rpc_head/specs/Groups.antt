@@ -1,4 +1,4 @@
--- The items of groups.
+-- The items of groups (RFC 5531, appendix A).
 use Rattle.std.specs.Prelude.{ℕ, List, [], ◌∷◌}
 use Rattle.xdr3.specs.Combined.{counted_items}
 use Rattle.xdr3.specs.Item.{Item, Word}

@@ -7,3 +7,4 @@ pub mod Credentials
 pub mod Calls
 pub mod Replies
 pub mod Messages
+pub mod Examples

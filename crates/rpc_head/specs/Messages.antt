@@ -21,7 +21,7 @@ word_in [] i = 0
 word_in (item ∷ items) zero = number_of_word item
 word_in (item ∷ items) (suc i) = word_in items i
 
--- an mtype is CALL (0) in a call and REPLY (1) in a reply
+-- an mtype is CALL (0) in a call and REPLY (1) in a reply (RFC 5531, section 9)
 unfoldable pub call_start : Shape
 call_start = word names.xid then listed names.mtype (0 ∷ [])
 

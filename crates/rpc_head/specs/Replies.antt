@@ -1,4 +1,4 @@
--- The items of a reply's head.
+-- The items of a reply's head (RFC 5531, section 9).
 use Rattle.std.specs.Prelude.{ℕ, List, [], ◌∷◌}
 use Rattle.xdr3.specs.Item.{Item, followed_by, Word}
 use Rattle.rpc_head.specs.declared.reply.Accept.{Accept}

@@ -3,6 +3,7 @@
 
 mod call;
 mod credential;
+pub mod examples;
 mod first_words;
 mod message;
 mod reply;

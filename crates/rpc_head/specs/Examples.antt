@@ -1,0 +1,67 @@
+-- Messages worked by hand: how their bytes are laid out.
+use Rattle.std.specs.Prelude.{◌≡◌, ℕ, ◌==◌, if◌then◌else◌, List, [], ◌∷◌, ◌++◌, Ok, codes}
+use Rattle.std.specs.List.{flat_map}
+use Rattle.xdr3.specs.declared.reason.Reason.TheVariants.{BadEnum}
+use Rattle.xdr3.specs.Item.{Item, Handle, Opaque, Rest, Text, Var, Word, word_bytes}
+use Rattle.xdr3.specs.Layout.{Layout, exactly, rest, reading_layout}
+use Rattle.xdr3.specs.Reading.{refused}
+use Rattle.xdr3.specs.Shape.{nothing, opaque}
+use Rattle.rpc_head.specs.declared.call.ProcId.{ProcId}
+use Rattle.rpc_head.specs.Messages.{call_layout, reply_layout}
+use Rattle.rpc_head.specs.Names.{names}
+
+abbrev pub words : List ℕ → List ℕ
+words numbers = flat_map word_bytes numbers
+
+-- a file handle in procedure 1, nothing in any other
+abbrev pub handle_in_one : ProcId → Layout
+handle_in_one id = if id.proc_no == 1 then exactly (opaque Handle (codes "fh") 64) else exactly nothing
+
+-- the items of a call of procedure number in version 3 of program 100003, from xid 7 to proc
+abbrev pub call_to : ℕ → List Item → List Item
+call_to number more =
+    Word names.xid 7 ∷ Word names.mtype 0 ∷ Word names.rpcvers 2 ∷ Word names.prog 100003 ∷ Word names.vers 3 ∷ Word names.proc number ∷ more
+
+abbrev pub no_verifier : List Item → List Item
+no_verifier more = Word names.verf_flavor 0 ∷ Opaque Var names.verf_body [] ∷ more
+
+abbrev pub plain_call : ℕ → List ℕ
+plain_call number = words (7 ∷ 0 ∷ 2 ∷ 100003 ∷ 3 ∷ number ∷ 0 ∷ 0 ∷ 0 ∷ 0 ∷ [])
+
+-- stamp 1, machine name ab, uid 0, gid 0 and the group 9, in 28 bytes
+abbrev pub system_call : List ℕ
+system_call =
+    words (7 ∷ 0 ∷ 2 ∷ 100003 ∷ 3 ∷ 0 ∷ 1 ∷ 28 ∷ 1 ∷ 2 ∷ []) ++ (97 ∷ 98 ∷ 255 ∷ 255 ∷ words (0 ∷ 0 ∷ 1 ∷ 9 ∷ 0 ∷ 0 ∷ []))
+
+pub record Calls : Type 0 where
+  pub no_arguments : reading_layout (call_layout handle_in_one) (plain_call 0) 0
+      ≡ Ok (call_to 0 (Word names.cred_flavor 0 ∷ Opaque Var names.cred_body [] ∷ no_verifier []), 40)
+  pub one_argument : reading_layout (call_layout handle_in_one) (plain_call 1 ++ words (1 ∷ 4278190080 ∷ [])) 0
+      ≡ Ok (call_to 1 (Word names.cred_flavor 0 ∷ Opaque Var names.cred_body [] ∷ no_verifier (Opaque Handle (codes "fh") (255 ∷ []) ∷ [])), 48)
+  pub by_system : reading_layout (call_layout handle_in_one) system_call 0
+      ≡ Ok (
+        call_to 0 (Word names.cred_flavor 1 ∷ Word names.cred_length 28 ∷ Word names.stamp 1 ∷ Opaque Text names.machinename (97 ∷ 98 ∷ [])
+            ∷ Word names.uid 0 ∷ Word names.gid 0 ∷ Word names.gids 1 ∷ Word names.group 9 ∷ no_verifier []),
+        68,
+      )
+  pub no_reply : reading_layout (call_layout handle_in_one) (words (7 ∷ 1 ∷ 0 ∷ 0 ∷ 0 ∷ 0 ∷ [])) 0 ≡ refused 4 BadEnum
+
+-- two bytes behind each reply, which are results where there are any
+abbrev pub reply_of : List ℕ → List ℕ
+reply_of numbers = words (7 ∷ 1 ∷ numbers) ++ 1 ∷ 2 ∷ []
+
+abbrev pub reply_to : List Item → List Item
+reply_to more = Word names.xid 7 ∷ Word names.mtype 1 ∷ more
+
+pub record Replies : Type 0 where
+  pub success : reading_layout (reply_layout (rest (codes "rest"))) (reply_of (0 ∷ 0 ∷ 0 ∷ 0 ∷ [])) 0
+      ≡ Ok (reply_to (Word names.reply_stat 0 ∷ no_verifier (Word names.accept_stat 0 ∷ Rest (codes "rest") (1 ∷ 2 ∷ []) ∷ [])), 26)
+  pub system_error : reading_layout (reply_layout (rest (codes "rest"))) (reply_of (0 ∷ 0 ∷ 0 ∷ 5 ∷ [])) 0
+      ≡ Ok (reply_to (Word names.reply_stat 0 ∷ no_verifier (Word names.accept_stat 5 ∷ [])), 24)
+  pub program_mismatch : reading_layout (reply_layout (rest (codes "rest"))) (reply_of (0 ∷ 0 ∷ 0 ∷ 2 ∷ 3 ∷ 3 ∷ [])) 0
+      ≡ Ok (reply_to (Word names.reply_stat 0 ∷ no_verifier (Word names.accept_stat 2 ∷ Word names.low 3 ∷ Word names.high 3 ∷ [])), 32)
+  pub version_mismatch : reading_layout (reply_layout (rest (codes "rest"))) (reply_of (1 ∷ 0 ∷ 0 ∷ 0 ∷ [])) 0
+      ≡ Ok (reply_to (Word names.reply_stat 1 ∷ Word names.reject_stat 0 ∷ Word names.low 0 ∷ Word names.high 0 ∷ []), 24)
+  pub authentication_error : reading_layout (reply_layout (rest (codes "rest"))) (reply_of (1 ∷ 1 ∷ 0 ∷ [])) 0
+      ≡ Ok (reply_to (Word names.reply_stat 1 ∷ Word names.reject_stat 1 ∷ Word names.auth_stat 0 ∷ []), 20)
+  pub no_call : reading_layout (reply_layout (rest (codes "rest"))) (words (7 ∷ 0 ∷ 0 ∷ 0 ∷ 0 ∷ 0 ∷ [])) 0 ≡ refused 4 BadEnum
