@@ -8,7 +8,7 @@ use Rattle.xdr3.specs.Item.{Item, Rest, AreBytes, Spells}
 use Rattle.xdr3.specs.Shape.{Shape, Reads}
 use Rattle.xdr3.specs.Reading.{◌>>=◌, reading}
 use Rattle.xdr3.specs.Layout.{Layout, exactly, rest, after, FitsLayout, ReadsLayout, RefusesLayout, reading_layout}
-use Rattle.xdr3.specs.Laws.{Decides, IsDecided, ReadsWhole}
+use Rattle.xdr3.specs.Laws.{Decides, IsDecided, ReadsToTheEnd, ReadsWhole}
 use Rattle.xdr3.proofs.Bytes.{AreBytes-drop, bind_ok, bind_err, pair_is, never, drop_front, front_ends}
 use Rattle.xdr3.proofs.Items.{Spells-append, Spells-split, Spells-one, Spells-single}
 use Rattle.xdr3.proofs.Decided.{is_read, both_ways, in_one_way, front_place}
@@ -164,3 +164,12 @@ layout_is_decided layout bytes fits =
 pub layout_is_read : {X : Type 0} (layout : Layout) (items : X → List Item) (old new : View) (r : Result X GetError) → AreBytes old.body → old.at ≤ length old.body → Gives items r new.at (reading_layout layout old.body old.at) → IsRead (ReadsLayout layout) (RefusesLayout layout) items old r new
 layout_is_read layout items old new r fits h g =
     is_read (reading_layout layout) (ReadsLayout layout) (RefusesLayout layout) items old new r (layout_decides layout old.body old.at fits h) g
+
+-- reading up to the end gives just the items that fit and that the body spells
+pub read_to_the_end : (layout : Layout) (body : List ℕ) (items : List Item) → AreBytes body → ReadsToTheEnd layout body items
+read_to_the_end layout body items fits =
+    let d = (layout_decides layout body 0 fits (omega arith)).reads items (length body) in
+    let none : drop (length body) body ≡ [] = drop_all (length body) body (omega arith) in (
+      (λ e. (reads_whole layout body items).0 (subst (ReadsLayout layout body items) none (d.0 e).reads)),
+      (λ p. d.1 (record { reads = subst (ReadsLayout layout body items) (sym none) ((reads_whole layout body items).1 p); forward = omega arith; within = omega arith })),
+    )
