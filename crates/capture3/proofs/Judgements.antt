@@ -1,5 +1,5 @@
 -- Judging a body as the code does: its first two words, its side, its head, what stands behind the head, its end.
-use Rattle.std.proofs.Common.{◌≡◌, ◌≢◌, ℕ, Bool, true, false, cond, List, [], ◌∷◌, ◌++◌, length, Option, Some, None, Result, Ok, Err, refl, sym, ap, ◌∙◌, append_assoc, append-nil, eq-eqb, nat_eq}
+use Rattle.std.proofs.Common.{◌≡◌, ◌≢◌, ℕ, Bool, true, false, not, cond, List, [], ◌∷◌, ◌++◌, length, Option, Some, None, Result, Ok, Err, refl, sym, ap, ◌∙◌, append_assoc, append-nil, eq-eqb, nat_eq}
 use Rattle.std.proofs.lemmas.Bool.{ne_eqb}
 use Rattle.xdr3.specs.declared.reason.Reason.TheVariants.{Trailing, WrongSide, NoCall, XidConflict}
 use Rattle.xdr3.specs.declared.reason.Stop.{Stop}
@@ -22,7 +22,10 @@ use Rattle.rpc_head.proofs.Messages.{call_read, call_head_refused, reply_read, r
 use Rattle.procs3.specs.Table.{arguments_of, results_of}
 use Rattle.capture3.specs.Bodies.{ReplyItems, procedure_of, xid_in}
 use Rattle.capture3.specs.Judging.{judge_call, judge_reply, read_whole, ended, agreed, agrees, is_same, answering}
-use Rattle.capture3.specs.Messages.{reading_behind}
+use Rattle.xdr3.specs.declared.reason.GetError.{GetError}
+use Rattle.xdr3.specs.declared.reason.GetError.TheVariants as errors
+use Rattle.std.specs.Result.{IsErrAnd}
+use Rattle.capture3.specs.Messages.{Judged, reading_behind}
 
 -- ---- a whole layout, read in parts
 
@@ -208,3 +211,29 @@ reply_accepted calls body s id h head end to more b read is =
     (whole_ends (reply_layout (results_of id)) body (start_items s ++ reply_head_items h) more end to
     (reply_layout_read calls body s id h head end b ∙ ap (with_front (start_items s ++ reply_head_items h)) read) is
     ∙ ap (λ (items : List Item). Ok items) (append_assoc (start_items s) (reply_head_items h) more))
+
+-- ---- what the code hands on
+
+-- an error that is a stop
+pub refusal_judged : {X : Type 0} (error : GetError) (judged : Result X Stop) (refusal : Stop) → error ≡ errors.Stop refusal → judged ≡ Err refusal → (stop : Stop) → error ≡ errors.Stop stop → judged ≡ Err stop
+refusal_judged error judged refusal is answers stop same =
+    let equal : refusal ≡ stop = cc in
+    answers ∙ ap (λ (s : Stop). Err s) equal
+
+-- a stop, in the place where it was met
+pub stop_judged : {M X : Type 0} (items : M → X) (r : Result M GetError) (judged : Result X Stop) (refusal : Stop) → IsErrAnd r (λ e. e ≡ errors.Stop refusal) → judged ≡ Err refusal → Judged items r judged
+stop_judged items (Ok m) judged refusal h answers = absurd h
+stop_judged items (Err e) judged refusal h answers = refusal_judged e judged refusal h answers
+
+-- an error of a part, which is that of the whole
+pub error_judged : {M X : Type 0} (items : M → X) (r : Result M GetError) (judged : Result X Stop) (error : GetError) → IsErrAnd r (λ e. e ≡ error) → ((stop : Stop) → error ≡ errors.Stop stop → judged ≡ Err stop) → Judged items r judged
+error_judged items (Ok m) judged error h answers = absurd h
+error_judged items (Err e) judged error h answers = λ stop same. answers stop (sym h ∙ same)
+
+pub not_true : (b : Bool) → not b ≡ true → b ≡ false
+not_true true h = sym h
+not_true false h = refl
+
+pub not_false : (b : Bool) → not b ≡ false → b ≡ true
+not_false true h = refl
+not_false false h = sym h

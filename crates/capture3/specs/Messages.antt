@@ -1,7 +1,7 @@
 -- The items of whole messages as values, and what judging a body answers.
 use Rattle.std.specs.Prelude.{◌≡◌, ℕ, Bool, true, false, ◌==◌, if◌then◌else◌, List, [], ◌∷◌, Option, Some, None, Result, Ok, Err}
 use Rattle.xdr3.specs.declared.reason.GetError.{GetError}
-use Rattle.xdr3.specs.declared.reason.GetError.TheVariants.{Stop, Memory}
+use Rattle.xdr3.specs.declared.reason.GetError.TheVariants.{Stop}
 use Rattle.xdr3.specs.declared.reason.Stop as stops
 use Rattle.xdr3.specs.Item.{Item, followed_by}
 use Rattle.xdr3.specs.Layout.{Layout, reading_layout}
@@ -49,8 +49,7 @@ reading_behind (Denied deny) results body at = Ok ([], at)
 -- the message that judging gives, or its fault, unless memory ran out
 abbrev pub Judged : {M X : Type 0} → (M → X) → Result M GetError → Result X stops.Stop → Type 0
 Judged items (Ok m) judged = judged ≡ Ok (items m)
-Judged items (Err (Stop stop)) judged = judged ≡ Err stop
-Judged items (Err Memory) judged = Unit {0}
+Judged items (Err error) judged = (stop : stops.Stop) → error ≡ Stop stop → judged ≡ Err stop
 
 -- the list has the procedures of these calls
 abbrev pub IsTableOf : List NumberedCall → List (List Item) → Type 0

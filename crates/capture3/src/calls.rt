@@ -2,6 +2,7 @@
 
 ghost use Rattle.std.specs.Prelude.{◌≡◌, [], OnOk, OnErr};
 ghost use Rattle.capture3.specs.Calls.{found, with_call};
+ghost use Rattle.capture3.specs.Judging.{agrees};
 
 use rpc_head::ProcId;
 use std::alloc::{AllocError, Global};
@@ -49,6 +50,16 @@ impl CallList {
         ensures { result ≡ found self.now xid }
     {
         procedure_in(&self.calls, xid)
+    }
+
+    /// Tells that no call has this xid and another procedure.
+    pub(crate) fn agrees(&self, xid: u32, id: ProcId) -> bool
+        ensures { result ≡ agrees (found self.now xid) id }
+    {
+        match self.procedure_of(xid) {
+            None => true,
+            Some(other) => other == id,
+        }
     }
 
     /// Adds a call, unless its xid is there.

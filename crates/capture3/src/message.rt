@@ -49,14 +49,14 @@ pub(crate) fn judge_call<'a>(
     let head = CallHead::get(alloc, &mut input)?;
     let args = Args::get(alloc, head.id, &mut input)?;
     input.end()?;
-    match calls.procedure_of(start.xid) {
-        Some(id) if id != head.id => Err(stop(0, Reason::XidConflict)),
-        _ => Ok(CallMsg {
-            xid: start.xid,
-            head,
-            args,
-        }),
+    if !calls.agrees(start.xid, head.id) {
+        return Err(stop(0, Reason::XidConflict));
     }
+    Ok(CallMsg {
+        xid: start.xid,
+        head,
+        args,
+    })
 }
 
 /// Reads a body of the server stream, behind all calls of its connection.

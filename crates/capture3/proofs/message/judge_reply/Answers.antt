@@ -1,36 +1,73 @@
-use Rattle.std.proofs.Common.{rules, ◌≡◌, ◌≤◌, List, length, ℕ, ◌+◌, ◌-◌, ◌*◌, ◌<◌, ◌/◌, ◌%◌, Bool, true, false, nat_eq, nat_lt, [], ◌∷◌, ◌++◌, slice_index_or, slice_set, bit_and, bit_or, Fits, w8, w32, w64, Bor, MutBor}
-use Rattle.procs3.specs.Table.{results_of}
-use Rattle.xdr3.specs.Gives.{Gives}
-use Rattle.xdr3.specs.Item.{Item}
-use Rattle.xdr3.specs.View.{MovesOn}
-use Rattle.capture3.specs.Judging as spec
-use Rattle.capture3.specs.Messages.{answered_items, behind_items, call_items, IsTableOf, Judged, reading_behind}
+use Rattle.std.proofs.Common.{◌≡◌, ◌≢◌, Bool, length, Some, None, Ok, Err, ap, refl, sym, ◌∙◌, true}
+use Rattle.std.proofs.lemmas.Bool.{false≢true}
+use Rattle.xdr3.specs.declared.reason.Reason.TheVariants.{NoCall, Trailing, WrongSide}
+use Rattle.xdr3.specs.declared.reason.Stop.{Stop}
+use Rattle.capture3.specs.Judging.{judge_reply}
+use Rattle.capture3.specs.Bodies.{procedure_of}
+use Rattle.capture3.specs.Messages.{answered_items, behind_items}
+use Rattle.capture3.proofs.Judgements.{ReplyBegins, error_judged, not_false, not_true, refusal_judged, reply_accepted, reply_bad_head, reply_bad_results, reply_bad_start, reply_trails, reply_unasked, reply_wrong_side, stop_judged, whole_reply}
 use Rattle.capture3.proofs.message.judge_reply.Goals as goal
 
--- src/message.rt:72:17
 pub returns-in_err-start : goal.returns-in_err-start
-returns-in_err-start c = ?
+returns-in_err-start c before table =
+    stop_judged answered_items _ _ c.in_err-start.field-0.0 c.from_residual.ensures.1
+    (reply_bad_start before c.args.body.now c.in_err-start.field-0.0 (rw (c.new-input.ensures.body, c.new-input.ensures.start) at c.in_err-start.ensures.read))
 
--- src/message.rt:74:9
 pub returns-then-not-start : goal.returns-then-not-start
-returns-then-not-start c = ?
+returns-then-not-start c before table =
+    let start = rw (c.new-input.ensures.body, c.new-input.ensures.start) at c.in_ok-start.ensures.read in
+    refusal_judged c.stop.result (judge_reply before c.args.body.now) (record { at = 4; reason = WrongSide }) c.stop.ensures
+    (reply_wrong_side before c.args.body.now c.in_ok-start.start c.start.new.input.at start (not_true c.in_ok-start.start.is_reply c.if-not-start.true))
 
--- src/message.rt:77:9
 pub returns-in_default : goal.returns-in_default
-returns-in_default c = ?
+returns-in_default c before table =
+    let start = rw (c.new-input.ensures.body, c.new-input.ensures.start) at c.in_ok-start.ensures.read in
+    let none : procedure_of before c.in_ok-start.start.xid ≡ None = sym (table c.in_ok-start.start.xid) ∙ sym c.procedure_of.ensures ∙ c.in_default.is in
+    refusal_judged c.stop-in_default.result (judge_reply before c.args.body.now) (record { at = 0; reason = NoCall }) c.stop-in_default.ensures
+    (reply_unasked before c.args.body.now c.in_ok-start.start c.start.new.input.at start (not_false c.in_ok-start.start.is_reply c.if-not-start.false) none)
 
--- src/message.rt:79:16
 pub returns-in_err-head : goal.returns-in_err-head
-returns-in_err-head c = ?
+returns-in_err-head c before table =
+    let start = rw (c.new-input.ensures.body, c.new-input.ensures.start) at c.in_ok-start.ensures.read in
+    let body : c.start.new.input.body ≡ c.args.body.now = c.in_ok-start.ensures.moves.same_body ∙ c.new-input.ensures.body in
+    let asked : procedure_of before c.in_ok-start.start.xid ≡ Some c.in-Some.id = sym (table c.in_ok-start.start.xid) ∙ sym c.procedure_of.ensures ∙ c.in-Some.is in
+    error_judged answered_items _ _ c.in_err-head.field-0.0 c.from_residual-in_err-head.ensures.1
+    (λ stop is. reply_bad_head before c.args.body.now c.in_ok-start.start c.in-Some.id stop c.start.new.input.at start (not_false c.in_ok-start.start.is_reply c.if-not-start.false) asked (rw body at (c.in_err-head.ensures.read stop is)))
 
--- src/message.rt:80:19
 pub returns-in_err-results : goal.returns-in_err-results
-returns-in_err-results c = ?
+returns-in_err-results c before table =
+    let start = rw (c.new-input.ensures.body, c.new-input.ensures.start) at c.in_ok-start.ensures.read in
+    let body : c.start.new.input.body ≡ c.args.body.now = c.in_ok-start.ensures.moves.same_body ∙ c.new-input.ensures.body in
+    let behind : c.get.new.input.body ≡ c.args.body.now = c.in_ok-head.ensures.moves.same_body ∙ body in
+    let asked : procedure_of before c.in_ok-start.start.xid ≡ Some c.in-Some.id = sym (table c.in_ok-start.start.xid) ∙ sym c.procedure_of.ensures ∙ c.in-Some.is in
+    let begins : ReplyBegins before c.args.body.now c.in_ok-start.start c.in-Some.id c.in_ok-head.head c.start.new.input.at c.get.new.input.at =
+    record { start = start; is_reply = not_false c.in_ok-start.start.is_reply c.if-not-start.false; asked = asked; read = rw body at c.in_ok-head.ensures.read } in
+    error_judged answered_items _ _ c.in_err-results.field-0.0 c.from_residual-in_err-results.ensures.1
+    (λ stop is. reply_bad_results before c.args.body.now c.in_ok-start.start c.in-Some.id c.in_ok-head.head c.start.new.input.at c.get.new.input.at stop begins (rw behind at (c.in_err-results.ensures.read stop is)))
 
--- src/message.rt:81:5
 pub returns-in_err-end : goal.returns-in_err-end
-returns-in_err-end c = ?
+returns-in_err-end c before table =
+    let start = rw (c.new-input.ensures.body, c.new-input.ensures.start) at c.in_ok-start.ensures.read in
+    let body : c.start.new.input.body ≡ c.args.body.now = c.in_ok-start.ensures.moves.same_body ∙ c.new-input.ensures.body in
+    let behind : c.get.new.input.body ≡ c.args.body.now = c.in_ok-head.ensures.moves.same_body ∙ body in
+    let asked : procedure_of before c.in_ok-start.start.xid ≡ Some c.in-Some.id = sym (table c.in_ok-start.start.xid) ∙ sym c.procedure_of.ensures ∙ c.in-Some.is in
+    let begins : ReplyBegins before c.args.body.now c.in_ok-start.start c.in-Some.id c.in_ok-head.head c.start.new.input.at c.get.new.input.at =
+    record { start = start; is_reply = not_false c.in_ok-start.start.is_reply c.if-not-start.false; asked = asked; read = rw body at c.in_ok-head.ensures.read } in
+    let last : c.results_after.new.input.body ≡ c.args.body.now = c.in_ok-results.ensures.moves.same_body ∙ behind in
+    let other : c.results_after.new.input.at ≢ length c.args.body.now = λ e. false≢true (c.in_err-end.ensures.ok.1 (e ∙ ap length (sym last))) in
+    stop_judged answered_items _ _ c.in_err-end.field-0.0 c.from_residual-in_err-end.ensures.1
+    (reply_trails before c.args.body.now c.in_ok-start.start c.in-Some.id c.in_ok-head.head c.start.new.input.at c.get.new.input.at c.results_after.new.input.at (behind_items c.in_ok-results.results) begins (rw behind at c.in_ok-results.ensures.read) other
+    ∙ ap (λ (s : Stop). Err s) (sym c.in_err-end.ensures.err))
 
--- src/message.rt:63:1
 pub returns : goal.returns
-returns c = ?
+returns c before table =
+    let start = rw (c.new-input.ensures.body, c.new-input.ensures.start) at c.in_ok-start.ensures.read in
+    let body : c.start.new.input.body ≡ c.args.body.now = c.in_ok-start.ensures.moves.same_body ∙ c.new-input.ensures.body in
+    let behind : c.get.new.input.body ≡ c.args.body.now = c.in_ok-head.ensures.moves.same_body ∙ body in
+    let asked : procedure_of before c.in_ok-start.start.xid ≡ Some c.in-Some.id = sym (table c.in_ok-start.start.xid) ∙ sym c.procedure_of.ensures ∙ c.in-Some.is in
+    let begins : ReplyBegins before c.args.body.now c.in_ok-start.start c.in-Some.id c.in_ok-head.head c.start.new.input.at c.get.new.input.at =
+    record { start = start; is_reply = not_false c.in_ok-start.start.is_reply c.if-not-start.false; asked = asked; read = rw body at c.in_ok-head.ensures.read } in
+    let last : c.results_after.new.input.body ≡ c.args.body.now = c.in_ok-results.ensures.moves.same_body ∙ behind in
+    let is : c.results_after.new.input.at ≡ length c.args.body.now = c.in_ok-end.ensures.ok.0 refl ∙ ap length last in
+    reply_accepted before c.args.body.now c.in_ok-start.start c.in-Some.id c.in_ok-head.head c.start.new.input.at c.get.new.input.at c.results_after.new.input.at (behind_items c.in_ok-results.results) begins (rw behind at c.in_ok-results.ensures.read) is
+    ∙ ap (λ (b : Bool). Ok (record { id = c.in-Some.id; items = whole_reply (record { xid = c.in_ok-start.start.xid; is_reply = b }) c.in_ok-head.head (behind_items c.in_ok-results.results) })) (not_false c.in_ok-start.start.is_reply c.if-not-start.false)
