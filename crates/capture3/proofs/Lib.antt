@@ -1,0 +1,7 @@
+pub mod BytesOf
+pub mod Judged
+pub mod Streams
+pub mod Sides
+pub mod Layouts
+pub mod Bodies
+pub mod Converses
