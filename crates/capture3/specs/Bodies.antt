@@ -3,7 +3,7 @@ use Rattle.std.specs.Prelude.{◌≡◌, ◌≢◌, ℕ, ◌+◌, ◌<◌, ◌==
 use Rattle.xdr3.specs.declared.reason.Reason.TheVariants.{Trailing, WrongSide, NoCall, XidConflict}
 use Rattle.xdr3.specs.declared.reason.Stop.{Stop}
 use Rattle.xdr3.specs.Item.{Item, Word, Spells}
-use Rattle.xdr3.specs.Layout.{FitsLayout, ReadsLayout, RefusesLayout}
+use Rattle.xdr3.specs.Layout.{Layout, FitsLayout, ReadsLayout, RefusesLayout}
 use Rattle.xdr3.specs.Shape.{Reads, Refuses}
 use Rattle.rpc_head.specs.declared.call.ProcId.{ProcId}
 use Rattle.rpc_head.specs.Messages.{call_layout, reply_layout, procedure_in, word_in}
@@ -37,6 +37,15 @@ procedure_of (call ∷ calls) xid = if xid_in call == xid then Some (procedure_i
 abbrev pub Starts : List ℕ → ℕ → ℕ → Type 0
 Starts body xid mtype = (left : List ℕ) × Reads message_start body (Word names.xid xid ∷ Word names.mtype mtype ∷ []) left
 
+-- a front of the body is laid out so, and bytes are left over: Trailing at the first of them
+pub record LeavesMore (layout : Layout) (body : List ℕ) (stop : Stop) : Type 0 where
+  pub items : List Item
+  pub left : List ℕ
+  pub reads : ReadsLayout layout body items left
+  pub some : 0 < length left
+  pub at_is : length body ≡ stop.at + length left
+  pub reason_is : stop.reason ≡ Trailing
+
 -- ---- the client stream, behind the items of the connection's calls before
 
 -- a call whose xid no call before has with another procedure
@@ -52,8 +61,7 @@ pub data RefusesCall (before : List (List Item)) (body : List ℕ) (stop : Stop)
   -- an item of the call, from left to right
   BadCall : (xid : ℕ) → Starts body xid 0 → RefusesLayout (call_layout arguments_of) body stop.at stop.reason → RefusesCall before body stop
   -- bytes are left over behind the call
-  LongCall : (items : List Item) (left : List ℕ) → ReadsLayout (call_layout arguments_of) body items left → 0 < length left
-      → length body ≡ stop.at + length left → stop.reason ≡ Trailing → RefusesCall before body stop
+  LongCall : (xid : ℕ) → Starts body xid 0 → LeavesMore (call_layout arguments_of) body stop → RefusesCall before body stop
   -- a call before it has its xid and another procedure
   OtherCall : (items : List Item) (id : ProcId) → IsCall body items → procedure_of before (xid_in items) ≡ Some id → id ≢ procedure_in items
       → stop ≡ record { at = 0; reason = XidConflict } → RefusesCall before body stop
@@ -76,5 +84,4 @@ pub data RefusesReply (calls : List (List Item)) (body : List ℕ) (stop : Stop)
   BadReply : (xid : ℕ) (id : ProcId) → Starts body xid 1 → procedure_of calls xid ≡ Some id → RefusesLayout (reply_layout (results_of id)) body stop.at stop.reason
       → RefusesReply calls body stop
   -- bytes are left over behind the reply
-  LongReply : (id : ProcId) (items : List Item) (left : List ℕ) → procedure_of calls (xid_in items) ≡ Some id → ReadsLayout (reply_layout (results_of id)) body items left
-      → 0 < length left → length body ≡ stop.at + length left → stop.reason ≡ Trailing → RefusesReply calls body stop
+  LongReply : (xid : ℕ) (id : ProcId) → Starts body xid 1 → procedure_of calls xid ≡ Some id → LeavesMore (reply_layout (results_of id)) body stop → RefusesReply calls body stop

@@ -1,0 +1,56 @@
+-- What is made of bytes is bytes.
+use Rattle.std.proofs.Common.{◌≡◌, ℕ, zero, suc, ◌<◌, List, [], ◌∷◌, ◌++◌, sym, subst, arith, Bool, false}
+use Rattle.std.specs.List.{concat}
+use Rattle.xdr3.specs.Item.{AreBytes}
+use Rattle.record_mark.specs.RecordMark.{IsFragment, IsRecord}
+use Rattle.record_mark.specs.Word.{Joins}
+use Rattle.capture3.specs.Chunks.{IsChunk, AreChunks, IsStream}
+
+pub AreBytes-nil : AreBytes []
+AreBytes-nil i = omega arith
+
+AreBytes-tail : (b : ℕ) (bytes : List ℕ) → AreBytes (b ∷ bytes) → AreBytes bytes
+AreBytes-tail b bytes h i = h (suc i)
+
+AreBytes-cons : (b : ℕ) (bytes : List ℕ) → b < 256 → AreBytes bytes → AreBytes (b ∷ bytes)
+AreBytes-cons b bytes first more zero = first
+AreBytes-cons b bytes first more (suc i) = more i
+
+pub AreBytes-front : (front back : List ℕ) → AreBytes (front ++ back) → AreBytes front
+AreBytes-front [] back h = AreBytes-nil
+AreBytes-front (b ∷ front) back h = AreBytes-cons b front (h 0) (AreBytes-front front back (AreBytes-tail b (front ++ back) h))
+
+pub AreBytes-back : (front back : List ℕ) → AreBytes (front ++ back) → AreBytes back
+AreBytes-back [] back h = h
+AreBytes-back (b ∷ front) back h = AreBytes-back front back (AreBytes-tail b (front ++ back) h)
+
+pub AreBytes-append : (front back : List ℕ) → AreBytes front → AreBytes back → AreBytes (front ++ back)
+AreBytes-append [] back h more = more
+AreBytes-append (b ∷ front) back h more = AreBytes-cons b (front ++ back) (h 0) (AreBytes-append front back (AreBytes-tail b front h) more)
+
+-- the parts of bytes that are joined
+pub split_bytes : (bytes front back : List ℕ) → bytes ≡ front ++ back → AreBytes bytes → AreBytes front × AreBytes back
+split_bytes bytes front back e h =
+    let parts : AreBytes (front ++ back) = subst AreBytes e h in
+    (AreBytes-front front back parts, AreBytes-back front back parts)
+
+joined_bytes : (Carries : List ℕ → List ℕ → Type 0) → ((bytes carried : List ℕ) → Carries bytes carried → AreBytes bytes → AreBytes carried) → (parts : List (List ℕ)) (bytes : List ℕ) → Joins Carries bytes parts → AreBytes bytes → AreBytes (concat parts)
+joined_bytes Carries one [] bytes h are = AreBytes-nil
+joined_bytes Carries one (part ∷ parts) bytes h are =
+    let s = split_bytes bytes h.0 h.1 h.2 are in
+    AreBytes-append part (concat parts) (one h.0 part h.3 s.0) (joined_bytes Carries one parts h.1 h.4 s.1)
+
+pub chunk_bytes : (bytes stream : List ℕ) → AreChunks bytes stream → AreBytes bytes → AreBytes stream
+chunk_bytes bytes stream h are =
+    subst AreBytes (sym h.carried) (joined_bytes IsChunk (λ b chunk c all. (split_bytes b c.header chunk c.split all).1) h.chunks bytes h.joined are)
+
+pub stream_bytes : (bytes stream : List ℕ) → IsStream bytes stream → AreBytes bytes → AreBytes stream
+stream_bytes bytes stream h are = chunk_bytes h.front stream h.chunks (split_bytes bytes h.front h.last h.split are).0
+
+pub record_bytes : (bytes body : List ℕ) → IsRecord bytes body → AreBytes bytes → AreBytes body
+record_bytes bytes body h are =
+    let parts = split_bytes bytes h.front h.back h.split are in
+    subst AreBytes (sym h.carried)
+    (AreBytes-append (concat h.fragments) h.last
+    (joined_bytes (IsFragment false) (λ b carried f all. (split_bytes b f.0 carried f.1 all).1) h.fragments h.front h.joined parts.0)
+    (split_bytes h.back h.closes.0 h.last h.closes.1 parts.1).1)
