@@ -10,3 +10,4 @@ pub mod Sides
 pub mod Layouts
 pub mod Bodies
 pub mod Converses
+pub mod Resumptions

@@ -21,3 +21,4 @@ pub mod Records
 pub mod Sides
 pub mod Siding
 pub mod Typed
+pub mod Resumed
