@@ -1,12 +1,12 @@
 -- The machine for a capture file goes as the one that takes the capture apart, with its records judged.
-use Rattle.std.proofs.Common.{◌≡◌, ℕ, zero, suc, ◌+◌, ◌<◌, Bool, true, false, cond, nat_eq, nat_lt, List, [], ◌∷◌, ◌++◌, length, drop, Result, Ok, Err, refl, sym, ap, subst, ◌∙◌, add-one, arith, length-append, eq-eqb, ltb-true}
+use Rattle.std.proofs.Common.{lit<, ◌≡◌, ℕ, zero, suc, ◌+◌, ◌<◌, Bool, true, false, cond, nat_eq, nat_lt, List, [], ◌∷◌, ◌++◌, length, drop, Result, Ok, Err, refl, sym, ap, subst, ◌∙◌, add-one, arith, length-append, eq-eqb, ltb-true}
 use Rattle.xdr3.specs.declared.reason.Stop.{Stop}
 use Rattle.xdr3.specs.declared.reason.Reason.TheVariants.{BadMagic, TooManyConnections, TooManyBytes, RecordCut, RecordTooLong}
 use Rattle.xdr3.specs.Item.{Item}
 use Rattle.record_mark.specs.Joining.{Joining, Between, Header, Bytes, Joined, Whole, TooLong, join_next}
 use Rattle.record_mark.specs.Machine.{Next, Goes, Ends, Run, Runs, Stops, Stopped, after, landed, step, within}
 use Rattle.record_mark.specs.Word.{word_next}
-use Rattle.record_mark.proofs.Machines.{after_stopped}
+use Rattle.record_mark.proofs.Machines.{not_runs, only_stops}
 use Rattle.capture3.specs.declared.fault.Side.{Side}
 use Rattle.capture3.specs.declared.fault.Side.TheVariants.{Client, Server}
 use Rattle.capture3.specs.declared.position.Event.TheVariants.{Begin, Record, Turn, Close}
@@ -14,11 +14,20 @@ use Rattle.capture3.specs.declared.position.TheConstants.{MAGIC}
 use Rattle.capture3.specs.Bodies.{ReplyItems}
 use Rattle.capture3.specs.Connections.{Refusal, refusal}
 use Rattle.capture3.specs.Judging.{judge_call, judge_reply}
+use Rattle.capture3.specs.Capture.{One}
+use Rattle.capture3.specs.Opening.{InClient, InServer, ending, judge_replies, opened, turning}
+use Rattle.capture3.specs.Reading.{judged, recorded}
+use Rattle.capture3.specs.Siding as siding
+use Rattle.capture3.specs.Siding.{Siding, SideEnd, SideRefuses}
+use Rattle.capture3.specs.declared.fault.Place.TheVariants as places
+use Rattle.xdr3.specs.declared.reason.Reason.{Reason}
+use Rattle.capture3.specs.Parsing as parsing
 use Rattle.capture3.specs.Parsing.{Parsing, file_next}
+use Rattle.capture3.specs.declared.fault.Fault.{Fault}
 use Rattle.capture3.specs.Records.{fault_at}
-use Rattle.capture3.specs.Sides.{place_at}
-use Rattle.capture3.specs.Resumed.{Judged, resumed_at, parsing_at, resumed, call_judged, reply_judged, with_call, with_reply, Agrees, AgreesAt, AgreesOn}
-use Rattle.capture3.specs.Unpacking.{Opened, Magic, Mark, Length, Chunk, Ended, Unpacking, Unpacked, Has, Refuses, before_stream, marked, closed, counted, joined, in_chunk, unpack_next}
+use Rattle.capture3.specs.Sides.{file_fault, place_at}
+use Rattle.capture3.specs.Resumed.{Judged, parsing_in, siding_at, resumed_at, parsing_at, resumed, call_judged, reply_judged, with_call, with_reply, Agrees, AgreesAt, AgreesOn}
+use Rattle.capture3.specs.Unpacking.{Opened, Magic, Mark, Length, Chunk, Ended, Unpacking, Unpacked, Has, Refuses, at_byte, before_stream, marked, closed, counted, joined, in_chunk, unpack_next}
 
 -- where the two machines stand
 abbrev pub at_unpacking : (at total connections records : ℕ) → Joining → Opened → Unpacking
@@ -31,11 +40,300 @@ Follows at total connections records joining opened j byte =
     let u = at_unpacking at total connections records joining opened in
     file_next (parsing_at u j) byte ≡ resumed j (unpack_next u byte)
 
+-- a choice by a test
+chosen_follows : (b : Bool) (x : Parsing) (u : Unpacking) (shown : Refusal) (fault : Fault) (j : Judged) → x ≡ parsing_at u j → shown ≡ refusal fault
+    → cond b (Goes x) (Ends shown) ≡ resumed j (cond b (Goes u) (Ends (Refuses fault)))
+chosen_follows true x u shown fault j goes ends = ap (λ (p : Parsing). Goes p) goes
+chosen_follows false x u shown fault j goes ends = ap (λ (s : Refusal). Ends s) ends
+
 -- ---- the magic
 
 magic_follows : (at total connections records n : ℕ) (j : Judged) (byte : ℕ) → n < 8 → Follows at total connections records Between (Magic (drop n MAGIC)) j byte
-magic_follows at total connections records zero j byte within = by_test (nat_eq byte 78)
+magic_follows at total connections records zero j byte within = chosen_follows (nat_eq byte 78) _ _ _ _ j refl refl
+magic_follows at total connections records (suc zero) j byte within = chosen_follows (nat_eq byte 70) _ _ _ _ j refl refl
+magic_follows at total connections records (suc (suc zero)) j byte within = chosen_follows (nat_eq byte 83) _ _ _ _ j refl refl
+magic_follows at total connections records (suc (suc (suc zero))) j byte within = chosen_follows (nat_eq byte 51) _ _ _ _ j refl refl
+magic_follows at total connections records (suc (suc (suc (suc zero)))) j byte within = chosen_follows (nat_eq byte 67) _ _ _ _ j refl refl
+magic_follows at total connections records (suc (suc (suc (suc (suc zero))))) j byte within = chosen_follows (nat_eq byte 65) _ _ _ _ j refl refl
+magic_follows at total connections records (suc (suc (suc (suc (suc (suc zero)))))) j byte within = chosen_follows (nat_eq byte 80) _ _ _ _ j refl refl
+magic_follows at total connections records (suc (suc (suc (suc (suc (suc (suc zero))))))) j byte within = chosen_follows (nat_eq byte 49) _ _ _ _ j refl refl
+magic_follows at total connections records (suc (suc (suc (suc (suc (suc (suc (suc n)))))))) j byte within = absurd (omega arith)
+
+-- ---- connection words
+
+marked_follows : (at total connections records : ℕ) (joining : Joining) (j : Judged) (w : ℕ) → joining ≡ Between
+    → parsing.marked One at total connections j.entries w ≡ resumed j (marked at total connections records joining w)
+marked_follows at total connections records joining j zero between = refl
+marked_follows at total connections records joining j (suc zero) between = by_test (nat_lt connections 65535)
   where
-    by_test : (b : Bool) → ?
-    by_test b = ?
-magic_follows at total connections records n j byte within = ?
+    by_test : (b : Bool) → cond b (Goes (parsing_in (at + 4) total (suc connections) j.entries (parsing.Inside (opened One (at + 4) total)))) (Ends (refusal (file_fault at TooManyConnections)))
+        ≡ resumed j (cond b (Ends (Has Begin [] (before_stream at total (connections + 1) joining Client))) (Ends (at_byte at TooManyConnections)))
+    by_test true = rw (between, add-one connections) refl
+    by_test false = refl
+marked_follows at total connections records joining j (suc (suc w)) between = refl
+
+mark_next_follows : (at total connections records : ℕ) (joining : Joining) (j : Judged) (n : Next (List ℕ) ℕ) → joining ≡ Between
+    → within (λ p. parsing_in at total connections j.entries (parsing.Mark p)) (parsing.marked One at total connections j.entries) n
+    ≡ resumed j (within (λ p. at_unpacking at total connections records joining (Mark p)) (marked at total connections records joining) n)
+mark_next_follows at total connections records joining j (Goes p) between = refl
+mark_next_follows at total connections records joining j (Ends w) between = marked_follows at total connections records joining j w between
+
+-- ---- the client's side
+
+abbrev pub at_fault : Fault → Next Parsing Refusal
+at_fault fault = Ends (refusal fault)
+
+-- a fault of the open record, by the count and by the messages
+cut_follows : (connections records byte : ℕ) (side : Side) (reason : Reason) (number : ℕ) → records ≡ number
+    → at_fault (place_at connections side (record { number = suc number; byte = byte; reason = reason }))
+    ≡ at_fault (record { place = places.Record connections side (records + 1) byte; reason = reason })
+cut_follows connections records byte side reason number is =
+    let next : suc number ≡ records + 1 = omega arith in
+    ap (λ (n : ℕ). at_fault (record { place = places.Record connections side n byte; reason = reason })) next
+
+-- the layers of the file's machine round one side
+abbrev pub in_client : Judged → ℕ → Next (Siding (List Item)) (SideEnd (List Item)) → Next Parsing Refusal
+in_client j connections n =
+    within (λ p. parsing_in j.start j.before connections j.entries (parsing.Inside p)) (parsing.closed One connections j.entries) (within InClient turning n)
+
+client_word_follows : (at total connections records : ℕ) (joining : Joining) (j : Judged) (w : ℕ) → records ≡ length j.calls
+    → in_client j connections (siding.counted (place_at connections Client) at total (record { messages = j.calls; joining = joining }) w)
+    ≡ resumed j (counted at total connections records Client joining w)
+client_word_follows at total connections records Between j zero is = refl
+client_word_follows at total connections records (Header body part) j zero is = cut_follows connections records (length body) Client RecordCut (length j.calls) is
+client_word_follows at total connections records (Bytes body last left) j zero is = cut_follows connections records (length body) Client RecordCut (length j.calls) is
+client_word_follows at total connections records joining j (suc left) is = by_test (nat_lt 1073741824 (total + suc left))
+  where
+    by_test : (b : Bool)
+        → in_client j connections (cond b (Ends (SideRefuses (file_fault at TooManyBytes)))
+        (Goes (siding_at (at + 4 + suc left) (total + suc left) j.calls joining (siding.Chunk left))))
+        ≡ resumed j (cond b (Ends (at_byte at TooManyBytes)) (Goes (in_chunk (at + 4 + suc left) (total + suc left) connections records Client (suc left) joining)))
+    by_test true = refl
+    by_test false = refl
+
+client_length_follows : (at total connections records : ℕ) (joining : Joining) (j : Judged) (n : Next (List ℕ) ℕ) → records ≡ length j.calls
+    → in_client j connections (within (λ p. siding_at at total j.calls joining (siding.Length p)) (siding.counted (place_at connections Client) at total (record { messages = j.calls; joining = joining })) n)
+    ≡ resumed j (within (λ p. at_unpacking at total connections records joining (Length Client p)) (counted at total connections records Client joining) n)
+client_length_follows at total connections records joining j (Goes p) is = refl
+client_length_follows at total connections records joining j (Ends w) is = client_word_follows at total connections records joining j w is
+
+call_follows : (at total connections records left : ℕ) (j : Judged) (r : Result (List Item) Stop)
+    → in_client j connections (within (λ r. record { at = at; total = total; reading = r; point = siding.awaiting left }) (λ shown. Ends (SideRefuses (place_at connections Client shown))) (judged j.calls r))
+    ≡ call_judged (in_chunk at total connections (records + 1) Client left Between) j r
+call_follows at total connections records zero j (Ok m) = refl
+call_follows at total connections records (suc left) j (Ok m) = refl
+call_follows at total connections records left j (Err stop) = refl
+
+client_chunk_follows : (at total connections records left : ℕ) (j : Judged) (n : Next Joining Joined) → records ≡ length j.calls
+    → in_client j connections (within (λ r. record { at = at; total = total; reading = r; point = siding.awaiting left }) (λ shown. Ends (SideRefuses (place_at connections Client shown)))
+    (within (λ s. record { messages = j.calls; joining = s }) (recorded judge_call j.calls) n))
+    ≡ resumed j (within (in_chunk at total connections records Client left) (joined at total connections records Client left) n)
+client_chunk_follows at total connections records zero j (Goes s) is = refl
+client_chunk_follows at total connections records (suc left) j (Goes s) is = refl
+client_chunk_follows at total connections records left j (Ends (Whole body)) is = call_follows at total connections records left j (judge_call j.calls body)
+client_chunk_follows at total connections records left j (Ends (TooLong byte)) is = cut_follows connections records byte Client RecordTooLong (length j.calls) is
+
+-- ---- the server's side
+
+abbrev pub in_server : Judged → ℕ → Next (Siding ReplyItems) (SideEnd ReplyItems) → Next Parsing Refusal
+in_server j connections n =
+    within (λ p. parsing_in j.start j.before connections j.entries (parsing.Inside p)) (parsing.closed One connections j.entries) (within (InServer j.calls) (ending j.calls) n)
+
+server_word_follows : (at total connections records : ℕ) (joining : Joining) (j : Judged) (w : ℕ) → records ≡ length j.replies
+    → in_server j connections (siding.counted (place_at connections Server) at total (record { messages = j.replies; joining = joining }) w)
+    ≡ resumed j (counted at total connections records Server joining w)
+server_word_follows at total connections records Between j zero is = refl
+server_word_follows at total connections records (Header body part) j zero is = cut_follows connections records (length body) Server RecordCut (length j.replies) is
+server_word_follows at total connections records (Bytes body last left) j zero is = cut_follows connections records (length body) Server RecordCut (length j.replies) is
+server_word_follows at total connections records joining j (suc left) is = by_test (nat_lt 1073741824 (total + suc left))
+  where
+    by_test : (b : Bool)
+        → in_server j connections (cond b (Ends (SideRefuses (file_fault at TooManyBytes)))
+        (Goes (siding_at (at + 4 + suc left) (total + suc left) j.replies joining (siding.Chunk left))))
+        ≡ resumed j (cond b (Ends (at_byte at TooManyBytes)) (Goes (in_chunk (at + 4 + suc left) (total + suc left) connections records Server (suc left) joining)))
+    by_test true = refl
+    by_test false = refl
+
+server_length_follows : (at total connections records : ℕ) (joining : Joining) (j : Judged) (n : Next (List ℕ) ℕ) → records ≡ length j.replies
+    → in_server j connections (within (λ p. siding_at at total j.replies joining (siding.Length p)) (siding.counted (place_at connections Server) at total (record { messages = j.replies; joining = joining })) n)
+    ≡ resumed j (within (λ p. at_unpacking at total connections records joining (Length Server p)) (counted at total connections records Server joining) n)
+server_length_follows at total connections records joining j (Goes p) is = refl
+server_length_follows at total connections records joining j (Ends w) is = server_word_follows at total connections records joining j w is
+
+reply_follows : (at total connections records left : ℕ) (j : Judged) (r : Result ReplyItems Stop)
+    → in_server j connections (within (λ r. record { at = at; total = total; reading = r; point = siding.awaiting left }) (λ shown. Ends (SideRefuses (place_at connections Server shown))) (judged j.replies r))
+    ≡ reply_judged (in_chunk at total connections (records + 1) Server left Between) j r
+reply_follows at total connections records zero j (Ok m) = refl
+reply_follows at total connections records (suc left) j (Ok m) = refl
+reply_follows at total connections records left j (Err stop) = refl
+
+server_chunk_follows : (at total connections records left : ℕ) (j : Judged) (n : Next Joining Joined) → records ≡ length j.replies
+    → in_server j connections (within (λ r. record { at = at; total = total; reading = r; point = siding.awaiting left }) (λ shown. Ends (SideRefuses (place_at connections Server shown)))
+    (within (λ s. record { messages = j.replies; joining = s }) (recorded (judge_replies j.calls) j.replies) n))
+    ≡ resumed j (within (in_chunk at total connections records Server left) (joined at total connections records Server left) n)
+server_chunk_follows at total connections records zero j (Goes s) is = refl
+server_chunk_follows at total connections records (suc left) j (Goes s) is = refl
+server_chunk_follows at total connections records left j (Ends (Whole body)) is = reply_follows at total connections records left j (judge_reply j.calls body)
+server_chunk_follows at total connections records left j (Ends (TooLong byte)) is = cut_follows connections records byte Server RecordTooLong (length j.replies) is
+
+-- ---- any byte
+
+byte_follows : (at total connections records : ℕ) (joining : Joining) (opened : Opened) (j : Judged) (byte : ℕ) → AgreesAt records joining opened j
+    → Follows at total connections records joining opened j byte
+byte_follows at total connections records joining (Magic due) j byte (n, within, is, between) =
+    subst (λ s. Follows at total connections records s (Magic due) j byte) (sym between)
+    (subst (λ (d : List ℕ). Follows at total connections records Between (Magic d) j byte) (sym is) (magic_follows at total connections records n j byte within))
+byte_follows at total connections records joining (Mark part) j byte between = mark_next_follows at total connections records joining j (word_next part byte) between
+byte_follows at total connections records joining (Length Client part) j byte is = client_length_follows at total connections records joining j (word_next part byte) is
+byte_follows at total connections records joining (Length Server part) j byte is = server_length_follows at total connections records joining j (word_next part byte) is
+byte_follows at total connections records joining (Chunk Client left) j byte is = client_chunk_follows at total connections records left j (join_next joining byte) is
+byte_follows at total connections records joining (Chunk Server left) j byte is = server_chunk_follows at total connections records left j (join_next joining byte) is
+byte_follows at total connections records joining Ended j byte agrees = refl
+
+pub follows : (u : Unpacking) (j : Judged) (byte : ℕ) → Agrees u j → file_next (parsing_at u j) byte ≡ resumed j (unpack_next u byte)
+follows u j byte agrees = byte_follows u.at u.total u.connections u.records u.joining u.opened j byte agrees
+
+-- ---- what was judged goes on belonging to what was taken
+
+one_more : {M : Type 0} (records : ℕ) (messages : List M) (m : M) → records ≡ length messages → records + 1 ≡ length (messages ++ m ∷ [])
+one_more records messages m is =
+    let size : length (messages ++ m ∷ []) ≡ length messages + 1 = length-append messages (m ∷ []) in
+    omega arith
+
+magic_agrees : (at total connections records n : ℕ) (j : Judged) (byte : ℕ) → n < 8
+    → AgreesOn j (unpack_next (at_unpacking at total connections records Between (Magic (drop n MAGIC))) byte)
+magic_agrees at total connections records zero j byte within = by_test (nat_eq byte 78)
+  where
+    by_test : (b : Bool) → AgreesOn j (cond b (Goes (at_unpacking (at + 1) total connections records Between (Magic (70 ∷ 83 ∷ 51 ∷ 67 ∷ 65 ∷ 80 ∷ 49 ∷ [])))) (Ends (at_byte at BadMagic)))
+    by_test true = (1, lit< tt, refl, refl)
+    by_test false = tt
+magic_agrees at total connections records (suc zero) j byte within = by_test (nat_eq byte 70)
+  where
+    by_test : (b : Bool) → AgreesOn j (cond b (Goes (at_unpacking (at + 1) total connections records Between (Magic (83 ∷ 51 ∷ 67 ∷ 65 ∷ 80 ∷ 49 ∷ [])))) (Ends (at_byte at BadMagic)))
+    by_test true = (2, lit< tt, refl, refl)
+    by_test false = tt
+magic_agrees at total connections records (suc (suc zero)) j byte within = by_test (nat_eq byte 83)
+  where
+    by_test : (b : Bool) → AgreesOn j (cond b (Goes (at_unpacking (at + 1) total connections records Between (Magic (51 ∷ 67 ∷ 65 ∷ 80 ∷ 49 ∷ [])))) (Ends (at_byte at BadMagic)))
+    by_test true = (3, lit< tt, refl, refl)
+    by_test false = tt
+magic_agrees at total connections records (suc (suc (suc zero))) j byte within = by_test (nat_eq byte 51)
+  where
+    by_test : (b : Bool) → AgreesOn j (cond b (Goes (at_unpacking (at + 1) total connections records Between (Magic (67 ∷ 65 ∷ 80 ∷ 49 ∷ [])))) (Ends (at_byte at BadMagic)))
+    by_test true = (4, lit< tt, refl, refl)
+    by_test false = tt
+magic_agrees at total connections records (suc (suc (suc (suc zero)))) j byte within = by_test (nat_eq byte 67)
+  where
+    by_test : (b : Bool) → AgreesOn j (cond b (Goes (at_unpacking (at + 1) total connections records Between (Magic (65 ∷ 80 ∷ 49 ∷ [])))) (Ends (at_byte at BadMagic)))
+    by_test true = (5, lit< tt, refl, refl)
+    by_test false = tt
+magic_agrees at total connections records (suc (suc (suc (suc (suc zero))))) j byte within = by_test (nat_eq byte 65)
+  where
+    by_test : (b : Bool) → AgreesOn j (cond b (Goes (at_unpacking (at + 1) total connections records Between (Magic (80 ∷ 49 ∷ [])))) (Ends (at_byte at BadMagic)))
+    by_test true = (6, lit< tt, refl, refl)
+    by_test false = tt
+magic_agrees at total connections records (suc (suc (suc (suc (suc (suc zero)))))) j byte within = by_test (nat_eq byte 80)
+  where
+    by_test : (b : Bool) → AgreesOn j (cond b (Goes (at_unpacking (at + 1) total connections records Between (Magic (49 ∷ [])))) (Ends (at_byte at BadMagic)))
+    by_test true = (7, lit< tt, refl, refl)
+    by_test false = tt
+magic_agrees at total connections records (suc (suc (suc (suc (suc (suc (suc zero))))))) j byte within = by_test (nat_eq byte 49)
+  where
+    by_test : (b : Bool) → AgreesOn j (cond b (Goes (at_unpacking (at + 1) total connections records Between (Mark []))) (Ends (at_byte at BadMagic)))
+    by_test true = refl
+    by_test false = tt
+magic_agrees at total connections records (suc (suc (suc (suc (suc (suc (suc (suc n)))))))) j byte within = absurd (omega arith)
+
+mark_agrees : (at total connections records : ℕ) (joining : Joining) (j : Judged) (n : Next (List ℕ) ℕ) → joining ≡ Between
+    → AgreesOn j (within (λ p. at_unpacking at total connections records joining (Mark p)) (marked at total connections records joining) n)
+mark_agrees at total connections records joining j (Goes p) between = between
+mark_agrees at total connections records joining j (Ends zero) between = tt
+mark_agrees at total connections records joining j (Ends (suc zero)) between = by_test (nat_lt connections 65535)
+  where
+    by_test : (b : Bool) → AgreesOn j (cond b (Ends (Has Begin [] (before_stream at total (connections + 1) joining Client))) (Ends (at_byte at TooManyConnections)))
+    by_test true = refl
+    by_test false = tt
+mark_agrees at total connections records joining j (Ends (suc (suc w))) between = tt
+
+-- the open stream's messages are as many as its records
+abbrev pub IsCounted : Side → ℕ → Judged → Type 0
+IsCounted Client records j = records ≡ length j.calls
+IsCounted Server records j = records ≡ length j.replies
+
+length_agrees : (at total connections records : ℕ) (side : Side) (joining : Joining) (j : Judged) (n : Next (List ℕ) ℕ) → IsCounted side records j
+    → AgreesOn j (within (λ p. at_unpacking at total connections records joining (Length side p)) (counted at total connections records side joining) n)
+length_agrees at total connections records Client joining j (Goes p) is = is
+length_agrees at total connections records Server joining j (Goes p) is = is
+length_agrees at total connections records Client Between j (Ends zero) is = refl
+length_agrees at total connections records Server Between j (Ends zero) is = refl
+length_agrees at total connections records side (Header body part) j (Ends zero) is = tt
+length_agrees at total connections records side (Bytes body last left) j (Ends zero) is = tt
+length_agrees at total connections records side joining j (Ends (suc left)) is = by_test (nat_lt 1073741824 (total + suc left)) side is
+  where
+    by_test : (b : Bool) (side : Side) → IsCounted side records j
+        → AgreesOn j (cond b (Ends (at_byte at TooManyBytes)) (Goes (in_chunk (at + 4 + suc left) (total + suc left) connections records side (suc left) joining)))
+    by_test true side is = tt
+    by_test false Client is = is
+    by_test false Server is = is
+
+chunk_agrees : (at total connections records left : ℕ) (side : Side) (j : Judged) (n : Next Joining Joined) → IsCounted side records j
+    → AgreesOn j (within (in_chunk at total connections records side left) (joined at total connections records side left) n)
+chunk_agrees at total connections records zero Client j (Goes s) is = is
+chunk_agrees at total connections records (suc left) Client j (Goes s) is = is
+chunk_agrees at total connections records zero Server j (Goes s) is = is
+chunk_agrees at total connections records (suc left) Server j (Goes s) is = is
+chunk_agrees at total connections records zero Client j (Ends (Whole body)) is = λ call. one_more records j.calls call is
+chunk_agrees at total connections records (suc left) Client j (Ends (Whole body)) is = λ call. one_more records j.calls call is
+chunk_agrees at total connections records zero Server j (Ends (Whole body)) is = λ reply. one_more records j.replies reply is
+chunk_agrees at total connections records (suc left) Server j (Ends (Whole body)) is = λ reply. one_more records j.replies reply is
+chunk_agrees at total connections records left side j (Ends (TooLong byte)) is = tt
+
+byte_agrees : (at total connections records : ℕ) (joining : Joining) (opened : Opened) (j : Judged) (byte : ℕ) → AgreesAt records joining opened j
+    → AgreesOn j (unpack_next (at_unpacking at total connections records joining opened) byte)
+byte_agrees at total connections records joining (Magic due) j byte (n, within, is, between) =
+    subst (λ s. AgreesOn j (unpack_next (at_unpacking at total connections records s (Magic due)) byte)) (sym between)
+    (subst (λ (d : List ℕ). AgreesOn j (unpack_next (at_unpacking at total connections records Between (Magic d)) byte)) (sym is) (magic_agrees at total connections records n j byte within))
+byte_agrees at total connections records joining (Mark part) j byte between = mark_agrees at total connections records joining j (word_next part byte) between
+byte_agrees at total connections records joining (Length Client part) j byte is = length_agrees at total connections records Client joining j (word_next part byte) is
+byte_agrees at total connections records joining (Length Server part) j byte is = length_agrees at total connections records Server joining j (word_next part byte) is
+byte_agrees at total connections records joining (Chunk Client left) j byte is = chunk_agrees at total connections records left Client j (join_next joining byte) is
+byte_agrees at total connections records joining (Chunk Server left) j byte is = chunk_agrees at total connections records left Server j (join_next joining byte) is
+byte_agrees at total connections records joining Ended j byte agrees = tt
+
+pub agrees_on : (u : Unpacking) (j : Judged) (byte : ℕ) → Agrees u j → AgreesOn j (unpack_next u byte)
+agrees_on u j byte agrees = byte_agrees u.at u.total u.connections u.records u.joining u.opened j byte agrees
+
+-- ---- lists of bytes
+
+-- where it runs
+pub runs_follow : (bytes : List ℕ) (u v : Unpacking) (j : Judged) → Agrees u j → after unpack_next (Runs u) bytes ≡ Runs v
+    → (after file_next (Runs (parsing_at u j)) bytes ≡ Runs (parsing_at v j)) × Agrees v j
+runs_follow [] u v j agrees e =
+    let same : u ≡ v = cc in
+    (ap (λ (w : Unpacking). Runs (parsing_at w j)) same, subst (λ (w : Unpacking). Agrees w j) same agrees)
+runs_follow (byte ∷ bytes) u v j agrees e = on (unpack_next u byte) (follows u j byte agrees) (agrees_on u j byte agrees) e (λ w. runs_follow bytes w v j)
+  where
+    on : (n : Next Unpacking Unpacked) → file_next (parsing_at u j) byte ≡ resumed j n → AgreesOn j n → after unpack_next (landed n) bytes ≡ Runs v
+        → ((w : Unpacking) → Agrees w j → after unpack_next (Runs w) bytes ≡ Runs v → (after file_next (Runs (parsing_at w j)) bytes ≡ Runs (parsing_at v j)) × Agrees v j)
+        → (after file_next (landed (file_next (parsing_at u j) byte)) bytes ≡ Runs (parsing_at v j)) × Agrees v j
+    on (Goes w) same next e more =
+        let rest = more w next e in
+        (ap (λ n. after file_next (landed n) bytes) same ∙ rest.0, rest.1)
+    on (Ends x) same next e more = absurd (not_runs unpack_next x v bytes e)
+
+-- where it stops
+pub stops_follow : (bytes : List ℕ) (u : Unpacking) (x : Unpacked) (j : Judged) → Agrees u j → after unpack_next (Runs u) bytes ≡ Stops x
+    → (after file_next (Runs (parsing_at u j)) bytes ≡ landed (resumed j (Ends x))) × AgreesOn j (Ends x)
+stops_follow [] u x j agrees e = absurd (cc)
+stops_follow (byte ∷ bytes) u x j agrees e = on (unpack_next u byte) (follows u j byte agrees) (agrees_on u j byte agrees) e (λ w. stops_follow bytes w x j)
+  where
+    on : (n : Next Unpacking Unpacked) → file_next (parsing_at u j) byte ≡ resumed j n → AgreesOn j n → after unpack_next (landed n) bytes ≡ Stops x
+        → ((w : Unpacking) → Agrees w j → after unpack_next (Runs w) bytes ≡ Stops x → (after file_next (Runs (parsing_at w j)) bytes ≡ landed (resumed j (Ends x))) × AgreesOn j (Ends x))
+        → (after file_next (landed (file_next (parsing_at u j) byte)) bytes ≡ landed (resumed j (Ends x))) × AgreesOn j (Ends x)
+    on (Goes w) same next e more =
+        let rest = more w next e in
+        (ap (λ n. after file_next (landed n) bytes) same ∙ rest.0, rest.1)
+    on (Ends y) same next e more =
+        let (none, equal) = only_stops unpack_next y x bytes e in
+        (ap (λ n. after file_next (landed n) bytes) same ∙ ap (λ b. after file_next (landed (resumed j (Ends y))) b) none ∙ ap (λ z. landed (resumed j (Ends z))) equal,
+        subst (λ z. AgreesOn j (Ends z)) equal next)

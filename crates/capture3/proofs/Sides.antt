@@ -243,7 +243,7 @@ chunk_runs : {M : Type 0} (judge : Judged M) (position : Position) (at total : �
 chunk_runs judge position at total r t header got left word some fits e =
     after-append (side_next judge.decide (place_in position)) (Runs (record { at = at; total = total; reading = r; point = Length [] })) header got
     ∙ ap (λ run. after (side_next judge.decide (place_in position)) run got) (opens judge position at total (length got + left) r header word some fits)
-    ∙ counted_runs (stream_next judge.decide) (side_next judge.decide (place_in position)) (λ n s. record { at = at + 4 + (length got + left); total = total + (length got + left); reading = s; point = awaiting n }) (λ shown. Ends (SideRefuses (place_in position shown))) (λ n s byte. refl)
+    ∙ counted_runs (stream_next judge.decide) (side_next judge.decide (place_in position)) (λ n s. record { at = at + 4 + (length got + left); total = total + (length got + left); reading = s; point = awaiting n }) (λ _ shown. Ends (SideRefuses (place_in position shown))) (λ n s byte. refl)
     got (length got + left) left r t refl e
 
 chunk_stops : {M : Type 0} (judge : Judged M) (position : Position) (at total : ℕ) (r : Reading M) (header got : List ℕ) (left : ℕ) (shown : RecordFault) → IsWord header (length got + left) → 0 < length got + left → total + (length got + left) ≤ max_bytes → after (stream_next judge.decide) (Runs r) got ≡ Stops shown
@@ -251,7 +251,7 @@ chunk_stops : {M : Type 0} (judge : Judged M) (position : Position) (at total : 
 chunk_stops judge position at total r header got left shown word some fits e =
     after-append (side_next judge.decide (place_in position)) (Runs (record { at = at; total = total; reading = r; point = Length [] })) header got
     ∙ ap (λ run. after (side_next judge.decide (place_in position)) run got) (opens judge position at total (length got + left) r header word some fits)
-    ∙ counted_stops (stream_next judge.decide) (side_next judge.decide (place_in position)) (λ n s. record { at = at + 4 + (length got + left); total = total + (length got + left); reading = s; point = awaiting n }) (λ shown. Ends (SideRefuses (place_in position shown))) (λ n s byte. refl)
+    ∙ counted_stops (stream_next judge.decide) (side_next judge.decide (place_in position)) (λ n s. record { at = at + 4 + (length got + left); total = total + (length got + left); reading = s; point = awaiting n }) (λ _ shown. Ends (SideRefuses (place_in position shown))) (λ n s byte. refl)
     got (length got + left) left r shown refl e
 
 chunks_run : {M : Type 0} (judge : Judged M) (position : Position) (chunks : List (List ℕ)) (at total end sum : ℕ) (r t : Reading M) (front : List ℕ) → Joins IsChunk front chunks → after (stream_next judge.decide) (Runs r) (concat chunks) ≡ Runs t → total + length (concat chunks) ≤ max_bytes

@@ -68,7 +68,7 @@ pub not_runs : {S X : Type 0} (next : S → ℕ → Next S X) (x : X) (s : S) (b
 not_runs next x s [] e = cc
 not_runs next x s (byte ∷ bytes) e = let same = after_stopped next x bytes in cc
 
-only_stops : {S X : Type 0} (next : S → ℕ → Next S X) (x y : X) (bytes : List ℕ) → after next (Stops x) bytes ≡ Stops y → (bytes ≡ []) × (x ≡ y)
+pub only_stops : {S X : Type 0} (next : S → ℕ → Next S X) (x y : X) (bytes : List ℕ) → after next (Stops x) bytes ≡ Stops y → (bytes ≡ []) × (x ≡ y)
 only_stops next x y [] e = (refl, cc)
 only_stops next x y (byte ∷ bytes) e = let same = after_stopped next x bytes in absurd (cc)
 
