@@ -5,3 +5,8 @@ pub mod Sides
 pub mod Layouts
 pub mod Bodies
 pub mod Converses
+pub mod Openings
+pub mod Telling
+pub mod Files
+pub mod Verdicts
+pub mod Reaches
