@@ -1,5 +1,5 @@
 -- What is made of bytes is bytes.
-use Rattle.std.proofs.Common.{◌≡◌, ℕ, zero, suc, ◌<◌, List, [], ◌∷◌, ◌++◌, sym, subst, arith, Bool, false}
+use Rattle.std.proofs.Common.{◌≡◌, ℕ, zero, suc, ◌<◌, List, [], ◌∷◌, ◌++◌, sym, subst, arith, false}
 use Rattle.std.specs.List.{concat}
 use Rattle.xdr3.specs.Item.{AreBytes}
 use Rattle.record_mark.specs.RecordMark.{IsFragment, IsRecord}

@@ -10,3 +10,5 @@ pub mod Telling
 pub mod Files
 pub mod Verdicts
 pub mod Reaches
+pub mod Emits
+pub mod Limits

@@ -1,23 +1,18 @@
 -- What a clean prefix reaches, by its parts and by the machine.
-use Rattle.std.proofs.Common.{◌≡◌, ◌⊎◌, inl, inr, ℕ, suc, ◌+◌, ◌<◌, ◌≤◌, List, [], ◌∷◌, ◌++◌, length, map, refl, sym, ap, ap₂, subst, ◌∙◌, append_assoc, append-nil, arith, length-append}
-use Rattle.xdr3.specs.Item.{Item}
-use Rattle.record_mark.specs.Machine.{Run, Runs}
-use Rattle.record_mark.specs.Word.{IsWord}
-use Rattle.capture3.specs.Bodies.{ReplyItems}
-use Rattle.capture3.specs.Capture.{Version, One, digit, magic_front, magic, Streams, total_size}
+use Rattle.std.proofs.Common.{◌≡◌, inl, inr, ℕ, suc, ◌+◌, List, [], ◌∷◌, ◌++◌, length, map, refl, sym, ap, subst, ◌∙◌, append_assoc, append-nil, arith}
+use Rattle.capture3.specs.Capture.{Version, One, digit, magic_front, magic, total_size}
 use Rattle.capture3.specs.Chunks.{BeginsStream}
-use Rattle.capture3.specs.Connections.{Context, Refusal, client_position, server_position, calls_in_turn, replies_to}
+use Rattle.capture3.specs.Connections.{Context, client_position, server_position, calls_in_turn, replies_to}
 use Rattle.capture3.specs.Entry.{Entry, Begin, Call, Turn}
-use Rattle.capture3.specs.FirstFault.{Opens}
 use Rattle.capture3.specs.Opening.{Opening, InClient, InServer, opening_entries}
-use Rattle.capture3.specs.Parsing.{Spot, Magic, Digit, Mark, Inside, Ended, Parsing, parsed, emitted, magic_left}
+use Rattle.capture3.specs.Parsing.{Spot, Magic, Digit, Mark, Inside, Ended, Parsing, emitted}
 use Rattle.capture3.specs.Reached.{ReachesInside, AreWhole, InMagic, BetweenConnections, InConnection}
 use Rattle.capture3.specs.Reading.{Reading}
 use Rattle.capture3.specs.Records.{Judgement, HoldsSoFar}
 use Rattle.capture3.specs.Sides.{Position}
 use Rattle.capture3.specs.Siding.{Siding, Length, Chunk, Point}
 use Rattle.capture3.specs.Typed.{reply_entry}
-use Rattle.capture3.proofs.Files.{HasSpot, Stands, file_runs, magic_goes, magic_split}
+use Rattle.capture3.proofs.Files.{HasSpot, Stands, magic_split}
 use Rattle.capture3.proofs.Openings.{HasOpening}
 use Rattle.capture3.proofs.Sides.{HasPoint, HasSide}
 use Rattle.capture3.proofs.Streams.{HasRead, has_read, holds_so_far}
@@ -34,8 +29,7 @@ side_begun {M} judge position bytes stream messages (inl b) h =
 side_begun {M} judge position bytes stream messages (inr b) h =
     let read = has_read judge stream messages h in
     let s : Siding M = record { at = position.start + length bytes + suc b.left; total = position.before + length stream + suc b.left; reading = record { messages = messages; joining = read.0 }; point = Chunk b.left } in
-    let reading : Reading M = record { messages = messages; joining = read.0 } in
-    (
+    let reading : Reading M = record { messages = messages; joining = read.0 } in (
       s,
       record {
         front = b.front;
@@ -58,12 +52,11 @@ begun_side : {M : Type 0} (judge : Judgement M) (position : Position) (bytes : L
     → (stream : List ℕ) × BeginsStream position.before bytes stream × HoldsSoFar judge stream reading.messages
 begun_side judge position bytes at total reading (Length part) h =
     (h.stream, inl (record { front = h.front; part = part; split = h.split; chunks = h.chunks; short = h.short; fits = omega (arith, h.total_is, h.fits) }), holds_so_far judge h.stream reading h.read)
-begun_side judge position bytes at total reading (Chunk left) h =
-    (
-      h.stream ++ h.got,
-      inr (record { front = h.front; header = h.header; got = h.got; carried = h.stream; left = left; split = h.split; chunks = h.chunks; word = h.word; stream_is = refl; fits = omega (arith, h.total_is, h.fits) }),
-      holds_so_far judge (h.stream ++ h.got) reading h.read,
-    )
+begun_side judge position bytes at total reading (Chunk left) h = (
+  h.stream ++ h.got,
+  inr (record { front = h.front; header = h.header; got = h.got; carried = h.stream; left = left; split = h.split; chunks = h.chunks; word = h.word; stream_is = refl; fits = omega (arith, h.total_is, h.fits) }),
+  holds_so_far judge (h.stream ++ h.got) reading h.read,
+)
 
 -- ---- a connection
 
@@ -72,8 +65,7 @@ opening_begun One context bytes more (inl r) =
     let s = side_begun calls_in_turn (client_position context) bytes r.stream r.calls r.begins r.holds in
     (InClient s.0, s.1, ap (λ calls. Begin ∷ map Call calls) s.2 ∙ sym r.entries_are)
 opening_begun One context bytes more (inr r) =
-    let s = side_begun (replies_to r.calls) (server_position context r.front r.client) r.last r.server r.replies r.begins r.answers in
-    (
+    let s = side_begun (replies_to r.calls) (server_position context r.front r.client) r.last r.server r.replies r.begins r.answers in (
       InServer r.calls s.0,
       record { front = r.front; last = r.last; client = r.client; split = r.split; first = r.first; holds = r.holds; fits = r.fits; rest = s.1 },
       ap (λ replies. (Begin ∷ map Call r.calls) ++ (Turn ∷ map reply_entry replies)) s.2 ∙ sym r.entries_are,

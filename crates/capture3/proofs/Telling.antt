@@ -1,9 +1,9 @@
 -- A machine over bytes tells what it is shown to tell, where they are bytes.
-use Rattle.std.proofs.Common.{◌≡◌, ℕ, List, [], ◌∷◌, ◌++◌, refl}
+use Rattle.std.proofs.Common.{ℕ, List, [], ◌∷◌, ◌++◌, refl}
 use Rattle.xdr3.specs.Item.{AreBytes}
 use Rattle.record_mark.specs.Machine.{Next, Goes, Ends, Run, Runs, Stops, Stopped, after}
 use Rattle.record_mark.proofs.Machines.{Leads, Tells, tells}
-use Rattle.capture3.proofs.BytesOf.{AreBytes-nil, split_bytes}
+use Rattle.capture3.proofs.BytesOf.{split_bytes}
 
 -- so far as these are bytes
 abbrev WhereBytes : {X : Type 0} → (List ℕ → X → Type 0) → List ℕ → X → Type 0

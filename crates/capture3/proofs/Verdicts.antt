@@ -1,5 +1,5 @@
 -- A file is well formed with its entries, or has one first fault, as the machine says.
-use Rattle.std.proofs.Common.{◌≡◌, ◌⊎◌, inl, inr, ℕ, List, [], ◌∷◌, ◌++◌, length, refl, sym, ap, ap₂, subst, ◌∙◌, append-nil, Result, Ok, Err}
+use Rattle.std.proofs.Common.{◌≡◌, inl, inr, ℕ, List, [], ◌∷◌, ◌++◌, length, refl, sym, ap, subst, ◌∙◌, append-nil, Result, Ok, Err}
 use Rattle.record_mark.specs.Machine.{Run, Runs, Stops, Stopped, after}
 use Rattle.record_mark.proofs.Machines.{Tells, after-append, after_stopped, ran_to, not_runs}
 use Rattle.xdr3.specs.Item.{AreBytes}
@@ -17,7 +17,7 @@ use Rattle.capture3.proofs.BytesOf.{split_bytes}
 use Rattle.capture3.proofs.Files.{HasSpot, Stands, file_tells, file_runs, rule_stops}
 
 -- the machine's runs, told of their bytes
-told : (bytes : List ℕ) (run : Run Parsing Refusal) → AreBytes bytes → parsed bytes ≡ run → Tells Stands Rule bytes run
+pub told : (bytes : List ℕ) (run : Run Parsing Refusal) → AreBytes bytes → parsed bytes ≡ run → Tells Stands Rule bytes run
 told bytes run are e = subst (λ r. Tells Stands Rule bytes r) e (file_tells bytes are)
 
 -- a fault is shown by the last byte exactly where the machine stops at it
@@ -31,7 +31,7 @@ shows_from_stops bytes shown are e =
     }
 
 -- a prefix of what the machine runs through shows nothing
-clean_from_runs : (bytes : List ℕ) (s : Parsing) → parsed bytes ≡ Runs s → IsClean bytes
+pub clean_from_runs : (bytes : List ℕ) (s : Parsing) → parsed bytes ≡ Runs s → IsClean bytes
 clean_from_runs bytes s e front rest fault split shows =
     let ran = ran_to file_next (Runs file_start) front rest s (ap parsed (sym split) ∙ e) in
     let stops = rule_stops front fault shows.rule in
@@ -165,4 +165,3 @@ is_cut_short file are entries front more byte typed split =
     fault_from_verdict front (file_fault (length front) CaptureCut) (split_bytes file front (byte ∷ more) split are).0
     (ap (verdict_of (length front)) ran.1
     ∙ not_ended s.version typed.version front more byte s.at s.total s.number (length file) (total_size typed.connections) (length typed.connections) s.entries typed.front s.spot ran.1 (ap parsed (sym split) ∙ whole))
-
