@@ -12,3 +12,4 @@ pub mod Verdicts
 pub mod Reaches
 pub mod Emits
 pub mod Limits
+pub mod Examples

@@ -19,3 +19,4 @@ pub mod Records
 pub mod Sides
 pub mod Siding
 pub mod Typed
+pub mod Examples

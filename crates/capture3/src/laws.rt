@@ -13,6 +13,13 @@ ghost use Rattle.capture3.specs.Laws.{AreWithinLimits, HasOneVerdict, IsCutShort
 ghost use Rattle.capture3.specs.Parsing.{file_next, parsed, reached, verdict};
 ghost use Rattle.capture3.specs.Reached.{Reached};
 ghost use Rattle.capture3.specs.Typed.{Typed};
+ghost use Rattle.std.specs.Prelude.{[], ◌∷◌};
+ghost use Rattle.xdr3.specs.declared.reason.Reason.TheVariants.{AfterEnd, BadEnum, CaptureCut, TooManyBytes};
+ghost use Rattle.capture3.specs.declared.fault.Place.TheVariants.{Record};
+ghost use Rattle.capture3.specs.declared.fault.Side.TheVariants.{Client};
+ghost use Rattle.capture3.specs.Entry.{End};
+ghost use Rattle.capture3.specs.Examples.{bad_mtype, bad_mtype_cut, magic_1, null_capture, null_entries, word_0, word_1};
+ghost use Rattle.capture3.specs.Sides.{file_fault};
 
 /// For each file exactly one holds: one list of entries, or one first fault.
 pub fn one_verdict()
@@ -55,4 +62,14 @@ pub fn machine()
 /// The pieces in which the bytes come play no part.
 pub fn pieces()
     ensures { (front back : List ℕ) → parsed (front ++ back) ≡ after file_next (parsed front) back }
+{}
+
+/// What small captures are: one call of NULL and its reply, the smallest file, and some with faults.
+pub fn examples()
+    ensures null { Typed null_capture null_entries }
+    ensures smallest { Typed (magic_1 ++ word_0) (End ∷ []) }
+    ensures after_end { FirstFault (magic_1 ++ word_0 ++ 7 ∷ []) (file_fault 12 AfterEnd) }
+    ensures too_many_bytes { FirstFault (magic_1 ++ word_1 ++ 64 ∷ 0 ∷ 0 ∷ 1 ∷ []) (file_fault 12 TooManyBytes) }
+    ensures bad_mtype { FirstFault bad_mtype (record { place = Record 1 Client 1 4; reason = BadEnum }) }
+    ensures bad_mtype_cut { FirstFault bad_mtype_cut (file_fault 27 CaptureCut) }
 {}
