@@ -1,14 +1,13 @@
 -- Bodies of calls and of replies, judged from left to right, against what they are.
-use Rattle.std.proofs.Common.{◌≡◌, ◌≢◌, ◌⊎◌, ℕ, ◌+◌, ◌<◌, Bool, true, false, cond, nat_eq, IsTrue, List, [], ◌∷◌, ◌++◌, length, drop, Option, Some, None, Result, Ok, Err, refl, sym, ap, subst, ◌∙◌, append_assoc, inl, inr, arith, eqb-true, eq-eqb}
+use Rattle.std.proofs.Common.{◌≡◌, ◌≢◌, ◌⊎◌, ℕ, ◌+◌, Bool, true, false, cond, nat_eq, IsTrue, List, [], ◌∷◌, ◌++◌, length, drop, Option, Some, None, Result, Ok, Err, refl, sym, ap, subst, ◌∙◌, append_assoc, inl, inr, arith, eqb-true, eq-eqb}
 use Rattle.std.specs.Prelude.{◌&&◌}
-use Rattle.xdr3.specs.declared.reason.Reason.{Reason}
-use Rattle.xdr3.specs.declared.reason.Reason.TheVariants.{BadEnum, NoCall, WrongSide, XidConflict}
+use Rattle.xdr3.specs.declared.reason.Reason.TheVariants.{WrongSide, XidConflict}
 use Rattle.xdr3.specs.declared.reason.Stop.{Stop}
 use Rattle.xdr3.specs.Item.{Item, Word, AreBytes, Spells}
-use Rattle.xdr3.specs.Layout.{Layout, after, FitsLayout, ReadsLayout}
+use Rattle.xdr3.specs.Layout.{Layout, ReadsLayout}
 use Rattle.xdr3.specs.Reading.{◌>>=◌, reading, refused}
-use Rattle.xdr3.specs.Shape.{Shape, Fits, Reads, Refuses, is_listed, listed, word}
-use Rattle.xdr3.proofs.Bytes.{bind_ok, bind_err, never, ok_is, err_is}
+use Rattle.xdr3.specs.Shape.{Fits, Reads, Refuses, is_listed, listed, word}
+use Rattle.xdr3.proofs.Bytes.{ok_is}
 use Rattle.xdr3.proofs.Complete.{complete}
 use Rattle.xdr3.proofs.Decided.{both_ways}
 use Rattle.xdr3.proofs.Items.{Spells-split}
@@ -79,13 +78,15 @@ call_starts body items left r =
     let h = has_start (0 ∷ []) body r.3.front r.3.front r.2 p.0 p.1 p.2 (subst (λ (xs : List Item). Spells xs r.3.front) p.4 r.3.spells) r.3.whole in
     let mtype = only_zero h.1 h.4 in
     let xid : h.0 ≡ xid_in items = sym (ap xid_in (r.5 ∙ ap (λ (b : List Item). b ++ r.1) (p.4 ∙ ap (λ (b : List Item). b ++ p.1) h.5))) in
-    let same : start_of h.0 h.1 ≡ start_of (xid_in items) 0 = ap (λ (n : ℕ). start_of n h.1) xid ∙ ap (start_of (xid_in items)) mtype in
-    (h.2, record {
-      front = h.3;
-      fits = (Word names.xid (xid_in items) ∷ [], Word names.mtype 0 ∷ [], (xid_in items, [], refl, refl, refl), (0, [], refl, refl, refl), refl);
-      spells = subst (λ (xs : List Item). Spells xs h.3) same h.6;
-      whole = h.7;
-    })
+    let same : start_of h.0 h.1 ≡ start_of (xid_in items) 0 = ap (λ (n : ℕ). start_of n h.1) xid ∙ ap (start_of (xid_in items)) mtype in (
+      h.2,
+      record {
+        front = h.3;
+        fits = (Word names.xid (xid_in items) ∷ [], Word names.mtype 0 ∷ [], (xid_in items, [], refl, refl, refl), (0, [], refl, refl, refl), refl);
+        spells = subst (λ (xs : List Item). Spells xs h.3) same h.6;
+        whole = h.7;
+      },
+    )
 
 pub reply_starts : (results : Layout) (body : List ℕ) (items : List Item) (left : List ℕ) → ReadsLayout (reply_layout results) body items left → Starts body (xid_in items) 1
 unfolding reply_layout reply_start message_start
@@ -94,13 +95,15 @@ reply_starts results body items left r =
     let h = has_start (1 ∷ []) body r.3.front r.3.front r.2 p.0 p.1 p.2 (subst (λ (xs : List Item). Spells xs r.3.front) p.4 r.3.spells) r.3.whole in
     let mtype = only_one h.1 h.4 in
     let xid : h.0 ≡ xid_in items = sym (ap xid_in (r.5 ∙ ap (λ (b : List Item). b ++ r.1) (p.4 ∙ ap (λ (b : List Item). b ++ p.1) h.5))) in
-    let same : start_of h.0 h.1 ≡ start_of (xid_in items) 1 = ap (λ (n : ℕ). start_of n h.1) xid ∙ ap (start_of (xid_in items)) mtype in
-    (h.2, record {
-      front = h.3;
-      fits = (Word names.xid (xid_in items) ∷ [], Word names.mtype 1 ∷ [], (xid_in items, [], refl, refl, refl), (1, [], refl, refl, refl), refl);
-      spells = subst (λ (xs : List Item). Spells xs h.3) same h.6;
-      whole = h.7;
-    })
+    let same : start_of h.0 h.1 ≡ start_of (xid_in items) 1 = ap (λ (n : ℕ). start_of n h.1) xid ∙ ap (start_of (xid_in items)) mtype in (
+      h.2,
+      record {
+        front = h.3;
+        fits = (Word names.xid (xid_in items) ∷ [], Word names.mtype 1 ∷ [], (xid_in items, [], refl, refl, refl), (1, [], refl, refl, refl), refl);
+        spells = subst (λ (xs : List Item). Spells xs h.3) same h.6;
+        whole = h.7;
+      },
+    )
 
 -- what is read of a start
 pub record IsStarted (body : List ℕ) (start : List Item) : Type 0 where

@@ -1,5 +1,5 @@
 -- What is made of bytes is bytes.
-use Rattle.std.proofs.Common.{◌≡◌, ℕ, zero, suc, ◌<◌, List, [], ◌∷◌, ◌++◌, sym, subst, arith, Bool, false}
+use Rattle.std.proofs.Common.{◌≡◌, ℕ, zero, suc, ◌<◌, List, [], ◌∷◌, ◌++◌, refl, sym, ap, subst, ◌∙◌, arith, Bool, true, false, cond, nat_lt, ltb-true}
 use Rattle.std.specs.List.{concat}
 use Rattle.xdr3.specs.Item.{AreBytes}
 use Rattle.record_mark.specs.RecordMark.{IsFragment, IsRecord}
@@ -54,3 +54,17 @@ record_bytes bytes body h are =
     (AreBytes-append (concat h.fragments) h.last
     (joined_bytes (IsFragment false) (λ b carried f all. (split_bytes b f.0 carried f.1 all).1) h.fragments h.front h.joined parts.0)
     (split_bytes h.back h.closes.0 h.last h.closes.1 parts.1).1)
+
+-- a list of numerals is checked by computing
+unfoldable pub all_bytes : List ℕ → Bool
+all_bytes [] = true
+all_bytes (b ∷ bytes) = cond (nat_lt b 256) (all_bytes bytes) false
+
+pub checked : (bytes : List ℕ) → all_bytes bytes ≡ true → AreBytes bytes
+unfolding all_bytes
+checked [] e = AreBytes-nil
+checked (b ∷ bytes) e = go (nat_lt b 256) refl (checked bytes)
+  where
+    go : (t : Bool) → nat_lt b 256 ≡ t → (all_bytes bytes ≡ true → AreBytes bytes) → AreBytes (b ∷ bytes)
+    go true below more = AreBytes-cons b bytes (ltb-true b 256 below) (more (ap (λ (t : Bool). cond t (all_bytes bytes) false) (sym below) ∙ e))
+    go false below more = let f = ap (λ (t : Bool). cond t (all_bytes bytes) false) (sym below) ∙ e in absurd (cc)

@@ -1,9 +1,9 @@
 -- Judging body by body says the same of a connection as what its messages are together.
-use Rattle.std.proofs.Common.{◌≡◌, ◌⊎◌, ℕ, Bool, true, false, cond, nat_eq, List, [], ◌∷◌, ◌++◌, Option, Some, None, refl, sym, ap, subst, ◌∙◌, append_assoc, append-nil, inl, inr, eqb-true, eq-eqb}
+use Rattle.std.proofs.Common.{◌≡◌, ◌⊎◌, ℕ, Bool, true, false, cond, nat_eq, List, [], ◌∷◌, ◌++◌, Some, refl, sym, ap, subst, ◌∙◌, append_assoc, append-nil, inl, inr, eqb-true, eq-eqb}
 use Rattle.xdr3.specs.Item.{Item}
 use Rattle.rpc_head.specs.declared.call.ProcId.{ProcId}
 use Rattle.rpc_head.specs.Messages.{procedure_in}
-use Rattle.capture3.specs.Bodies.{ReplyItems, IsCall, IsReply, xid_in, procedure_of, AcceptsCall, AcceptsReply}
+use Rattle.capture3.specs.Bodies.{ReplyItems, IsCall, IsReply, xid_in, procedure_of, AcceptsCall}
 use Rattle.capture3.specs.Capture.{Streams}
 use Rattle.capture3.specs.Connections.{calls_in_turn, replies_to}
 use Rattle.capture3.specs.Laws.{IsJudgedInTurn}
@@ -105,14 +105,16 @@ calls_have_one (body ∷ bodies) before calls one h =
 calls_in_order : (bodies : List (List ℕ)) (before calls : List (List Item)) → HaveOneProcedure (before ++ calls) → AreEach IsCall bodies calls → AreMessages calls_in_turn before bodies calls
 calls_in_order [] before calls one h = h
 calls_in_order (body ∷ bodies) before calls one h =
-    let all : HaveOneProcedure (before ++ h.0 ∷ h.1) = subst (λ l. HaveOneProcedure (before ++ l)) h.2 one in
-    (
+    let all : HaveOneProcedure (before ++ h.0 ∷ h.1) = subst (λ l. HaveOneProcedure (before ++ l)) h.2 one in (
       h.0,
       h.1,
       h.2,
-      (h.3, λ id known.
-          let m = known_call before (xid_in h.0) id known in
-          sym m.3 ∙ all m.0 h.0 (IsIn-left m.0 before (h.0 ∷ h.1) m.1) (IsIn-right h.0 before (h.0 ∷ h.1) (IsIn-here h.0 h.1)) m.2),
+      (
+        h.3,
+        λ id known.
+            let m = known_call before (xid_in h.0) id known in
+            sym m.3 ∙ all m.0 h.0 (IsIn-left m.0 before (h.0 ∷ h.1) m.1) (IsIn-right h.0 before (h.0 ∷ h.1) (IsIn-here h.0 h.1)) m.2,
+      ),
       calls_in_order bodies (before ++ h.0 ∷ []) h.1 (subst HaveOneProcedure (sym (append_assoc before (h.0 ∷ []) h.1)) all) h.4,
     )
 
@@ -133,8 +135,7 @@ replies_answer calls (body ∷ bodies) before replies h reply member =
 replies_in_order : (calls : List (List Item)) (bodies : List (List ℕ)) (before replies : List ReplyItems) → HaveOneProcedure calls → AnswerCalls calls replies → AreEach IsReply bodies replies → AreMessages (replies_to calls) before bodies replies
 replies_in_order calls [] before replies one answers h = h
 replies_in_order calls (body ∷ bodies) before replies one answers h =
-    let a = answers h.0 (subst (IsIn h.0) (sym h.2) (IsIn-here h.0 h.1)) in
-    (
+    let a = answers h.0 (subst (IsIn h.0) (sym h.2) (IsIn-here h.0 h.1)) in (
       h.0,
       h.1,
       h.2,

@@ -1,14 +1,14 @@
 -- A whole body by its layout, decided.
-use Rattle.std.proofs.Common.{◌≡◌, ◌⊎◌, ℕ, ◌+◌, ◌<◌, ◌≤◌, Bool, true, false, cond, nat_eq, List, [], ◌∷◌, ◌++◌, length, drop, Ok, Err, refl, sym, ap, subst, ◌∙◌, inl, inr, arith, eqb-true, eq-eqb, ne_eqb}
+use Rattle.std.proofs.Common.{◌≡◌, ◌⊎◌, ℕ, ◌+◌, ◌<◌, ◌≤◌, nat_eq, List, [], length, drop, Ok, Err, refl, sym, ap, subst, ◌∙◌, inl, inr, arith, eqb-true, eq-eqb, ne_eqb}
 use Rattle.std.proofs.lemmas.Bool.{eqb-false}
 use Rattle.std.proofs.lemmas.List.{length-append, length-drop, drop_all}
 use Rattle.xdr3.specs.declared.reason.Reason.{Reason}
 use Rattle.xdr3.specs.declared.reason.Reason.TheVariants.{Trailing}
 use Rattle.xdr3.specs.declared.reason.Stop.{Stop}
-use Rattle.xdr3.specs.Item.{Item, Rest, AreBytes, Spells}
+use Rattle.xdr3.specs.Item.{Item, AreBytes, Spells}
 use Rattle.xdr3.specs.Layout.{Layout, exactly, rest, after, FitsLayout, ReadsLayout, RefusesLayout, reading_layout}
-use Rattle.xdr3.specs.Reading.{◌>>=◌, reading, refused}
-use Rattle.xdr3.proofs.Bytes.{drop_front, front_ends, bind_ok, bind_err, accept_ok, accept_err, never, done, failed}
+use Rattle.xdr3.specs.Reading.{refused}
+use Rattle.xdr3.proofs.Bytes.{drop_front, front_ends, bind_ok, bind_err, accept_ok, accept_err}
 use Rattle.xdr3.proofs.Complete.{complete}
 use Rattle.xdr3.proofs.Layouts.{layout_decides, reads_whole}
 use Rattle.capture3.specs.Bodies.{LeavesMore}

@@ -11,3 +11,11 @@ pub mod Layouts
 pub mod Bodies
 pub mod Converses
 pub mod Resumptions
+pub mod Openings
+pub mod Telling
+pub mod Files
+pub mod Verdicts
+pub mod Reaches
+pub mod Emits
+pub mod Limits
+pub mod Examples

@@ -1,7 +1,7 @@
 -- The machine for a stream against records and messages.
-use Rattle.std.proofs.Common.{◌≡◌, inl, inr, ℕ, List, [], ◌∷◌, ◌++◌, length, refl, sym, ap, ap₂, subst, ◌∙◌, append_assoc, append-nil, Result, Ok, Err}
+use Rattle.std.proofs.Common.{◌≡◌, inl, inr, ℕ, List, [], ◌∷◌, ◌++◌, refl, sym, ap, subst, ◌∙◌, append_assoc, append-nil, Result, Ok, Err}
 use Rattle.record_mark.specs.Machine.{Runs, Stops, landed, after}
-use Rattle.record_mark.specs.RecordMark.{IsRecord, IsOpen, IsUnfinished, Marks}
+use Rattle.record_mark.specs.RecordMark.{IsRecord, IsUnfinished, Marks}
 use Rattle.record_mark.specs.Joining.{Joining, Between, Header, Bytes, Joined, Whole, TooLong, join_next, HasJoined, EndsRecord}
 use Rattle.record_mark.specs.Taking.{joined_body}
 use Rattle.record_mark.proofs.Machines.{Leads, leads_within, after-append, nested_runs, nested_stops}
@@ -9,8 +9,7 @@ use Rattle.record_mark.proofs.Words.{Joins-snoc}
 use Rattle.record_mark.proofs.Joins.{join_leads, record_stops, too_long_stops, joining_runs}
 use Rattle.xdr3.specs.Item.{AreBytes}
 use Rattle.xdr3.specs.declared.reason.Stop.{Stop}
-use Rattle.xdr3.specs.declared.reason.Reason.TheVariants.{RecordTooLong}
-use Rattle.capture3.specs.Records.{Judgement, AreMessages, Holds, HoldsSoFar, RecordFault, fault_at, StreamShows, IsCut}
+use Rattle.capture3.specs.Records.{Judgement, AreMessages, Holds, HoldsSoFar, RecordFault, StreamShows}
 use Rattle.capture3.specs.Reading.{Reading, judged, recorded, stream_next, unread}
 use Rattle.capture3.proofs.BytesOf.{split_bytes, record_bytes}
 use Rattle.capture3.proofs.Judged.{Judged}

@@ -22,3 +22,4 @@ pub mod Sides
 pub mod Siding
 pub mod Typed
 pub mod Resumed
+pub mod Examples

@@ -1,1 +1,75 @@
-//! Laws over the definitions of captures.
+//! Laws over the definitions of captures alone. They do nothing: each is what a function without a result ensures.
+
+ghost use Rattle.std.specs.Prelude.{◌≡◌, ◌↔◌, ℕ, List, ◌++◌, Ok, Err};
+ghost use Rattle.xdr3.specs.Item.{AreBytes, Item};
+ghost use Rattle.record_mark.specs.Machine.{after};
+ghost use Rattle.capture3.specs.declared.fault.Fault.{Fault};
+ghost use Rattle.capture3.specs.Bodies.{ReplyItems};
+ghost use Rattle.capture3.specs.Capture.{Streams};
+ghost use Rattle.capture3.specs.Connections.{calls_in_turn, replies_to};
+ghost use Rattle.capture3.specs.Entry.{Entry};
+ghost use Rattle.capture3.specs.FirstFault.{FirstFault};
+ghost use Rattle.capture3.specs.Laws.{AreWithinLimits, HasOneVerdict, IsCutShort, IsJudgedInTurn, IsJudgedOnce};
+ghost use Rattle.capture3.specs.Parsing.{file_next, parsed, reached, verdict};
+ghost use Rattle.capture3.specs.Reached.{Reached};
+ghost use Rattle.capture3.specs.Typed.{Typed};
+ghost use Rattle.std.specs.Prelude.{[], ◌∷◌};
+ghost use Rattle.xdr3.specs.declared.reason.Reason.TheVariants.{AfterEnd, BadEnum, CaptureCut, TooManyBytes};
+ghost use Rattle.capture3.specs.declared.fault.Place.TheVariants.{Record};
+ghost use Rattle.capture3.specs.declared.fault.Side.TheVariants.{Client};
+ghost use Rattle.capture3.specs.Entry.{End};
+ghost use Rattle.capture3.specs.Examples.{bad_mtype, bad_mtype_cut, magic_1, null_capture, null_entries, word_0, word_1};
+ghost use Rattle.capture3.specs.Sides.{file_fault};
+
+/// For each file exactly one holds: one list of entries, or one first fault.
+pub fn one_verdict()
+    ensures { (file : List ℕ) → AreBytes file → HasOneVerdict file }
+{}
+
+/// Every proper prefix of a well-formed file is cut at its own length.
+pub fn cut_short()
+    ensures { (file : List ℕ) → AreBytes file → IsCutShort file }
+{}
+
+/// A body of the client stream is one call, or has one first fault, behind any calls before it; and so
+/// is a body of the server stream one reply, or has one first fault.
+pub fn judged_once()
+    ensures calls { (before : List (List Item)) (body : List ℕ) → AreBytes body → IsJudgedOnce calls_in_turn before body }
+    ensures replies { (calls : List (List Item)) (before : List ReplyItems) (body : List ℕ) → AreBytes body → IsJudgedOnce (replies_to calls) before body }
+{}
+
+/// Judging body by body says the same of a connection as that its bodies are calls and replies, that
+/// calls with one xid have one procedure, and that each reply has the xid and the procedure of a call.
+pub fn judged_in_turn()
+    ensures { (streams : Streams) (calls : List (List Item)) (replies : List ReplyItems) → IsJudgedInTurn streams calls replies }
+{}
+
+/// The entries of a well-formed file, and those that any bytes reach, begin at most 65,535
+/// connections, and the zero spellings of their messages have together at most 1,073,741,824 bytes.
+pub fn within_limits()
+    ensures typed { (file : List ℕ) (entries : List Entry) → Typed file entries → AreWithinLimits entries }
+    ensures reached { (bytes : List ℕ) (entries : List Entry) → Reached bytes entries → AreWithinLimits entries }
+{}
+
+/// The machine answers the entries or the first fault, and each only where it holds; and what it emits
+/// is what the bytes reach.
+pub fn machine()
+    ensures entries { (file : List ℕ) (entries : List Entry) → AreBytes file → Typed file entries ↔ (verdict file ≡ Ok entries) }
+    ensures fault { (file : List ℕ) (fault : Fault) → AreBytes file → FirstFault file fault ↔ (verdict file ≡ Err fault) }
+    ensures reached { (bytes : List ℕ) (entries : List Entry) → AreBytes bytes → Reached bytes entries ↔ (entries ≡ reached bytes) }
+{}
+
+/// The pieces in which the bytes come play no part.
+pub fn pieces()
+    ensures { (front back : List ℕ) → parsed (front ++ back) ≡ after file_next (parsed front) back }
+{}
+
+/// What small captures are: one call of NULL and its reply, the smallest file, and some with faults.
+pub fn examples()
+    ensures null { Typed null_capture null_entries }
+    ensures smallest { Typed (magic_1 ++ word_0) (End ∷ []) }
+    ensures after_end { FirstFault (magic_1 ++ word_0 ++ 7 ∷ []) (file_fault 12 AfterEnd) }
+    ensures too_many_bytes { FirstFault (magic_1 ++ word_1 ++ 64 ∷ 0 ∷ 0 ∷ 1 ∷ []) (file_fault 12 TooManyBytes) }
+    ensures bad_mtype { FirstFault bad_mtype (record { place = Record 1 Client 1 4; reason = BadEnum }) }
+    ensures bad_mtype_cut { FirstFault bad_mtype_cut (file_fault 27 CaptureCut) }
+{}

@@ -1,0 +1,81 @@
+-- What the definitions say of small captures.
+use Rattle.std.proofs.Common.{◌≡◌, [], ◌∷◌, ◌++◌, refl, Ok, Err}
+use Rattle.xdr3.specs.declared.reason.Reason.TheVariants.{BadMagic, CaptureCut, BadMark, AfterEnd, TooManyBytes, RecordCut, RecordTooLong, Short, BadEnum, WrongSide, NoCall}
+use Rattle.xdr3.specs.Layout.{reading_layout}
+use Rattle.xdr3.specs.Reading.{reading}
+use Rattle.record_mark.specs.RecordMark.{is_last, length_of}
+use Rattle.record_mark.specs.Word.{number}
+use Rattle.rpc_head.specs.Messages.{call_layout, call_start, reply_layout, reply_start}
+use Rattle.rpc_head.specs.Shapes.{accept, call_head, credential, deny, message_start, reply_head, verifier}
+use Rattle.procs3.specs.Table.{arguments_of, results_of}
+use Rattle.capture3.specs.declared.fault.Place.TheVariants.{File, Record}
+use Rattle.capture3.specs.declared.fault.Side.TheVariants.{Client, Server}
+use Rattle.capture3.specs.Entry.{Begin, Turn, Close, End}
+use Rattle.capture3.specs.Examples.{magic_1, word_0, word_1, word_2, null_call, null_reply, null_capture, null_entries, bad_mtype as bad_mtype_bytes, bad_mtype_cut as bad_mtype_cut_bytes}
+use Rattle.capture3.specs.Judging.{judge_call, judge_reply}
+use Rattle.capture3.specs.Parsing.{verdict}
+
+pub smallest : verdict (magic_1 ++ word_0) ≡ Ok (End ∷ [])
+unfolding number
+smallest = refl
+
+pub empty_streams : verdict (magic_1 ++ word_1 ++ word_0 ++ word_0 ++ word_0) ≡ Ok (Begin ∷ Turn ∷ Close ∷ End ∷ [])
+unfolding number
+empty_streams = refl
+
+pub bad_magic : verdict (78 ∷ 70 ∷ 83 ∷ 51 ∷ 67 ∷ 65 ∷ 80 ∷ 50 ∷ []) ≡ Err (record { place = File 7; reason = BadMagic })
+bad_magic = refl
+
+pub bad_mark : verdict (magic_1 ++ word_2) ≡ Err (record { place = File 8; reason = BadMark })
+unfolding number
+bad_mark = refl
+
+pub after_end : verdict (magic_1 ++ word_0 ++ 7 ∷ []) ≡ Err (record { place = File 12; reason = AfterEnd })
+unfolding number
+after_end = refl
+
+pub cut : verdict (magic_1 ++ word_1 ++ 0 ∷ []) ≡ Err (record { place = File 13; reason = CaptureCut })
+unfolding number
+cut = refl
+
+pub too_many_bytes : verdict (magic_1 ++ word_1 ++ 64 ∷ 0 ∷ 0 ∷ 1 ∷ []) ≡ Err (record { place = File 12; reason = TooManyBytes })
+unfolding number
+too_many_bytes = refl
+
+pub too_long : verdict (magic_1 ++ word_1 ++ (0 ∷ 0 ∷ 0 ∷ 4 ∷ []) ++ 129 ∷ 0 ∷ 0 ∷ 1 ∷ []) ≡ Err (record { place = Record 1 Client 1 0; reason = RecordTooLong })
+unfolding number is_last length_of
+too_long = refl
+
+-- a chunk of eight bytes: a fragment header of 4 with four bytes, and the stream's end
+pub record_cut : verdict (magic_1 ++ word_1 ++ (0 ∷ 0 ∷ 0 ∷ 8 ∷ []) ++ (0 ∷ 0 ∷ 0 ∷ 4 ∷ []) ++ word_1 ++ word_0) ≡ Err (record { place = Record 1 Client 1 4; reason = RecordCut })
+unfolding number is_last length_of
+record_cut = refl
+
+-- an empty record is refused at its last byte
+pub short_record : verdict (magic_1 ++ word_1 ++ (0 ∷ 0 ∷ 0 ∷ 4 ∷ []) ++ 128 ∷ 0 ∷ 0 ∷ 0 ∷ []) ≡ Err (record { place = Record 1 Client 1 0; reason = Short })
+unfolding number is_last length_of judge_call reading message_start
+short_record = refl
+
+-- a record whose mtype is 2
+pub bad_mtype : verdict bad_mtype_bytes ≡ Err (record { place = Record 1 Client 1 4; reason = BadEnum })
+unfolding number is_last length_of judge_call reading message_start
+bad_mtype = refl
+
+-- it is reported at the record's last byte, and not before
+pub bad_mtype_cut : verdict bad_mtype_cut_bytes ≡ Err (record { place = File 27; reason = CaptureCut })
+unfolding number is_last length_of
+bad_mtype_cut = refl
+
+-- a reply in the server stream to no call
+pub no_call : verdict (magic_1 ++ word_1 ++ word_0 ++ (0 ∷ 0 ∷ 0 ∷ 28 ∷ []) ++ (128 ∷ 0 ∷ 0 ∷ 24 ∷ []) ++ null_reply) ≡ Err (record { place = Record 1 Server 1 0; reason = NoCall })
+unfolding number is_last length_of judge_reply reading message_start
+no_call = refl
+
+-- a call there
+pub wrong_side : verdict (magic_1 ++ word_1 ++ word_0 ++ (0 ∷ 0 ∷ 0 ∷ 44 ∷ []) ++ (128 ∷ 0 ∷ 0 ∷ 40 ∷ []) ++ null_call) ≡ Err (record { place = Record 1 Server 1 4; reason = WrongSide })
+unfolding number is_last length_of judge_reply reading message_start
+wrong_side = refl
+
+pub null_typed : verdict null_capture ≡ Ok null_entries
+unfolding number is_last length_of judge_call judge_reply reading reading_layout message_start call_layout call_start call_head reply_layout reply_start reply_head credential verifier accept deny arguments_of results_of
+null_typed = refl

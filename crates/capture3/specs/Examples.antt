@@ -1,0 +1,52 @@
+-- Small captures.
+use Rattle.std.specs.Prelude.{ℕ, List, [], ◌∷◌, ◌++◌}
+use Rattle.xdr3.specs.Item.{Item, Word, Opaque, Var}
+use Rattle.rpc_head.specs.declared.call.ProcId.{ProcId}
+use Rattle.rpc_head.specs.Names.{names}
+use Rattle.capture3.specs.Entry.{Entry, Begin, Call, Turn, Reply, Close, End}
+
+abbrev pub magic_1 : List ℕ
+magic_1 = 78 ∷ 70 ∷ 83 ∷ 51 ∷ 67 ∷ 65 ∷ 80 ∷ 49 ∷ []
+
+abbrev pub word_0 : List ℕ
+word_0 = 0 ∷ 0 ∷ 0 ∷ 0 ∷ []
+
+abbrev pub word_1 : List ℕ
+word_1 = 0 ∷ 0 ∷ 0 ∷ 1 ∷ []
+
+abbrev pub word_2 : List ℕ
+word_2 = 0 ∷ 0 ∷ 0 ∷ 2 ∷ []
+
+-- a call of NFSPROC3_NULL (RFC 1813, section 3.3.0) with the xid deadbeef, AUTH_NONE twice
+abbrev pub null_call : List ℕ
+null_call = (222 ∷ 173 ∷ 190 ∷ 239 ∷ []) ++ word_0 ++ word_2 ++ (0 ∷ 1 ∷ 134 ∷ 163 ∷ []) ++ (0 ∷ 0 ∷ 0 ∷ 3 ∷ []) ++ word_0 ++ word_0 ++ word_0 ++ word_0 ++ word_0
+
+-- its accepted success
+abbrev pub null_reply : List ℕ
+null_reply = (222 ∷ 173 ∷ 190 ∷ 239 ∷ []) ++ word_1 ++ word_0 ++ word_0 ++ word_0 ++ word_0
+
+-- the call and the reply, in one chunk and one fragment each
+abbrev pub null_capture : List ℕ
+null_capture =
+    magic_1 ++ word_1 ++ (0 ∷ 0 ∷ 0 ∷ 44 ∷ []) ++ (128 ∷ 0 ∷ 0 ∷ 40 ∷ []) ++ null_call ++ word_0 ++ (0 ∷ 0 ∷ 0 ∷ 28 ∷ []) ++ (128 ∷ 0 ∷ 0 ∷ 24 ∷ []) ++ null_reply ++ word_0 ++ word_0
+
+abbrev pub null_procedure : ProcId
+null_procedure = record { prog = 100003; vers = 3; proc_no = 0 }
+
+abbrev pub null_call_items : List Item
+null_call_items =
+    Word names.xid 3735928559 ∷ Word names.mtype 0 ∷ Word names.rpcvers 2 ∷ Word names.prog 100003 ∷ Word names.vers 3 ∷ Word names.proc 0 ∷ Word names.cred_flavor 0 ∷ Opaque Var names.cred_body []
+    ∷ Word names.verf_flavor 0 ∷ Opaque Var names.verf_body [] ∷ []
+
+abbrev pub null_reply_items : List Item
+null_reply_items = Word names.xid 3735928559 ∷ Word names.mtype 1 ∷ Word names.reply_stat 0 ∷ Word names.verf_flavor 0 ∷ Opaque Var names.verf_body [] ∷ Word names.accept_stat 0 ∷ []
+
+abbrev pub null_entries : List Entry
+null_entries = Begin ∷ Call null_call_items ∷ Turn ∷ Reply null_procedure null_reply_items ∷ Close ∷ End ∷ []
+
+-- a record whose mtype is 2, and the same without its last byte
+abbrev pub bad_mtype_cut : List ℕ
+bad_mtype_cut = magic_1 ++ word_1 ++ (0 ∷ 0 ∷ 0 ∷ 12 ∷ []) ++ (128 ∷ 0 ∷ 0 ∷ 8 ∷ []) ++ word_1 ++ 0 ∷ 0 ∷ 0 ∷ []
+
+abbrev pub bad_mtype : List ℕ
+bad_mtype = bad_mtype_cut ++ 2 ∷ []
