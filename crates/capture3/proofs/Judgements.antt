@@ -25,7 +25,9 @@ use Rattle.capture3.specs.Judging.{judge_call, judge_reply, read_whole, ended, a
 use Rattle.xdr3.specs.declared.reason.GetError.{GetError}
 use Rattle.xdr3.specs.declared.reason.GetError.TheVariants as errors
 use Rattle.std.specs.Result.{IsErrAnd}
-use Rattle.capture3.specs.Messages.{Judged, reading_behind}
+use Rattle.procs3.specs.Items.{args_items}
+use Rattle.capture3.specs.declared.message.CallMsg.{CallMsg}
+use Rattle.capture3.specs.Messages.{Judged, call_items, reading_behind}
 
 -- ---- a whole layout, read in parts
 
@@ -237,3 +239,11 @@ not_true false h = refl
 pub not_false : (b : Bool) → not b ≡ false → b ≡ true
 not_false true h = refl
 not_false false h = sym h
+
+-- ---- a call as a value
+
+pub call_procedure_is : (m : CallMsg) → procedure_in (call_items m) ≡ m.head.id
+call_procedure_is m = call_procedure (record { xid = m.xid; is_reply = false }) m.head (args_items m.args)
+
+pub call_xid_is : (m : CallMsg) → xid_in (call_items m) ≡ m.xid
+call_xid_is m = call_xid (record { xid = m.xid; is_reply = false }) m.head (args_items m.args)

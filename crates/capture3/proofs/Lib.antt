@@ -19,3 +19,5 @@ pub mod Reaches
 pub mod Emits
 pub mod Limits
 pub mod Examples
+pub mod Emissions
+pub mod Captures

@@ -282,10 +282,10 @@ chunk_agrees at total connections records zero Client j (Goes s) is = is
 chunk_agrees at total connections records (suc left) Client j (Goes s) is = is
 chunk_agrees at total connections records zero Server j (Goes s) is = is
 chunk_agrees at total connections records (suc left) Server j (Goes s) is = is
-chunk_agrees at total connections records zero Client j (Ends (Whole body)) is = λ call. one_more records j.calls call is
-chunk_agrees at total connections records (suc left) Client j (Ends (Whole body)) is = λ call. one_more records j.calls call is
-chunk_agrees at total connections records zero Server j (Ends (Whole body)) is = λ reply. one_more records j.replies reply is
-chunk_agrees at total connections records (suc left) Server j (Ends (Whole body)) is = λ reply. one_more records j.replies reply is
+chunk_agrees at total connections records zero Client j (Ends (Whole body)) is = (λ call. one_more records j.calls call is, add-one records ∙ ap suc is)
+chunk_agrees at total connections records (suc left) Client j (Ends (Whole body)) is = (λ call. one_more records j.calls call is, add-one records ∙ ap suc is)
+chunk_agrees at total connections records zero Server j (Ends (Whole body)) is = (λ reply. one_more records j.replies reply is, add-one records ∙ ap suc is)
+chunk_agrees at total connections records (suc left) Server j (Ends (Whole body)) is = (λ reply. one_more records j.replies reply is, add-one records ∙ ap suc is)
 chunk_agrees at total connections records left side j (Ends (TooLong byte)) is = tt
 
 byte_agrees : (at total connections records : ℕ) (joining : Joining) (opened : Opened) (j : Judged) (byte : ℕ) → AgreesAt records joining opened j
@@ -334,6 +334,7 @@ stops_follow (byte ∷ bytes) u x j agrees e = on (unpack_next u byte) (follows 
         let rest = more w next e in
         (ap (λ n. after file_next (landed n) bytes) same ∙ rest.0, rest.1)
     on (Ends y) same next e more =
-        let (none, equal) = only_stops unpack_next y x bytes e in
-        (ap (λ n. after file_next (landed n) bytes) same ∙ ap (λ b. after file_next (landed (resumed j (Ends y))) b) none ∙ ap (λ z. landed (resumed j (Ends z))) equal,
-        subst (λ z. AgreesOn j (Ends z)) equal next)
+        let (none, equal) = only_stops unpack_next y x bytes e in (
+          ap (λ n. after file_next (landed n) bytes) same ∙ ap (λ b. after file_next (landed (resumed j (Ends y))) b) none ∙ ap (λ z. landed (resumed j (Ends z))) equal,
+          subst (λ z. AgreesOn j (Ends z)) equal next,
+        )

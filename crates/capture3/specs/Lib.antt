@@ -23,3 +23,5 @@ pub mod Siding
 pub mod Typed
 pub mod Resumed
 pub mod Examples
+pub mod Kept
+pub mod Judges

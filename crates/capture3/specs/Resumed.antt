@@ -1,5 +1,5 @@
 -- Taking a capture apart, and judging its records as they come: where the machine for a capture file stands.
-use Rattle.std.specs.Prelude.{◌≡◌, ◌<◌, ℕ, suc, ◌+◌, List, [], ◌∷◌, ◌++◌, length, drop, Result, Ok, Err}
+use Rattle.std.specs.Prelude.{◌≡◌, ◌<◌, map, ℕ, suc, ◌+◌, List, [], ◌∷◌, ◌++◌, length, drop, Result, Ok, Err}
 use Rattle.xdr3.specs.declared.reason.Stop.{Stop}
 use Rattle.xdr3.specs.Item.{Item}
 use Rattle.record_mark.specs.Joining.{Joining, Between}
@@ -11,6 +11,7 @@ use Rattle.capture3.specs.Bodies.{ReplyItems}
 use Rattle.capture3.specs.Capture.{One}
 use Rattle.capture3.specs.Connections.{Refusal, refusal}
 use Rattle.capture3.specs.Entry.{Entry}
+use Rattle.capture3.specs.Entry as entries
 use Rattle.capture3.specs.Judging.{judge_call, judge_reply}
 use Rattle.capture3.specs.Opening.{InClient, InServer}
 use Rattle.capture3.specs.Parsing as parsing
@@ -19,7 +20,7 @@ use Rattle.capture3.specs.Records.{fault_at}
 use Rattle.capture3.specs.Sides.{place_at}
 use Rattle.capture3.specs.Siding as siding
 use Rattle.capture3.specs.Siding.{Siding}
-use Rattle.capture3.specs.Typed.{connection_entries}
+use Rattle.capture3.specs.Typed.{connection_entries, reply_entry}
 use Rattle.capture3.specs.Unpacking.{Opened, Magic, Mark, Length, Chunk, Ended, Unpacking, Unpacked, Has, Refuses}
 
 -- What has been judged: where the open connection begins and the stream bytes before it, the entries of whole connections, and the open
@@ -81,7 +82,7 @@ abbrev pub turned : Judged → Judged
 turned j = record j { replies = [] }
 
 abbrev pub closed : Judged → Judged
-closed j = record { start = j.start; before = j.before; entries = j.entries ++ connection_entries j.calls j.replies; calls = []; replies = [] }
+closed j = record j { entries = j.entries ++ connection_entries j.calls j.replies }
 
 abbrev pub call_judged : Unpacking → Judged → Result (List Item) Stop → Next Parsing Refusal
 call_judged u j (Ok call) = Goes (parsing_at u (with_call j call))
@@ -119,8 +120,36 @@ Agrees u j = AgreesAt u.records u.joining u.opened j
 abbrev pub AgreesOn : Judged → Next Unpacking Unpacked → Type 0
 AgreesOn j (Goes u) = Agrees u j
 AgreesOn j (Ends (Has Begin body u)) = Agrees u (begun u j)
-AgreesOn j (Ends (Has (Record Client) body u)) = (call : List Item) → Agrees u (with_call j call)
-AgreesOn j (Ends (Has (Record Server) body u)) = (reply : ReplyItems) → Agrees u (with_reply j reply)
+AgreesOn j (Ends (Has (Record Client) body u)) = ((call : List Item) → Agrees u (with_call j call)) × (u.records ≡ suc (length j.calls))
+AgreesOn j (Ends (Has (Record Server) body u)) = ((reply : ReplyItems) → Agrees u (with_reply j reply)) × (u.records ≡ suc (length j.replies))
 AgreesOn j (Ends (Has Turn body u)) = Agrees u (turned j)
 AgreesOn j (Ends (Has Close body u)) = Agrees u (closed j)
 AgreesOn j (Ends (Refuses fault)) = Unit {0}
+
+-- ---- the entries so far
+
+abbrev pub client_entries : List (List Item) → List Entry
+client_entries calls = entries.Begin ∷ map entries.Call calls
+
+abbrev pub server_entries : List ReplyItems → List Entry
+server_entries replies = entries.Turn ∷ map reply_entry replies
+
+-- the entries that are whole, by the part that is open
+abbrev pub emitted_at : Opened → Judged → List Entry
+emitted_at (Magic due) j = j.entries
+emitted_at (Mark part) j = j.entries
+emitted_at (Length Client part) j = j.entries ++ client_entries j.calls
+emitted_at (Length Server part) j = j.entries ++ (client_entries j.calls ++ server_entries j.replies)
+emitted_at (Chunk Client left) j = j.entries ++ client_entries j.calls
+emitted_at (Chunk Server left) j = j.entries ++ (client_entries j.calls ++ server_entries j.replies)
+emitted_at Ended j = j.entries
+
+-- behind entries, what comes next adds
+abbrev pub EmitsOn : Judged → List Entry → Next Unpacking Unpacked → Type 0
+EmitsOn j base (Goes u) = emitted_at u.opened j ≡ base
+EmitsOn j base (Ends (Has Begin body u)) = emitted_at u.opened (begun u j) ≡ base ++ entries.Begin ∷ []
+EmitsOn j base (Ends (Has (Record Client) body u)) = (call : List Item) → emitted_at u.opened (with_call j call) ≡ base ++ entries.Call call ∷ []
+EmitsOn j base (Ends (Has (Record Server) body u)) = (reply : ReplyItems) → emitted_at u.opened (with_reply j reply) ≡ base ++ reply_entry reply ∷ []
+EmitsOn j base (Ends (Has Turn body u)) = emitted_at u.opened (turned j) ≡ base ++ entries.Turn ∷ []
+EmitsOn j base (Ends (Has Close body u)) = emitted_at u.opened (closed j) ≡ base ++ entries.Close ∷ []
+EmitsOn j base (Ends (Refuses fault)) = Unit {0}

@@ -9,6 +9,7 @@ use Rattle.capture3.specs.declared.fault.Fault.{Fault}
 use Rattle.capture3.specs.declared.fault.Place.TheVariants as places
 use Rattle.capture3.specs.declared.fault.Side.{Side}
 use Rattle.capture3.specs.declared.fault.Side.TheVariants.{Client, Server}
+use Rattle.capture3.specs.declared.position.TheConstants.{MAGIC}
 use Rattle.capture3.specs.declared.position.Event.{Event}
 use Rattle.capture3.specs.declared.position.Event.TheVariants.{Begin, Record, Turn, Close}
 
@@ -110,3 +111,7 @@ open_step at total connections records joining Ended byte = Ends (at_byte at Aft
 
 abbrev pub unpack_next : Unpacking → ℕ → Next Unpacking Unpacked
 unpack_next u byte = open_step u.at u.total u.connections u.records u.joining u.opened byte
+
+-- before the first byte
+abbrev pub unpacking_start : Unpacking
+unpacking_start = record { at = 0; total = 0; connections = 0; records = 0; opened = Magic MAGIC; joining = Between }

@@ -1,12 +1,13 @@
 // The container: connections of two streams, each cut into chunks, whose records are joined.
 
-ghost use Rattle.std.specs.Prelude.{◌≡◌, ◌≤◌, ◌<◌, ◌+◌, length, take, IfOk, IfErr, OnOk, None};
+ghost use Rattle.std.specs.Prelude.{◌≡◌, ◌≢◌, ◌≤◌, ◌<◌, ◌+◌, length, take, IfOk, IfErr, OnOk, None};
 ghost use Rattle.capture3.specs.Container.{Arrives, Fails, Leaves, unpacking_of};
 ghost use Rattle.capture3.specs.Position.{cost_of, IsOpenBody, IsSound, most_things, room_of, TakesSome};
+ghost use Rattle.capture3.specs.Unpacking.{unpacking_start};
 ghost use Rattle.record_mark.specs.RecordMark.{max_body};
-ghost use Rattle.record_mark.specs.Taking.{IsRunning, joining_of, unbegun};
+ghost use Rattle.record_mark.specs.Taking.{IsRunning, IsWhole, body_of, joining_of, unbegun};
 
-use crate::fault::{Error, Side};
+use crate::fault::{Error, Place, Side};
 use crate::position::{Event, Position, Spot, Taken, file_fault};
 use record_mark::{JoinError, Joiner, Step};
 use std::alloc::Global;
@@ -24,6 +25,7 @@ impl Container {
         ensures sound { IsSound result.position }
         ensures running { IsRunning result.joiner }
         ensures room { room_of result.position ≡ most_things }
+        ensures machine { unpacking_of result.position result.joiner ≡ unpacking_start }
     {
         Container {
             position: Position::start(),
@@ -33,7 +35,9 @@ impl Container {
 
     /// The body of the record that is whole.
     pub(crate) fn body(&self) -> &[u8]
-        ensures { length result.now ≤ max_body }
+        requires { IsWhole self.now.joiner }
+        ensures body { result.now ≡ body_of self.now.joiner }
+        ensures limit { length result.now ≤ max_body }
     {
         self.joiner.body()
     }
@@ -47,7 +51,9 @@ impl Container {
     }
 
     /// A fault of the record that is whole.
-    pub(crate) fn record_fault(&self, side: Side, byte: u32, reason: Reason) -> Error {
+    pub(crate) fn record_fault(&self, side: Side, byte: u32, reason: Reason) -> Error
+        ensures { result ≡ Error.Refused (record { place = Place.Record self.now.position.connections side self.now.position.records byte; reason = reason }) }
+    {
         self.position.record_fault(side, byte, reason)
     }
 
@@ -80,13 +86,14 @@ impl Container {
         Ok((taken, None))
     }
 
-    /// Tests that the file may end here.
-    pub(crate) fn end(&self) -> Result<(), Error>
-        requires { IsSound self.now.position }
+    /// Tests that the file may end here, behind so many bytes.
+    pub(crate) fn end(&self, size: u64) -> Result<(), Error>
+        ensures ok { OnOk result (self.now.position.spot ≡ Spot.Ended) }
+        ensures err { IfErr result (λ error. (self.now.position.spot ≢ Spot.Ended) × (error ≡ Error.Refused (record { place = Place.File size; reason = Reason.CaptureCut }))) }
     {
         match self.position.spot {
             Spot::Ended => Ok(()),
-            _ => Err(file_fault(self.position.bytes_taken(), Reason::CaptureCut)),
+            _ => Err(file_fault(size, Reason::CaptureCut)),
         }
     }
 

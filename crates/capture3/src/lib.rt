@@ -6,6 +6,7 @@ mod container;
 mod device;
 mod entry;
 mod fault;
+mod judging;
 pub mod laws;
 mod message;
 mod plan;

@@ -1,10 +1,11 @@
 // Whole messages.
 
-ghost use Rattle.std.specs.Prelude.{◌≡◌, ◌≤◌, List, length};
+ghost use Rattle.std.specs.Prelude.{◌≡◌, ◌≤◌, List, length, IfOk};
 ghost use Rattle.procs3.specs.Table.{results_of};
 ghost use Rattle.xdr3.specs.Gives.{Gives};
 ghost use Rattle.xdr3.specs.Item.{Item};
 ghost use Rattle.xdr3.specs.View.{MovesOn};
+ghost use Rattle.capture3.specs.Bodies.{IsCall, IsReply};
 ghost use Rattle.capture3.specs.Judging as spec;
 ghost use Rattle.capture3.specs.Messages.{answered_items, behind_items, call_items, IsTableOf, Judged, reading_behind};
 
@@ -39,7 +40,8 @@ pub(crate) fn judge_call<'a>(
     body: &'a [u8],
 ) -> Result<CallMsg<'a>, GetError>
     requires { length body.now ≤ 16777216 }
-    ensures { (before : List (List Item)) → IsTableOf calls.now before → Judged call_items result (spec.judge_call before body.now) }
+    ensures judged { (before : List (List Item)) → IsTableOf calls.now before → Judged call_items result (spec.judge_call before body.now) }
+    ensures call { IfOk result (λ call. IsCall body.now (call_items call)) }
 {
     let mut input = Input::new(body);
     let start = start(&mut input)?;
@@ -66,7 +68,8 @@ pub(crate) fn judge_reply<'a>(
     body: &'a [u8],
 ) -> Result<ReplyMsg<'a>, GetError>
     requires { length body.now ≤ 16777216 }
-    ensures { (before : List (List Item)) → IsTableOf calls.now before → Judged answered_items result (spec.judge_reply before body.now) }
+    ensures judged { (before : List (List Item)) → IsTableOf calls.now before → Judged answered_items result (spec.judge_reply before body.now) }
+    ensures reply { IfOk result (λ reply. IsReply body.now (answered_items reply)) }
 {
     let mut input = Input::new(body);
     let start = start(&mut input)?;

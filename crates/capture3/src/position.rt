@@ -73,6 +73,7 @@ impl Position {
     pub(crate) fn start() -> Position
         ensures sound { IsSound result }
         ensures room { room_of result ≡ most_things }
+        ensures machine { unpacking_at result Between ≡ spec.unpacking_start }
     {
         Position {
             at: 0,
@@ -80,17 +81,6 @@ impl Position {
             connections: 0,
             records: 0,
             spot: Spot::Magic,
-        }
-    }
-
-    /// How many bytes of the file were taken.
-    pub(crate) fn bytes_taken(self) -> u64
-        requires { IsSound self }
-    {
-        match self.spot {
-            Spot::Magic | Spot::Ended => self.at,
-            Spot::Mark(part) | Spot::Length(_, part) => self.at + u64::from(part.count()),
-            Spot::Chunk(_, left) => self.at - u64::from(left),
         }
     }
 

@@ -24,13 +24,6 @@ impl WordPart {
         }
     }
 
-    /// How many bytes of the word have come.
-    pub(crate) fn count(&self) -> u8
-        ensures { result ≡ self.now.count }
-    {
-        self.count
-    }
-
     /// Takes bytes of `rest` up to the word's end: how many, and the part or the whole word that they
     /// make.
     pub(crate) fn taken(self, rest: &[u8]) -> (usize, Word)

@@ -1,0 +1,252 @@
+-- A capture whose records are judged as they come: step after step.
+use Rattle.std.proofs.Common.{lit<, ◌≡◌, ◌≢◌, ℕ, suc, ◌+◌, ◌≤◌, Bool, true, false, cond, nat_eq, is_some, Option, Some, None, Ok, Err, List, [], ◌∷◌, ◌++◌, length, map, take, drop, refl, sym, ap, ◌∙◌, subst, arith, length-append, add-one}
+use Rattle.std.proofs.lemmas.Bool.{eqb-true}
+use Rattle.xdr3.specs.declared.reason.Stop.{Stop}
+use Rattle.xdr3.specs.Item.{Item}
+use Rattle.record_mark.specs.Joining.{Between}
+use Rattle.record_mark.specs.Machine.{Ends, Run, Runs, Stops, after, landed}
+use Rattle.record_mark.specs.Taking.{Taking, body_of, unbegun}
+use Rattle.rpc_head.specs.declared.call.ProcId.{ProcId}
+use Rattle.rpc_head.specs.Messages.{procedure_in}
+use Rattle.capture3.specs.declared.calls.NumberedCall.{NumberedCall}
+use Rattle.capture3.specs.declared.entry.Entry as kept
+use Rattle.capture3.specs.declared.entry.Entry.TheVariants as variants
+use Rattle.capture3.specs.declared.entry.KeptCall.{KeptCall}
+use Rattle.capture3.specs.declared.entry.KeptReply.{KeptReply}
+use Rattle.capture3.specs.declared.fault.Error.{Error}
+use Rattle.capture3.specs.declared.fault.Error.TheVariants as errors
+use Rattle.capture3.specs.declared.fault.Fault.{Fault}
+use Rattle.capture3.specs.declared.fault.Place.TheVariants as places
+use Rattle.capture3.specs.declared.fault.Side.{Side}
+use Rattle.capture3.specs.declared.fault.Side.TheVariants.{Client, Server}
+use Rattle.capture3.specs.declared.position.Event.{Event}
+use Rattle.capture3.specs.declared.position.Event.TheVariants.{Begin, Record, Turn, Close}
+use Rattle.capture3.specs.declared.position.Position.{Position}
+use Rattle.capture3.specs.Bodies.{ReplyItems, procedure_of, xid_in}
+use Rattle.capture3.specs.Bodies as bodies
+use Rattle.capture3.specs.Calls.{found, with_call}
+use Rattle.capture3.specs.Connections.{Refusal, refusal}
+use Rattle.capture3.specs.Container.{unpacking_of, arrived, Arrives, Fails}
+use Rattle.capture3.specs.Entry.{Entry}
+use Rattle.capture3.specs.Entry as entries
+use Rattle.capture3.specs.Judges.{StandsAt, HasMet, met, GoesTo, EndsWith, FailsAt, KeepsCall, KeepsReply, RefusesBody}
+use Rattle.capture3.specs.Judging.{judge_call, judge_reply}
+use Rattle.capture3.specs.Messages.{IsTableOf}
+use Rattle.capture3.specs.Parsing.{Parsing, file_next, file_start}
+use Rattle.capture3.specs.Position.{unpacking_at}
+use Rattle.capture3.specs.Records.{fault_at}
+use Rattle.capture3.specs.Resumed.{Judged, parsing_at, resumed, call_judged, reply_judged, emitted_at, begun, turned, closed}
+use Rattle.capture3.specs.Resumed as resuming
+use Rattle.capture3.specs.Sides.{place_at}
+use Rattle.capture3.specs.Unpacking.{Unpacking, Has, Refuses, unpack_next, unpacking_start}
+use Rattle.capture3.proofs.Resumptions.{runs_follow, stops_follow}
+use Rattle.capture3.proofs.Emissions.{runs_emit, stops_emit}
+
+-- ---- the table of calls
+
+-- the first of two
+or_else : {A : Type 0} → Option A → Option A → Option A
+or_else (Some x) other = Some x
+or_else None other = other
+
+abbrev pub if_same : ℕ → ProcId → ℕ → Option ProcId
+if_same xid id q = cond (nat_eq xid q) (Some id) None
+
+chosen_or_else : (b : Bool) (id : ProcId) (x y : Option ProcId) (z : Option ProcId) → x ≡ or_else y z → cond b (Some id) x ≡ or_else (cond b (Some id) y) z
+unfolding or_else
+chosen_or_else true id x y z e = refl
+chosen_or_else false id x y z e = e
+
+found_more : (table : List NumberedCall) (xid : ℕ) (id : ProcId) (q : ℕ) → found (table ++ record { xid = xid; id = id } ∷ []) q ≡ or_else (found table q) (if_same xid id q)
+unfolding or_else
+found_more [] xid id q = refl
+found_more (call ∷ table) xid id q = chosen_or_else (nat_eq call.xid q) call.id (found (table ++ record { xid = xid; id = id } ∷ []) q) (found table q) (if_same xid id q) (found_more table xid id q)
+
+procedure_more : (calls : List (List Item)) (call : List Item) (q : ℕ) → procedure_of (calls ++ call ∷ []) q ≡ or_else (procedure_of calls q) (if_same (xid_in call) (procedure_in call) q)
+unfolding or_else
+procedure_more [] call q = refl
+procedure_more (one ∷ calls) call q =
+    chosen_or_else (nat_eq (xid_in one) q) (procedure_in one) (procedure_of (calls ++ call ∷ []) q) (procedure_of calls q) (if_same (xid_in call) (procedure_in call) q) (procedure_more calls call q)
+
+-- where the xid has a procedure, another call with it changes nothing
+or_else_known : (f : ℕ → Option ProcId) (xid : ℕ) (id : ProcId) (q : ℕ) → is_some (f xid) ≡ true → or_else (f q) (if_same xid id q) ≡ f q
+unfolding or_else
+or_else_known f xid id q known = by_value (f q) refl (nat_eq xid q) refl
+  where
+    by_value : (y : Option ProcId) → f q ≡ y → (b : Bool) → nat_eq xid q ≡ b → or_else y (cond b (Some id) None) ≡ y
+    by_value (Some y) e b same = refl
+    by_value None e false same = refl
+    by_value None e true same =
+        let equal : xid ≡ q = eqb-true xid q same in
+        let none : f xid ≡ None = ap f equal ∙ e in
+        absurd (cc)
+
+pub table_added : (table : List NumberedCall) (calls : List (List Item)) (call : List Item) (xid : ℕ) (id : ProcId) → xid_in call ≡ xid → procedure_in call ≡ id
+    → IsTableOf table calls → IsTableOf (with_call table xid id) (calls ++ call ∷ [])
+table_added table calls call xid id xid_is id_is same q = by_test (is_some (found table xid)) refl
+  where
+    by_test : (b : Bool) → is_some (found table xid) ≡ b → found (cond b table (table ++ record { xid = xid; id = id } ∷ [])) q ≡ procedure_of (calls ++ call ∷ []) q
+    by_test true known =
+        same q
+        ∙ sym (or_else_known (procedure_of calls) (xid_in call) (procedure_in call) q (ap (λ (x : ℕ). is_some (procedure_of calls x)) xid_is ∙ ap is_some (sym (same xid)) ∙ known))
+        ∙ sym (procedure_more calls call q)
+    by_test false known =
+        found_more table xid id q
+        ∙ ap (λ p. or_else p (if_same xid id q)) (same q)
+        ∙ ap (λ (x : ℕ). or_else (procedure_of calls q) (if_same x id q)) (sym xid_is)
+        ∙ ap (λ (i : ProcId). or_else (procedure_of calls q) (if_same (xid_in call) i q)) (sym id_is)
+        ∙ sym (procedure_more calls call q)
+
+-- ---- the first byte
+
+abbrev pub nothing_judged : Judged
+nothing_judged = record { start = 0; before = 0; entries = []; calls = []; replies = [] }
+
+pub stands_at_start : (position : Position) (taking : Taking) (table : List NumberedCall) → unpacking_of position taking ≡ unpacking_start → table ≡ [] → StandsAt position taking table (Runs file_start) []
+stands_at_start position taking table at none = record {
+  so_far = nothing_judged;
+  agrees = subst (λ (u : Unpacking). resuming.Agrees u nothing_judged) (sym at) (0, lit< tt, refl, refl);
+  calls = λ q. ap (λ (t : List NumberedCall). found t q) none;
+  stands = sym (ap (λ (u : Unpacking). Runs (parsing_at u nothing_judged)) at);
+  emitted = sym (ap (λ (u : Unpacking). emitted_at u.opened nothing_judged) at);
+}
+
+-- ---- bytes of the container
+
+pub stands_on : (p q : Position) (t u : Taking) (table : List NumberedCall) (run : Run Parsing Refusal) (all : List Entry) (bytes : List ℕ) (event : Option Event)
+    → StandsAt p t table run all → event ≡ None → Arrives (unpacking_of p t) bytes event q u → StandsAt q u table (after file_next run bytes) all
+stands_on p q t u table run all bytes event s is came =
+    let arrives = subst (λ (e : Option Event). Arrives (unpacking_of p t) bytes e q u) is came in
+    let next = runs_follow bytes (unpacking_of p t) (unpacking_of q u) s.so_far s.agrees arrives in
+    record {
+      so_far = s.so_far;
+      agrees = next.1;
+      calls = s.calls;
+      stands = ap (λ r. after file_next r bytes) s.stands ∙ next.0;
+      emitted = s.emitted ∙ sym (runs_emit bytes (unpacking_of p t) (unpacking_of q u) s.so_far arrives);
+    }
+
+met_is : (event : Event) (q : Position) (u : Taking) → arrived (Some event) q u ≡ Stops (met event q u)
+met_is Begin q u = refl
+met_is (Record side) q u = refl
+met_is Turn q u = refl
+met_is Close q u = refl
+
+pub stands_met : (p q : Position) (t u : Taking) (table : List NumberedCall) (run : Run Parsing Refusal) (all : List Entry) (bytes : List ℕ) (event : Event) (came : Option Event)
+    → StandsAt p t table run all → came ≡ Some event → Arrives (unpacking_of p t) bytes came q u → HasMet q u table event (after file_next run bytes) all
+stands_met p q t u table run all bytes event came s is arrives_at =
+    let arrives = subst (λ (e : Option Event). Arrives (unpacking_of p t) bytes e q u) is arrives_at in
+    let stops : after unpack_next (Runs (unpacking_of p t)) bytes ≡ Stops (met event q u) = arrives ∙ met_is event q u in
+    let next = stops_follow bytes (unpacking_of p t) (met event q u) s.so_far s.agrees stops in
+    record {
+      so_far = s.so_far;
+      agrees = next.1;
+      calls = s.calls;
+      stands = ap (λ r. after file_next r bytes) s.stands ∙ next.0;
+      emits = subst (λ (base : List Entry). resuming.EmitsOn s.so_far base (Ends (met event q u))) (sym s.emitted) (stops_emit bytes (unpacking_of p t) (met event q u) s.so_far stops);
+    }
+
+fault_met : (p : Position) (t : Taking) (table : List NumberedCall) (run : Run Parsing Refusal) (all : List Entry) (bytes : List ℕ) (fault : Fault)
+    → StandsAt p t table run all → after unpack_next (Runs (unpacking_of p t)) bytes ≡ Stops (Refuses fault) → EndsWith (after file_next run bytes) (errors.Refused fault)
+fault_met p t table run all bytes fault s stops =
+    let next = stops_follow bytes (unpacking_of p t) (Refuses fault) s.so_far s.agrees stops in
+    (refusal fault, ap (λ r. after file_next r bytes) s.stands ∙ next.0, refl)
+
+pub stands_fails : (p : Position) (t : Taking) (table : List NumberedCall) (run : Run Parsing Refusal) (all : List Entry) (bytes : List ℕ) (error : Error)
+    → StandsAt p t table run all → Fails (unpacking_of p t) bytes error → FailsAt run bytes error
+stands_fails p t table run all bytes (errors.Refused fault) s (n, within, stops) = (n, within, fault_met p t table run all (take n bytes) fault s stops)
+stands_fails p t table run all bytes errors.Read s fails = fails
+stands_fails p t table run all bytes errors.Write s fails = fails
+stands_fails p t table run all bytes errors.Memory s fails = tt
+
+-- a fault at the last of these bytes
+pub ends_fails : (run : Run Parsing Refusal) (bytes : List ℕ) (n : ℕ) (error : Error) → n ≤ length bytes → EndsWith (after file_next run (take n bytes)) error → FailsAt run bytes error
+ends_fails run bytes n (errors.Refused fault) within ends = (n, within, ends)
+ends_fails run bytes n errors.Read within ends = ends
+ends_fails run bytes n errors.Write within ends = ends
+ends_fails run bytes n errors.Memory within ends = tt
+
+-- ---- what is whole
+
+pub begin_goes : (p : Position) (t : Taking) (table none : List NumberedCall) (run : Run Parsing Refusal) (all : List Entry) → none ≡ [] → HasMet p t table Begin run all → GoesTo (Some variants.Begin) p t none run all
+begin_goes p t table none run all empty m =
+    (entries.Begin, refl, record {
+      so_far = begun (unpacking_of p t) m.so_far;
+      agrees = m.agrees;
+      calls = λ q. ap (λ (l : List NumberedCall). found l q) empty;
+      stands = m.stands;
+      emitted = sym m.emits;
+    })
+
+pub turn_goes : (p : Position) (t : Taking) (table : List NumberedCall) (run : Run Parsing Refusal) (all : List Entry) → HasMet p t table Turn run all → GoesTo (Some variants.Turn) p t table run all
+turn_goes p t table run all m =
+    (entries.Turn, refl, record { so_far = turned m.so_far; agrees = m.agrees; calls = m.calls; stands = m.stands; emitted = sym m.emits })
+
+pub close_goes : (p : Position) (t : Taking) (table : List NumberedCall) (run : Run Parsing Refusal) (all : List Entry) → HasMet p t table Close run all → GoesTo (Some variants.Close) p t table run all
+close_goes p t table run all m =
+    (entries.Close, refl, record { so_far = closed m.so_far; agrees = m.agrees; calls = m.calls; stands = m.stands; emitted = sym m.emits })
+
+pub call_goes : (p : Position) (t u : Taking) (table new : List NumberedCall) (run : Run Parsing Refusal) (all : List Entry) (call : KeptCall) → u ≡ unbegun
+    → (m : HasMet p t table (Record Client) run all) → KeepsCall m.so_far.calls (body_of t) new call → GoesTo (Some (variants.Call call)) p u new run all
+call_goes p t u table new run all call free m k =
+    let v : Unpacking = unpacking_at p Between in
+    let at : unpacking_of p u ≡ v = ap (unpacking_of p) free in
+    let j : Judged = resuming.with_call m.so_far k.items in
+    (entries.Call k.items, (k.items, subst (λ (b : List ℕ). bodies.IsCall b k.items) (sym k.body_is) k.is_call, k.id_is, refl), record {
+      so_far = j;
+      agrees = subst (λ (w : Unpacking). resuming.Agrees w j) (sym at) (m.agrees.0 k.items);
+      calls = k.added;
+      stands = m.stands ∙ ap (λ r. landed (call_judged v m.so_far r)) k.judged ∙ ap (λ (w : Unpacking). Runs (parsing_at w j)) (sym at);
+      emitted = sym (m.emits k.items) ∙ ap (λ (w : Unpacking). emitted_at w.opened j) (sym at);
+    })
+
+pub reply_goes : (p : Position) (t u : Taking) (table : List NumberedCall) (run : Run Parsing Refusal) (all : List Entry) (reply : KeptReply) → u ≡ unbegun
+    → (m : HasMet p t table (Record Server) run all) → KeepsReply m.so_far.calls (body_of t) reply → GoesTo (Some (variants.Reply reply)) p u table run all
+reply_goes p t u table run all reply free m k =
+    let v : Unpacking = unpacking_at p Between in
+    let at : unpacking_of p u ≡ v = ap (unpacking_of p) free in
+    let j : Judged = resuming.with_reply m.so_far k.answer in
+    let same : k.answer ≡ record { id = reply.id; items = k.answer.items } = ap (λ (i : ProcId). record { id = i; items = k.answer.items }) (sym k.id_is) in
+    (entries.Reply k.answer.id k.answer.items,
+    (k.answer.items, subst (λ (b : List ℕ). bodies.IsReply b (record { id = reply.id; items = k.answer.items })) (sym k.body_is) (subst (λ a. bodies.IsReply (body_of t) a) same k.is_reply), ap (λ (i : ProcId). entries.Reply i k.answer.items) (sym k.id_is)),
+    record {
+      so_far = j;
+      agrees = subst (λ (w : Unpacking). resuming.Agrees w j) (sym at) (m.agrees.0 k.answer);
+      calls = m.calls;
+      stands = m.stands ∙ ap (λ r. landed (reply_judged v m.so_far r)) k.judged ∙ ap (λ (w : Unpacking). Runs (parsing_at w j)) (sym at);
+      emitted = sym (m.emits k.answer) ∙ ap (λ (w : Unpacking). emitted_at w.opened j) (sym at);
+    })
+
+-- the same with the side and the place as the code has them
+pub call_goes_at : (p q : Position) (t u : Taking) (table new : List NumberedCall) (run : Run Parsing Refusal) (all : List Entry) (call : KeptCall) {side : Side} → side ≡ Client → q ≡ p → u ≡ unbegun
+    → (m : HasMet p t table (Record side) run all) → KeepsCall m.so_far.calls (body_of t) new call → GoesTo (Some (variants.Call call)) q u new run all
+call_goes_at p q t u table new run all call {side} is same free m k =
+    subst (λ (r : Position). GoesTo (Some (variants.Call call)) r u new run all) (sym same)
+    (subst (λ (s : Side). (m : HasMet p t table (Record s) run all) → KeepsCall m.so_far.calls (body_of t) new call → GoesTo (Some (variants.Call call)) p u new run all) (sym is) (call_goes p t u table new run all call free) m k)
+
+pub reply_goes_at : (p q : Position) (t u : Taking) (table new : List NumberedCall) (run : Run Parsing Refusal) (all : List Entry) (reply : KeptReply) {side : Side} → side ≡ Server → q ≡ p → new ≡ table → u ≡ unbegun
+    → (m : HasMet p t table (Record side) run all) → KeepsReply m.so_far.calls (body_of t) reply → GoesTo (Some (variants.Reply reply)) q u new run all
+reply_goes_at p q t u table new run all reply {side} is same kept free m k =
+    subst (λ (r : Position). GoesTo (Some (variants.Reply reply)) r u new run all) (sym same)
+    (subst (λ (l : List NumberedCall). GoesTo (Some (variants.Reply reply)) p u l run all) (sym kept)
+    (subst (λ (s : Side). (m : HasMet p t table (Record s) run all) → KeepsReply m.so_far.calls (body_of t) reply → GoesTo (Some (variants.Reply reply)) p u table run all) (sym is) (reply_goes p t u table run all reply free) m k))
+
+pub call_refused : (p : Position) (t : Taking) (table : List NumberedCall) (run : Run Parsing Refusal) (all : List Entry) (error : Error)
+    → (m : HasMet p t table (Record Client) run all) → RefusesBody p Client (judge_call m.so_far.calls (body_of t)) error → EndsWith run error
+call_refused p t table run all (errors.Refused fault) m (stop, judged, is) =
+    (refusal (place_at p.connections Client (fault_at m.so_far.calls stop.at stop.reason)),
+    m.stands ∙ ap (λ r. landed (call_judged (unpacking_at p Between) m.so_far r)) judged,
+    ap (λ (n : ℕ). record { place = places.Record p.connections Client n stop.at; reason = stop.reason }) (sym m.agrees.1) ∙ sym is)
+call_refused p t table run all errors.Read m h = h
+call_refused p t table run all errors.Write m h = h
+call_refused p t table run all errors.Memory m h = tt
+
+pub reply_refused : (p : Position) (t : Taking) (table : List NumberedCall) (run : Run Parsing Refusal) (all : List Entry) (error : Error)
+    → (m : HasMet p t table (Record Server) run all) → RefusesBody p Server (judge_reply m.so_far.calls (body_of t)) error → EndsWith run error
+reply_refused p t table run all (errors.Refused fault) m (stop, judged, is) =
+    (refusal (place_at p.connections Server (fault_at m.so_far.replies stop.at stop.reason)),
+    m.stands ∙ ap (λ r. landed (reply_judged (unpacking_at p Between) m.so_far r)) judged,
+    ap (λ (n : ℕ). record { place = places.Record p.connections Server n stop.at; reason = stop.reason }) (sym m.agrees.1) ∙ sym is)
+reply_refused p t table run all errors.Read m h = h
+reply_refused p t table run all errors.Write m h = h
+reply_refused p t table run all errors.Memory m h = tt

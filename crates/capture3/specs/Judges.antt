@@ -1,0 +1,109 @@
+-- A capture whose records are judged as they come: where the machine for its file stands.
+use Rattle.std.specs.Prelude.{◌≡◌, ◌≤◌, ℕ, Option, Some, None, Result, Ok, Err, List, [], ◌∷◌, ◌++◌, length, take}
+use Rattle.xdr3.specs.declared.reason.GetError.{GetError}
+use Rattle.xdr3.specs.declared.reason.GetError.TheVariants as gets
+use Rattle.xdr3.specs.declared.reason.Stop.{Stop}
+use Rattle.xdr3.specs.Item.{Item}
+use Rattle.record_mark.specs.Joining.{Between}
+use Rattle.record_mark.specs.Machine.{Ends, Run, Runs, Stops, after, landed}
+use Rattle.record_mark.specs.Taking.{Taking, body_of}
+use Rattle.rpc_head.specs.Messages.{procedure_in}
+use Rattle.capture3.specs.declared.calls.NumberedCall.{NumberedCall}
+use Rattle.capture3.specs.declared.entry.Entry as kept
+use Rattle.capture3.specs.declared.entry.KeptCall.{KeptCall}
+use Rattle.capture3.specs.declared.entry.KeptReply.{KeptReply}
+use Rattle.capture3.specs.declared.fault.Error.{Error}
+use Rattle.capture3.specs.declared.fault.Error.TheVariants as errors
+use Rattle.capture3.specs.declared.fault.Place.TheVariants as places
+use Rattle.capture3.specs.declared.fault.Side.{Side}
+use Rattle.capture3.specs.declared.position.Event.{Event}
+use Rattle.capture3.specs.declared.position.Event.TheVariants.{Begin, Record, Turn, Close}
+use Rattle.capture3.specs.declared.position.Position.{Position}
+use Rattle.capture3.specs.Bodies.{ReplyItems, IsCall, IsReply}
+use Rattle.capture3.specs.Connections.{Refusal}
+use Rattle.capture3.specs.Container.{unpacking_of}
+use Rattle.capture3.specs.Entry.{Entry}
+use Rattle.capture3.specs.Judging.{judge_call, judge_reply}
+use Rattle.capture3.specs.Kept.{IsKept}
+use Rattle.capture3.specs.Messages.{IsTableOf}
+use Rattle.capture3.specs.Parsing.{Parsing, file_next}
+use Rattle.capture3.specs.Position.{unpacking_at}
+use Rattle.capture3.specs.Resumed.{Judged, parsing_at, resumed, Agrees, AgreesOn, emitted_at, EmitsOn}
+use Rattle.capture3.specs.Unpacking.{Unpacked, Has}
+
+-- the run of the file's machine stands here, and these entries are whole
+pub record StandsAt (position : Position) (taking : Taking) (table : List NumberedCall) (run : Run Parsing Refusal) (entries : List Entry) : Type 0 where
+  pub so_far : Judged
+  pub agrees : Agrees (unpacking_of position taking) so_far
+  pub calls : IsTableOf table so_far.calls
+  pub stands : run ≡ Runs (parsing_at (unpacking_of position taking) so_far)
+  pub emitted : entries ≡ emitted_at (unpacking_of position taking).opened so_far
+
+-- what is whole with the last byte
+abbrev pub met : Event → Position → Taking → Unpacked
+met Begin position taking = Has Begin [] (unpacking_of position taking)
+met (Record side) position taking = Has (Record side) (body_of taking) (unpacking_at position Between)
+met Turn position taking = Has Turn [] (unpacking_of position taking)
+met Close position taking = Has Close [] (unpacking_of position taking)
+
+-- the last byte of the run made this whole, behind these entries
+pub record HasMet (position : Position) (taking : Taking) (table : List NumberedCall) (event : Event) (run : Run Parsing Refusal) (entries : List Entry) : Type 0 where
+  pub so_far : Judged
+  pub agrees : AgreesOn so_far (Ends (met event position taking))
+  pub calls : IsTableOf table so_far.calls
+  pub stands : run ≡ landed (resumed so_far (Ends (met event position taking)))
+  pub emits : EmitsOn so_far entries (Ends (met event position taking))
+
+-- ---- what a call leaves
+
+-- the run goes on to there, and its entry, if there is one, is kept
+abbrev pub GoesTo : Option kept.Entry → Position → Taking → List NumberedCall → Run Parsing Refusal → List Entry → Type 0
+GoesTo None position taking table run entries = StandsAt position taking table run entries
+GoesTo (Some one) position taking table run entries = (entry : Entry) × IsKept one entry × StandsAt position taking table run (entries ++ entry ∷ [])
+
+-- the last byte of the run shows the fault, unless memory ran out
+abbrev pub EndsWith : Run Parsing Refusal → Error → Type 0
+EndsWith run (errors.Refused fault) = (shown : Refusal) × (run ≡ Stops shown) × (shown.fault ≡ fault)
+EndsWith run errors.Memory = Unit {0}
+EndsWith run _ = ⊥
+
+-- some of the bytes lead the run to the fault, unless memory ran out
+abbrev pub FailsAt : Run Parsing Refusal → List ℕ → Error → Type 0
+FailsAt run bytes (errors.Refused fault) = (n : ℕ) × (n ≤ length bytes) × EndsWith (after file_next run (take n bytes)) (errors.Refused fault)
+FailsAt run bytes errors.Memory = Unit {0}
+FailsAt run bytes _ = ⊥
+
+-- ---- one record
+
+-- the body was a call, which is kept and joins the calls of its connection
+pub record KeepsCall (calls : List (List Item)) (body : List ℕ) (table : List NumberedCall) (call : KeptCall) : Type 0 where
+  pub items : List Item
+  pub judged : judge_call calls body ≡ Ok items
+  pub is_call : IsCall body items
+  pub body_is : call.body.items ≡ body
+  pub id_is : call.id ≡ procedure_in items
+  pub added : IsTableOf table (calls ++ items ∷ [])
+
+-- the body was a reply, which is kept
+pub record KeepsReply (calls : List (List Item)) (body : List ℕ) (reply : KeptReply) : Type 0 where
+  pub answer : ReplyItems
+  pub judged : judge_reply calls body ≡ Ok answer
+  pub is_reply : IsReply body answer
+  pub body_is : reply.body.items ≡ body
+  pub id_is : reply.id ≡ answer.id
+
+-- the body was refused, unless memory ran out
+abbrev pub RefusesBody : {X : Type 0} → Position → Side → Result X Stop → Error → Type 0
+RefusesBody position side judged (errors.Refused fault) =
+    (stop : Stop) × (judged ≡ Err stop) × (fault ≡ record { place = places.Record position.connections side position.records stop.at; reason = stop.reason })
+RefusesBody position side judged errors.Memory = Unit {0}
+RefusesBody position side judged _ = ⊥
+
+-- the fault of the record that became whole last, or want of memory
+abbrev pub error_at : Position → Side → GetError → Error
+error_at position side (gets.Stop stop) = errors.Refused (record { place = places.Record position.connections side position.records stop.at; reason = stop.reason })
+error_at position side gets.Memory = errors.Memory
+
+abbrev pub entry_cost : Option kept.Entry → ℕ
+entry_cost None = 0
+entry_cost (Some entry) = 1

@@ -1,0 +1,22 @@
+-- Kept entries, and the entries that they are.
+use Rattle.std.specs.Prelude.{◌≡◌, List, [], ◌∷◌}
+use Rattle.xdr3.specs.Item.{Item}
+use Rattle.rpc_head.specs.Messages.{procedure_in}
+use Rattle.capture3.specs.declared.entry.Entry as kept
+use Rattle.capture3.specs.declared.entry.Entry.TheVariants as variants
+use Rattle.capture3.specs.Bodies.{IsCall, IsReply}
+use Rattle.capture3.specs.Entry.{Entry, Begin, Call, Turn, Reply, Close, End}
+
+-- A kept message's body spells the entry's items, for its procedure (RFC 5531, section 9).
+abbrev pub IsKept : kept.Entry → Entry → Type 0
+IsKept variants.Begin entry = entry ≡ Begin
+IsKept (variants.Call call) entry = (items : List Item) × IsCall call.body.items items × (call.id ≡ procedure_in items) × (entry ≡ Call items)
+IsKept variants.Turn entry = entry ≡ Turn
+IsKept (variants.Reply reply) entry = (items : List Item) × IsReply reply.body.items (record { id = reply.id; items = items }) × (entry ≡ Reply reply.id items)
+IsKept variants.Close entry = entry ≡ Close
+IsKept variants.End entry = entry ≡ End
+
+-- the same one by one
+abbrev pub AreKept : List kept.Entry → List Entry → Type 0
+AreKept [] entries = entries ≡ []
+AreKept (one ∷ more) entries = (entry : Entry) × (rest : List Entry) × (entries ≡ entry ∷ rest) × IsKept one entry × AreKept more rest
