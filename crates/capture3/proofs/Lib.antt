@@ -1,5 +1,6 @@
 pub mod BytesOf
 pub mod Judged
+pub mod Strict
 pub mod Streams
 pub mod Sides
 pub mod Layouts
@@ -13,3 +14,7 @@ pub mod Reaches
 pub mod Emits
 pub mod Limits
 pub mod Examples
+pub mod Overs
+pub mod SideRules
+pub mod FileRules
+pub mod Loosened
