@@ -13,9 +13,9 @@ use Rattle.capture3.specs.Parsing.{Parsing, file_next, file_start, parsed, verdi
 use Rattle.capture3.specs.Reached.{IsLongestClean, Reached}
 use Rattle.capture3.specs.Typed.{IsWellFormed}
 use Rattle.capture3.proofs.BytesOf.{split_bytes}
-use Rattle.capture3.proofs.Files.{file_runs, rule_stops}
+use Rattle.capture3.proofs.Files.{file_runs}
 use Rattle.capture3.proofs.Reaches.{whole_stands, stands_whole}
-use Rattle.capture3.proofs.Verdicts.{told, shows_from_stops, clean_from_runs, typed_from_verdict, verdict_from_typed}
+use Rattle.capture3.proofs.Verdicts.{told, shows_from_stops, stops_from_shows, clean_from_runs, typed_from_verdict, verdict_from_typed}
 
 -- what the machine emits is what the bytes reach
 landed_ends : (shown : Refusal) (n : Next Parsing Refusal) → landed n ≡ Stops shown → n ≡ Ends shown
@@ -39,9 +39,9 @@ reached_without bytes (Ok entries) e are bad = absurd (bad (entries, typed_from_
 reached_without bytes (Err fault) e are bad = ap (λ v. unwrap_or (result_ok v) (emitted (last_running file_next file_start bytes) ++ last_entries (parsed bytes))) e
 
 -- behind the longest clean prefix
-longest_is : (bytes front : List ℕ) (s : Parsing) (more : List Entry) → (h : IsLongestClean bytes front more) → parsed front ≡ Runs s
+longest_is : (bytes front : List ℕ) (s : Parsing) (more : List Entry) → (h : IsLongestClean bytes front more) → AreBytes bytes → parsed front ≡ Runs s
     → (last_running file_next s h.rest ≡ s) × (last_entries (parsed bytes) ≡ more)
-longest_is bytes front s more h e = go h.longest
+longest_is bytes front s more h are e = go h.longest
   where
     go : ((h.rest ≡ []) × (more ≡ [])) ⊎ ((byte : ℕ) × (back : List ℕ) × (shown : Refusal) × (h.rest ≡ byte ∷ back) × Shows (front ++ byte ∷ []) shown × (more ≡ shown.more)) → (last_running file_next s h.rest ≡ s) × (last_entries (parsed bytes) ≡ more)
     go (inl l) = (
@@ -49,7 +49,7 @@ longest_is bytes front s more h e = go h.longest
       ap last_entries (ap parsed (h.split ∙ ap (λ (b : List ℕ). front ++ b) l.0 ∙ append-nil front) ∙ e) ∙ sym l.1,
     )
     go (inr r) =
-        let ends = landed_ends r.2 (file_next s r.0) (sym (one_more front s r.0 e) ∙ rule_stops (front ++ r.0 ∷ []) r.2 r.4.rule) in (
+        let ends = landed_ends r.2 (file_next s r.0) (sym (one_more front s r.0 e) ∙ stops_from_shows (front ++ r.0 ∷ []) r.2 (split_bytes bytes (front ++ r.0 ∷ []) r.1 (h.split ∙ ap (λ (b : List ℕ). front ++ b) r.3 ∙ sym (append_assoc front (r.0 ∷ []) r.1)) are).0 r.4) in (
           ap (last_running file_next s) r.3 ∙ ap (λ n. elim n [ Goes t ↦ last_running file_next t r.1 | Ends x ↦ s ]) ends,
           behind_entries bytes front s r.0 r.1 r.2 (h.split ∙ ap (λ (b : List ℕ). front ++ b) r.3) e ends ∙ sym r.5,
         )
@@ -60,7 +60,7 @@ machine_reaches bytes entries are (inr h) =
     let (bad, front, whole, more, longest, is_whole, is) = h in
     let at = whole_stands front whole is_whole in
     let runs = file_runs front at.state at.stands in
-    let last = longest_is bytes front at.state more longest runs in
+    let last = longest_is bytes front at.state more longest are runs in
     is
     ∙ ap (λ l. l ++ more) (sym at.emits)
     ∙ ap₂ (λ t es. emitted t ++ es) (sym (ap (last_running file_next file_start) longest.split ∙ last_running-append file_next file_start at.state front longest.rest runs ∙ last.0)) (sym last.1)

@@ -12,13 +12,15 @@ use Rattle.xdr3.specs.declared.reason.Reason.TheVariants.{BadMagic, BadMark, Aft
 use Rattle.capture3.specs.declared.fault.Fault.{Fault}
 use Rattle.capture3.specs.Capture.{Version, One, digit, magic_front, magic, max_connections, Streams, size, total_size, IsConnection}
 use Rattle.capture3.specs.Chunks.{max_bytes}
-use Rattle.capture3.specs.Connections.{Context, Refusal, refusal, ConnectionShows}
+use Rattle.capture3.specs.Connections.{Context, Refusal, refusal}
 use Rattle.capture3.specs.Entry.{Entry}
-use Rattle.capture3.specs.FirstFault.{Opens, DiffersFromMagic, BehindConnections, Rule, MagicDiffers, MarkIsBad, ConnectionIsTooMany, WithinConnection, ByteBehindEnd}
+use Rattle.capture3.specs.FirstFault.{DiffersFromMagic}
 use Rattle.capture3.specs.Opening.{Opening, Closing, Closes, Refuses, opening_next, opened}
 use Rattle.capture3.specs.Parsing.{Spot, Magic, Digit, Mark, Inside, Ended, Parsing, magic_left, marked, closed, spot_step, file_next, file_start, parsed}
+use Rattle.capture3.specs.Reached.{Opens}
 use Rattle.capture3.specs.Sides.{file_fault}
 use Rattle.capture3.specs.Typed.{connection_entries, HaveEntries}
+use Rattle.capture3.proofs.Strict.{ConnectionShows, BehindConnections, Rule, MagicDiffers, MarkIsBad, ConnectionIsTooMany, WithinConnection, ByteBehindEnd}
 use Rattle.capture3.proofs.BytesOf.{split_bytes}
 use Rattle.capture3.proofs.Openings.{HasOpening, ClosesConnection, EndsConnection, opening_leads, opening_runs, opening_stops, nothing_opened}
 use Rattle.capture3.proofs.Telling.{tells_bytes}
@@ -272,10 +274,10 @@ magic_runs (byte ∷ bytes) more at left e =
     ∙ ap (λ n. Runs (record { version = One; at = n; total = 0; number = 0; entries = []; spot = magic_left more })) there
 
 -- the whole magic
-magics_run : (version : Version) → parsed (magic version) ≡ Runs (record { version = version; at = 8; total = 0; number = 0; entries = []; spot = Mark [] })
+pub magics_run : (version : Version) → parsed (magic version) ≡ Runs (record { version = version; at = 8; total = 0; number = 0; entries = []; spot = Mark [] })
 magics_run One = refl
 
-mark_runs : (version : Version) (at total number : ℕ) (entries : List Entry) (word : List ℕ) (n : ℕ) → IsWord word n
+pub mark_runs : (version : Version) (at total number : ℕ) (entries : List Entry) (word : List ℕ) (n : ℕ) → IsWord word n
     → after file_next (Runs (record { version = version; at = at; total = total; number = number; entries = entries; spot = Mark [] })) word ≡ landed (marked version at total number entries n)
 mark_runs version at total number entries word n is =
     nested_stops word_next file_next (λ p. record { version = version; at = at; total = total; number = number; entries = entries; spot = Mark p }) (marked version at total number entries) (λ s byte. refl) word [] (word_number word) (word_stops word is.0)
@@ -323,7 +325,7 @@ connections_run version (streams ∷ connections) at total number end sum count 
     (omega (arith, ap length h.2, length-append h.0 h.1, ap length c.split, length-append c.mark c.rest, c.one.0)) (omega arith) (omega arith)
     ∙ ap (λ es. Runs (record { version = version; at = end; total = sum; number = count; entries = es; spot = Mark [] })) (append_assoc before (connection_entries e.0 e.1) e.2 ∙ ap (λ es. before ++ es) (sym e.3))
 
-length_magic : (version : Version) → length (magic version) ≡ 8
+pub length_magic : (version : Version) → length (magic version) ≡ 8
 length_magic One = refl
 
 behind : (version : Version) (bytes front back : List ℕ) (connections : List Streams) (entries : List Entry) → bytes ≡ front ++ back → Opens version front connections entries
@@ -375,7 +377,7 @@ word_last bytes b n none is =
     behind b.version bytes b.front b.word b.connections b.entries (b.split ∙ ap (λ (r : List ℕ). b.front ++ b.word ++ r) none ∙ append-nil (b.front ++ b.word)) b.opens
     ∙ mark_runs b.version (length b.front) (total_size b.connections) (length b.connections) b.entries b.word n (b.is_word.0, b.is_word.1 ∙ is)
 
-bad_mark_stops : (version : Version) (at total count : ℕ) (entries : List Entry) (n : ℕ) → 1 < n → landed (marked version at total count entries n) ≡ Stops (refusal (file_fault at BadMark))
+pub bad_mark_stops : (version : Version) (at total count : ℕ) (entries : List Entry) (n : ℕ) → 1 < n → landed (marked version at total count entries n) ≡ Stops (refusal (file_fault at BadMark))
 bad_mark_stops version at total count entries zero h = absurd (omega arith)
 bad_mark_stops version at total count entries (suc zero) h = absurd (omega arith)
 bad_mark_stops version at total count entries (suc (suc n)) h = refl
@@ -399,7 +401,7 @@ magic_split (x ∷ xs) (f ∷ front) y due more e =
     let rest : xs ++ y ∷ [] ≡ front ++ due ∷ more = cc in
     ⊎_elim (λ l. inl (l.0, ap₂ (λ n (b : List ℕ). n ∷ b) first l.1)) (λ r. inr (ap₂ (λ n (b : List ℕ). n ∷ b) first r)) (magic_split xs front y due more rest)
 
-magic_stops : (bytes : List ℕ) (fault : Fault) (d : DiffersFromMagic bytes fault) → parsed bytes ≡ Stops (refusal fault)
+pub magic_stops : (bytes : List ℕ) (fault : Fault) (d : DiffersFromMagic bytes fault) → parsed bytes ≡ Stops (refusal fault)
 magic_stops bytes fault d = go (magic_split magic_front d.front (digit d.version) d.due d.more d.begins)
   where
     at_is : 0 + length d.front ≡ length d.front

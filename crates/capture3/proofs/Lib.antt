@@ -5,6 +5,7 @@ pub mod Containers
 pub mod Judgements
 pub mod BytesOf
 pub mod Judged
+pub mod Strict
 pub mod Streams
 pub mod Sides
 pub mod Layouts
@@ -21,3 +22,7 @@ pub mod Limits
 pub mod Examples
 pub mod Emissions
 pub mod Captures
+pub mod Overs
+pub mod SideRules
+pub mod FileRules
+pub mod Loosened

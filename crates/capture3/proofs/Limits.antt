@@ -157,7 +157,7 @@ rule_more : (bytes : List ℕ) (shown : Refusal) → Rule bytes shown → shown.
 rule_more bytes shown (MagicDiffers d same) = ap (λ (r : Refusal). r.more) same
 rule_more bytes shown (MarkIsBad b none bad is) = ap (λ (r : Refusal). r.more) is
 rule_more bytes shown (ConnectionIsTooMany b none one full is) = ap (λ (r : Refusal). r.more) is
-rule_more bytes shown (WithinConnection b one few shows) = connection_more b.version _ b.rest shown shows
+rule_more bytes shown (WithinConnection b one shows) = connection_more b.version _ b.rest shown shows
 rule_more bytes shown (ByteBehindEnd b none one is) = ap (λ (r : Refusal). r.more) is
 
 longest_more : (bytes front : List ℕ) (more : List Entry) → IsLongestClean bytes front more → more ≡ []

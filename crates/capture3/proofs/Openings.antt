@@ -7,7 +7,7 @@ use Rattle.capture3.specs.declared.fault.Side.TheVariants.{Client, Server}
 use Rattle.capture3.specs.Bodies.{ReplyItems}
 use Rattle.capture3.specs.Capture.{Version, One, Streams, size, AreStreams}
 use Rattle.capture3.specs.Chunks.{max_bytes, IsStream}
-use Rattle.capture3.specs.Connections.{Context, client_position, server_position, calls_in_turn, replies_to, ConnectionShows}
+use Rattle.capture3.specs.Connections.{Context, client_position, server_position, calls_in_turn, replies_to}
 use Rattle.capture3.specs.Entry.{Entry}
 use Rattle.capture3.specs.Judging.{judge_call}
 use Rattle.capture3.specs.Opening.{judge_replies, Opening, InClient, InServer, Closing, Closes, Refuses, turning, ending, opening_next, opened}
@@ -15,6 +15,7 @@ use Rattle.capture3.specs.Records.{Holds}
 use Rattle.capture3.specs.Sides.{place_at}
 use Rattle.capture3.specs.Siding.{Siding, SideEnd, SideCloses, SideRefuses, side_next, siding_from}
 use Rattle.capture3.specs.Typed.{Converses, connection_entries}
+use Rattle.capture3.proofs.Strict.{ConnectionShows}
 use Rattle.capture3.proofs.Bodies.{the_calls, the_replies}
 use Rattle.capture3.proofs.BytesOf.{split_bytes}
 use Rattle.capture3.proofs.Converses.{conversed, calls_hold, replies_hold}

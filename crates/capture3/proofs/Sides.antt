@@ -11,10 +11,11 @@ use Rattle.xdr3.specs.Item.{AreBytes}
 use Rattle.xdr3.specs.declared.reason.Reason.TheVariants.{RecordCut, TooManyBytes}
 use Rattle.capture3.specs.declared.fault.Fault.{Fault}
 use Rattle.capture3.specs.Chunks.{max_bytes, IsChunk, AreChunks, IsStream}
-use Rattle.capture3.specs.Records.{Judgement, Holds, RecordFault, fault_at, StreamShows}
+use Rattle.capture3.specs.Records.{Judgement, Holds, RecordFault, fault_at}
 use Rattle.capture3.specs.Reading.{Reading, stream_next, unread}
-use Rattle.capture3.specs.Sides.{Position, file_fault, place_in, PassesBytes, CutsRecord, ShowsRecord, SideShows}
+use Rattle.capture3.specs.Sides.{Position, file_fault, place_in}
 use Rattle.capture3.specs.Siding.{Point, Length, Chunk, Siding, SideEnd, SideCloses, SideRefuses, awaiting, closing, counted, side_next, side_start}
+use Rattle.capture3.proofs.Strict.{StreamShows, PassesBytes, CutsRecord, ShowsRecord, SideShows}
 use Rattle.capture3.proofs.BytesOf.{split_bytes, AreBytes-append, chunk_bytes}
 use Rattle.capture3.proofs.Judged.{Judged}
 use Rattle.capture3.proofs.Streams.{HasRead, stream_leads, nothing_read, stream_runs, stream_stops, has_read, holds_so_far}
@@ -224,21 +225,21 @@ nothing_taken judge position fits =
 
 -- ---- the other way round
 
-length_runs : {M : Type 0} (judge : Judged M) (position : Position) (at total n : ℕ) (reading : Reading M) (header : List ℕ) → IsWord header n
+pub length_runs : {M : Type 0} (judge : Judged M) (position : Position) (at total n : ℕ) (reading : Reading M) (header : List ℕ) → IsWord header n
     → after (side_next judge.decide (place_in position)) (Runs (record { at = at; total = total; reading = reading; point = Length [] })) header ≡ landed (counted (place_in position) at total reading n)
 length_runs judge position at total n reading header word =
     nested_stops word_next (side_next judge.decide (place_in position)) (λ p. record { at = at; total = total; reading = reading; point = Length p }) (counted (place_in position) at total reading) (λ s byte. refl) header [] (number header) (word_stops header word.0)
     ∙ ap (λ m. landed (counted (place_in position) at total reading m)) word.1
 
 -- a chunk's length word within the limit
-opens : {M : Type 0} (judge : Judged M) (position : Position) (at total n : ℕ) (reading : Reading M) (header : List ℕ) → IsWord header n → 0 < n → total + n ≤ max_bytes
+pub opens : {M : Type 0} (judge : Judged M) (position : Position) (at total n : ℕ) (reading : Reading M) (header : List ℕ) → IsWord header n → 0 < n → total + n ≤ max_bytes
     → after (side_next judge.decide (place_in position)) (Runs (record { at = at; total = total; reading = reading; point = Length [] })) header ≡ Runs (record { at = at + 4 + n; total = total + n; reading = reading; point = awaiting n })
 opens judge position at total zero reading header word some fits = absurd (omega arith)
 opens judge position at total (suc left) reading header word some fits =
     length_runs judge position at total (suc left) reading header word
     ∙ ap (λ b. landed (cond b (Ends (SideRefuses (file_fault at TooManyBytes))) (Goes (record { at = at + 4 + suc left; total = total + suc left; reading = reading; point = Chunk left })))) (le-ltb max_bytes (total + suc left) fits)
 
-chunk_runs : {M : Type 0} (judge : Judged M) (position : Position) (at total : ℕ) (r t : Reading M) (header got : List ℕ) (left : ℕ) → IsWord header (length got + left) → 0 < length got + left → total + (length got + left) ≤ max_bytes → after (stream_next judge.decide) (Runs r) got ≡ Runs t
+pub chunk_runs : {M : Type 0} (judge : Judged M) (position : Position) (at total : ℕ) (r t : Reading M) (header got : List ℕ) (left : ℕ) → IsWord header (length got + left) → 0 < length got + left → total + (length got + left) ≤ max_bytes → after (stream_next judge.decide) (Runs r) got ≡ Runs t
     → after (side_next judge.decide (place_in position)) (Runs (record { at = at; total = total; reading = r; point = Length [] })) (header ++ got) ≡ Runs (record { at = at + 4 + (length got + left); total = total + (length got + left); reading = t; point = awaiting left })
 chunk_runs judge position at total r t header got left word some fits e =
     after-append (side_next judge.decide (place_in position)) (Runs (record { at = at; total = total; reading = r; point = Length [] })) header got
@@ -246,7 +247,7 @@ chunk_runs judge position at total r t header got left word some fits e =
     ∙ counted_runs (stream_next judge.decide) (side_next judge.decide (place_in position)) (λ n s. record { at = at + 4 + (length got + left); total = total + (length got + left); reading = s; point = awaiting n }) (λ _ shown. Ends (SideRefuses (place_in position shown))) (λ n s byte. refl)
     got (length got + left) left r t refl e
 
-chunk_stops : {M : Type 0} (judge : Judged M) (position : Position) (at total : ℕ) (r : Reading M) (header got : List ℕ) (left : ℕ) (shown : RecordFault) → IsWord header (length got + left) → 0 < length got + left → total + (length got + left) ≤ max_bytes → after (stream_next judge.decide) (Runs r) got ≡ Stops shown
+pub chunk_stops : {M : Type 0} (judge : Judged M) (position : Position) (at total : ℕ) (r : Reading M) (header got : List ℕ) (left : ℕ) (shown : RecordFault) → IsWord header (length got + left) → 0 < length got + left → total + (length got + left) ≤ max_bytes → after (stream_next judge.decide) (Runs r) got ≡ Stops shown
     → after (side_next judge.decide (place_in position)) (Runs (record { at = at; total = total; reading = r; point = Length [] })) (header ++ got) ≡ Stops (SideRefuses (place_in position shown))
 chunk_stops judge position at total r header got left shown word some fits e =
     after-append (side_next judge.decide (place_in position)) (Runs (record { at = at; total = total; reading = r; point = Length [] })) header got

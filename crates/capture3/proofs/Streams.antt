@@ -9,8 +9,9 @@ use Rattle.record_mark.proofs.Words.{Joins-snoc}
 use Rattle.record_mark.proofs.Joins.{join_leads, record_stops, too_long_stops, joining_runs}
 use Rattle.xdr3.specs.Item.{AreBytes}
 use Rattle.xdr3.specs.declared.reason.Stop.{Stop}
-use Rattle.capture3.specs.Records.{Judgement, AreMessages, Holds, HoldsSoFar, RecordFault, StreamShows}
+use Rattle.capture3.specs.Records.{Judgement, AreMessages, Holds, HoldsSoFar, RecordFault}
 use Rattle.capture3.specs.Reading.{Reading, judged, recorded, stream_next, unread}
+use Rattle.capture3.proofs.Strict.{StreamShows}
 use Rattle.capture3.proofs.BytesOf.{split_bytes, record_bytes}
 use Rattle.capture3.proofs.Judged.{Judged}
 
@@ -70,7 +71,7 @@ nothing_read judge = record { front = []; last = []; split = refl; holds = ([], 
 
 -- ---- the other way round
 
-record_closes : {M : Type 0} (judge : Judged M) (messages : List M) (bytes : List ℕ) (x : Joined) → after join_next (Runs Between) bytes ≡ Stops x
+pub record_closes : {M : Type 0} (judge : Judged M) (messages : List M) (bytes : List ℕ) (x : Joined) → after join_next (Runs Between) bytes ≡ Stops x
     → after (stream_next judge.decide) (Runs (record { messages = messages; joining = Between })) bytes ≡ landed (recorded judge.decide messages x)
 record_closes judge messages bytes x e = nested_stops join_next (stream_next judge.decide) (λ j. record { messages = messages; joining = j }) (recorded judge.decide messages) (λ s byte. refl) bytes Between x e
 

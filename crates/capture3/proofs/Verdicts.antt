@@ -1,41 +1,58 @@
 -- A file is well formed with its entries, or has one first fault, as the machine says.
 use Rattle.std.proofs.Common.{◌≡◌, inl, inr, ℕ, List, [], ◌∷◌, ◌++◌, length, refl, sym, ap, subst, ◌∙◌, append-nil, Result, Ok, Err}
 use Rattle.record_mark.specs.Machine.{Run, Runs, Stops, Stopped, after}
-use Rattle.record_mark.proofs.Machines.{Tells, after-append, after_stopped, ran_to, not_runs}
+use Rattle.record_mark.proofs.Machines.{ran_before, Tells, after-append, after_stopped, ran_to, not_runs}
 use Rattle.xdr3.specs.Item.{AreBytes}
 use Rattle.xdr3.specs.declared.reason.Reason.TheVariants.{CaptureCut, AfterEnd}
 use Rattle.capture3.specs.declared.fault.Fault.{Fault}
 use Rattle.capture3.specs.Capture.{Version, total_size, magic}
 use Rattle.capture3.specs.Connections.{Refusal, refusal}
 use Rattle.capture3.specs.Entry.{Entry, End}
-use Rattle.capture3.specs.FirstFault.{Rule, Shows, IsClean, FirstFault}
+use Rattle.capture3.specs.FirstFault.{Shows, IsClean, FirstFault}
 use Rattle.capture3.specs.Laws.{HasOneVerdict, IsCutShort}
 use Rattle.capture3.specs.Parsing.{Spot, Magic, Digit, Mark, Inside, Ended, Parsing, file_next, file_start, parsed, concluded, verdict_of, verdict}
 use Rattle.capture3.specs.Sides.{file_fault}
 use Rattle.capture3.specs.Typed.{Typed, IsWellFormed}
+use Rattle.capture3.proofs.FileRules.{AnyRefusal, rule_over}
 use Rattle.capture3.proofs.BytesOf.{split_bytes}
+use Rattle.capture3.proofs.Loosened.{loosened}
+use Rattle.capture3.proofs.Overs.{Over}
+use Rattle.capture3.proofs.Strict as strict
 use Rattle.capture3.proofs.Files.{HasSpot, Stands, file_tells, file_runs, rule_stops}
 
 -- the machine's runs, told of their bytes
-pub told : (bytes : List ℕ) (run : Run Parsing Refusal) → AreBytes bytes → parsed bytes ≡ run → Tells Stands Rule bytes run
-told bytes run are e = subst (λ r. Tells Stands Rule bytes r) e (file_tells bytes are)
+pub told : (bytes : List ℕ) (run : Run Parsing Refusal) → AreBytes bytes → parsed bytes ≡ run → Tells Stands strict.Rule bytes run
+told bytes run are e = subst (λ r. Tells Stands strict.Rule bytes r) e (file_tells bytes are)
+
+-- where a rule holds, the machine has stopped
+over_not_runs : (run : Run Parsing Refusal) (s : Parsing) (shown : Refusal) → run ≡ Runs s → Over AnyRefusal run shown → ⊥
+over_not_runs run s shown e (inl f) = cc
+over_not_runs run s shown e (inr past) = let f = past.2 in cc
 
 -- a fault is shown by the last byte exactly where the machine stops at it
 pub shows_from_stops : (bytes : List ℕ) (shown : Refusal) → AreBytes bytes → parsed bytes ≡ Stops shown → Shows bytes shown
 shows_from_stops bytes shown are e =
     record {
-      rule = told bytes (Stops shown) are e;
+      rule = loosened bytes shown (told bytes (Stops shown) are e);
       first = λ front more byte other split rule.
-          let before = ap parsed split ∙ after-append file_next (Runs file_start) front (byte ∷ more) ∙ ap (λ r. after file_next r (byte ∷ more)) (rule_stops front other rule) ∙ after_stopped file_next other more in
-          cc;
+          let before = ran_before file_next (Runs file_start) front byte more shown (ap parsed (sym split) ∙ e) in
+          over_not_runs (parsed front) before.0 other before.1 (rule_over front other rule);
     }
+
+pub stops_from_shows : (bytes : List ℕ) (shown : Refusal) → AreBytes bytes → Shows bytes shown → parsed bytes ≡ Stops shown
+stops_from_shows bytes shown are h = go (rule_over bytes shown h.rule)
+  where
+    go : Over AnyRefusal (parsed bytes) shown → parsed bytes ≡ Stops shown
+    go (inl e) = e
+    go (inr past) =
+        let t = told bytes (Stopped past.0) are past.2 in
+        absurd (h.first t.front t.back t.byte past.0 t.split (loosened t.front past.0 t.ending))
 
 -- a prefix of what the machine runs through shows nothing
 pub clean_from_runs : (bytes : List ℕ) (s : Parsing) → parsed bytes ≡ Runs s → IsClean bytes
 clean_from_runs bytes s e front rest fault split shows =
     let ran = ran_to file_next (Runs file_start) front rest s (ap parsed (sym split) ∙ e) in
-    let stops = rule_stops front fault shows.rule in
-    cc (ran.1, stops)
+    over_not_runs (parsed front) ran.0 fault ran.1 (rule_over front fault shows.rule)
 
 -- well formed
 typed_from_spot : (version : Version) (file : List ℕ) (at total number size : ℕ) (entries all : List Entry) (spot : Spot) → HasSpot version file at total number entries spot → concluded size entries spot ≡ Ok all → Typed file all
@@ -122,7 +139,7 @@ cut_from_run file (Stopped fault) are e clean bad =
 
 pub verdict_from_fault : (file : List ℕ) (fault : Fault) → AreBytes file → FirstFault file fault → verdict file ≡ Err fault
 verdict_from_fault file fault are (inl h) =
-    ap (verdict_of (length file)) (ap parsed h.3 ∙ after-append file_next (Runs file_start) h.0 h.1 ∙ ap (λ r. after file_next r h.1) (rule_stops h.0 h.2 h.4.rule))
+    ap (verdict_of (length file)) (ap parsed h.3 ∙ after-append file_next (Runs file_start) h.0 h.1 ∙ ap (λ r. after file_next r h.1) (stops_from_shows h.0 h.2 (split_bytes file h.0 h.1 h.3 are).0 h.4))
     ∙ stays (length file) h.2 h.1 ∙ ap (λ f. Err f) (sym h.5)
 verdict_from_fault file fault are (inr h) = cut_from_run file (parsed file) are refl h.0 h.1 ∙ ap (λ f. Err f) (sym h.2)
 

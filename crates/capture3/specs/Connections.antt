@@ -1,11 +1,11 @@
 -- The faults of one connection.
-use Rattle.std.specs.Prelude.{◌≡◌, ◌⊎◌, ℕ, ◌+◌, ◌≤◌, List, [], ◌++◌, length}
+use Rattle.std.specs.Prelude.{◌≡◌, ◌⊎◌, ℕ, ◌+◌, List, [], ◌++◌, length}
 use Rattle.xdr3.specs.Item.{Item}
 use Rattle.capture3.specs.declared.fault.Fault.{Fault}
 use Rattle.capture3.specs.declared.fault.Side.TheVariants.{Client, Server}
 use Rattle.capture3.specs.Bodies.{ReplyItems, AcceptsCall, RefusesCall, AcceptsReply, RefusesReply}
 use Rattle.capture3.specs.Capture.{Version, One}
-use Rattle.capture3.specs.Chunks.{max_bytes, IsStream}
+use Rattle.capture3.specs.Chunks.{IsStream}
 use Rattle.capture3.specs.Entry.{Entry}
 use Rattle.capture3.specs.Records.{Judgement, Holds}
 use Rattle.capture3.specs.Sides.{Position, SideShows}
@@ -48,7 +48,6 @@ pub record ServerShows (context : Context) (bytes : List ℕ) (fault : Fault) : 
   pub split : bytes ≡ front ++ last
   pub first : IsStream front client
   pub holds : Holds calls_in_turn client calls
-  pub fits : context.before + length client ≤ max_bytes
   pub shows : SideShows (replies_to calls) (server_position context front client) last fault
 
 -- the last byte of a connection's bytes shows this fault

@@ -1,23 +1,12 @@
 -- The first fault of a file.
-use Rattle.std.specs.Prelude.{◌≡◌, ◌≢◌, ◌⊎◌, ℕ, suc, ◌+◌, ◌<◌, ◌≤◌, List, [], ◌∷◌, ◌++◌, length}
+use Rattle.std.specs.Prelude.{◌≡◌, ◌≢◌, ◌⊎◌, ℕ, suc, ◌+◌, ◌<◌, List, [], ◌∷◌, ◌++◌, length}
 use Rattle.record_mark.specs.Word.{IsWord, Joins}
 use Rattle.xdr3.specs.declared.reason.Reason.TheVariants.{BadMagic, CaptureCut, BadMark, AfterEnd, TooManyConnections}
 use Rattle.capture3.specs.declared.fault.Fault.{Fault}
 use Rattle.capture3.specs.Capture.{Version, magic, max_connections, Streams, total_size, IsConnection}
-use Rattle.capture3.specs.Chunks.{max_bytes}
 use Rattle.capture3.specs.Connections.{Refusal, refusal, ConnectionShows}
-use Rattle.capture3.specs.Entry.{Entry}
 use Rattle.capture3.specs.Sides.{file_fault}
-use Rattle.capture3.specs.Typed.{HaveEntries, IsWellFormed}
-
--- the magic and whole connections, with these entries
-pub record Opens (version : Version) (bytes : List ℕ) (connections : List Streams) (entries : List Entry) : Type 0 where
-  pub rest : List ℕ
-  pub split : bytes ≡ magic version ++ rest
-  pub joined : Joins (IsConnection version) rest connections
-  pub messages : HaveEntries connections entries
-  pub few : length connections ≤ max_connections
-  pub small : total_size connections ≤ max_bytes
+use Rattle.capture3.specs.Typed.{IsWellFormed}
 
 -- a byte among the first 8, which differs from that of each magic
 pub record DiffersFromMagic (bytes : List ℕ) (fault : Fault) : Type 0 where
@@ -31,17 +20,18 @@ pub record DiffersFromMagic (bytes : List ℕ) (fault : Fault) : Type 0 where
   pub differs : (other : Version) (expected : ℕ) (rest : List ℕ) → magic other ≡ front ++ expected ∷ rest → byte ≢ expected
   pub is : fault ≡ file_fault (length front) BadMagic
 
--- whole connections, a connection word, and what comes behind it
+-- the magic, whole connections, a connection word, and what comes behind it
 pub record BehindConnections (bytes : List ℕ) : Type 0 where
   pub version : Version
   pub front : List ℕ
+  pub whole : List ℕ
   pub word : List ℕ
   pub rest : List ℕ
   pub connections : List Streams
-  pub entries : List Entry
   pub mark : ℕ
   pub split : bytes ≡ front ++ word ++ rest
-  pub opens : Opens version front connections entries
+  pub begins : front ≡ magic version ++ whole
+  pub joined : Joins (IsConnection version) whole connections
   pub is_word : IsWord word mark
 
 -- the rules: the last byte of these bytes shows this fault
@@ -53,7 +43,7 @@ pub data Rule (bytes : List ℕ) (shown : Refusal) : Type 0 where
   -- it is 1 after 65,535 connections
   ConnectionIsTooMany : (b : BehindConnections bytes) → b.rest ≡ [] → b.mark ≡ 1 → length b.connections ≡ max_connections → shown ≡ refusal (file_fault (length b.front) TooManyConnections) → Rule bytes shown
   -- in a connection
-  WithinConnection : (b : BehindConnections bytes) → b.mark ≡ 1 → length b.connections < max_connections
+  WithinConnection : (b : BehindConnections bytes) → b.mark ≡ 1
       → ConnectionShows b.version (record { number = suc (length b.connections); start = length b.front + 4; before = total_size b.connections }) b.rest shown → Rule bytes shown
   -- a byte after the last word 0
   ByteBehindEnd : (b : BehindConnections bytes) → b.mark ≡ 0 → length b.rest ≡ 1 → shown ≡ refusal (file_fault (length b.front + 4) AfterEnd) → Rule bytes shown

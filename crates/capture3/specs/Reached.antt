@@ -1,15 +1,24 @@
 -- The entries that a prefix of a file reaches.
 use Rattle.std.specs.Prelude.{◌≡◌, ◌⊎◌, ℕ, ◌+◌, ◌<◌, ◌≤◌, List, [], ◌∷◌, ◌++◌, length, map}
-use Rattle.record_mark.specs.Word.{IsWord}
+use Rattle.record_mark.specs.Word.{IsWord, Joins}
 use Rattle.xdr3.specs.Item.{Item}
 use Rattle.capture3.specs.Bodies.{ReplyItems}
-use Rattle.capture3.specs.Capture.{Version, One, magic, max_connections, Streams, total_size}
+use Rattle.capture3.specs.Capture.{Version, One, magic, max_connections, Streams, total_size, IsConnection}
 use Rattle.capture3.specs.Chunks.{max_bytes, IsStream, BeginsStream}
 use Rattle.capture3.specs.Connections.{Refusal, calls_in_turn, replies_to}
 use Rattle.capture3.specs.Entry.{Entry, Begin, Call, Turn}
-use Rattle.capture3.specs.FirstFault.{Opens, Shows, IsClean}
+use Rattle.capture3.specs.FirstFault.{Shows, IsClean}
 use Rattle.capture3.specs.Records.{Holds, HoldsSoFar}
-use Rattle.capture3.specs.Typed.{reply_entry, Typed, IsWellFormed}
+use Rattle.capture3.specs.Typed.{reply_entry, HaveEntries, Typed, IsWellFormed}
+
+-- the magic and whole connections, with these entries
+pub record Opens (version : Version) (bytes : List ℕ) (connections : List Streams) (entries : List Entry) : Type 0 where
+  pub rest : List ℕ
+  pub split : bytes ≡ magic version ++ rest
+  pub joined : Joins (IsConnection version) rest connections
+  pub messages : HaveEntries connections entries
+  pub few : length connections ≤ max_connections
+  pub small : total_size connections ≤ max_bytes
 
 -- in the client stream, behind so many stream bytes before: the calls whose records are whole
 pub record ReachesCalls (before : ℕ) (bytes : List ℕ) (entries : List Entry) : Type 0 where

@@ -52,27 +52,27 @@ pub record RefusesRecord {M : Type 0} (judge : Judgement M) (stream : List ℕ) 
   pub is : fault ≡ fault_at messages stop.at stop.reason
 
 -- the stream ends with a whole fragment header, with which the body would pass the limit
-pub record PassesLimit {M : Type 0} (judge : Judgement M) (stream : List ℕ) (fault : RecordFault) : Type 0 where
+pub record PassesLimit (stream : List ℕ) (fault : RecordFault) : Type 0 where
   pub front : List ℕ
   pub last : List ℕ
-  pub messages : List M
+  pub bodies : List (List ℕ)
   pub at : ℕ
   pub split : stream ≡ front ++ last
-  pub holds : Holds judge front messages
+  pub marks : Marks front bodies
   pub long : IsTooLong last at
-  pub is : fault ≡ fault_at messages at RecordTooLong
+  pub is : fault ≡ record { number = suc (length bodies); byte = at; reason = RecordTooLong }
 
 -- the last byte of the stream shows this fault
 abbrev pub StreamShows : {M : Type 0} → Judgement M → List ℕ → RecordFault → Type 0
-StreamShows judge stream fault = RefusesRecord judge stream fault ⊎ PassesLimit judge stream fault
+StreamShows judge stream fault = RefusesRecord judge stream fault ⊎ PassesLimit stream fault
 
 -- the stream ends while a record is open: RecordCut, behind as many bytes of its body as have come
-pub record IsCut {M : Type 0} (judge : Judgement M) (stream : List ℕ) (fault : RecordFault) : Type 0 where
+pub record IsCut (stream : List ℕ) (fault : RecordFault) : Type 0 where
   pub front : List ℕ
   pub last : List ℕ
-  pub messages : List M
+  pub bodies : List (List ℕ)
   pub body : List ℕ
   pub split : stream ≡ front ++ last
-  pub holds : Holds judge front messages
+  pub marks : Marks front bodies
   pub is_open : IsOpen last body
-  pub is : fault ≡ fault_at messages (length body) RecordCut
+  pub is : fault ≡ record { number = suc (length bodies); byte = length body; reason = RecordCut }

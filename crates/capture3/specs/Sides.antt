@@ -1,5 +1,5 @@
 -- The faults of one side of a connection, and where they stand.
-use Rattle.std.specs.Prelude.{◌≡◌, ◌⊎◌, ℕ, ◌+◌, ◌<◌, ◌≤◌, List, ◌++◌, length}
+use Rattle.std.specs.Prelude.{◌≡◌, ◌⊎◌, ℕ, ◌+◌, ◌<◌, List, ◌++◌, length}
 use Rattle.record_mark.specs.Word.{IsWord}
 use Rattle.xdr3.specs.declared.reason.Reason.{Reason}
 use Rattle.xdr3.specs.declared.reason.Reason.TheVariants.{TooManyBytes}
@@ -7,7 +7,7 @@ use Rattle.capture3.specs.declared.fault.Fault.{Fault}
 use Rattle.capture3.specs.declared.fault.Place.TheVariants.{File, Record}
 use Rattle.capture3.specs.declared.fault.Side.{Side}
 use Rattle.capture3.specs.Chunks.{max_bytes, AreChunks, IsStream}
-use Rattle.capture3.specs.Records.{Judgement, RecordFault, StreamShows, IsCut, HoldsSoFar}
+use Rattle.capture3.specs.Records.{Judgement, RecordFault, StreamShows, IsCut}
 
 -- where a stream stands: its connection, counted from 1, its side, the file's byte at which it begins, and the capture's stream bytes before it
 pub record Position : Type 0 where
@@ -28,27 +28,24 @@ abbrev pub place_in : Position → RecordFault → Fault
 place_in position = place_at position.connection position.side
 
 -- a chunk's whole length word, with which the stream bytes would pass the limit
-pub record PassesBytes {M : Type 0} (judge : Judgement M) (position : Position) (bytes : List ℕ) (fault : Fault) : Type 0 where
+pub record PassesBytes (position : Position) (bytes : List ℕ) (fault : Fault) : Type 0 where
   pub front : List ℕ
   pub last : List ℕ
   pub stream : List ℕ
-  pub messages : List M
   pub count : ℕ
   pub split : bytes ≡ front ++ last
   pub chunks : AreChunks front stream
-  pub holds : HoldsSoFar judge stream messages
-  pub fits : position.before + length stream ≤ max_bytes
   pub word : IsWord last count
+  pub some : 0 < count
   pub passes : max_bytes < position.before + length stream + count
   pub is : fault ≡ file_fault (position.start + length front) TooManyBytes
 
 -- the stream's word 0 while a record is open
-pub record CutsRecord {M : Type 0} (judge : Judgement M) (position : Position) (bytes : List ℕ) (fault : Fault) : Type 0 where
+pub record CutsRecord (position : Position) (bytes : List ℕ) (fault : Fault) : Type 0 where
   pub stream : List ℕ
   pub shown : RecordFault
   pub closed : IsStream bytes stream
-  pub cut : IsCut judge stream shown
-  pub fits : position.before + length stream ≤ max_bytes
+  pub cut : IsCut stream shown
   pub is : fault ≡ place_in position shown
 
 -- a chunk's byte that shows a fault of its record
@@ -62,11 +59,10 @@ pub record ShowsRecord {M : Type 0} (judge : Judgement M) (position : Position) 
   pub chunks : AreChunks front stream
   pub word : IsWord header (length got + left)
   pub some : 0 < length got
-  pub fits : position.before + length stream + (length got + left) ≤ max_bytes
   pub shown : RecordFault
   pub shows : StreamShows judge (stream ++ got) shown
   pub is : fault ≡ place_in position shown
 
 -- the last byte of a stream's bytes in the file shows this fault
 abbrev pub SideShows : {M : Type 0} → Judgement M → Position → List ℕ → Fault → Type 0
-SideShows judge position bytes fault = PassesBytes judge position bytes fault ⊎ CutsRecord judge position bytes fault ⊎ ShowsRecord judge position bytes fault
+SideShows judge position bytes fault = PassesBytes position bytes fault ⊎ CutsRecord position bytes fault ⊎ ShowsRecord judge position bytes fault

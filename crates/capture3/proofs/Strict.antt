@@ -1,0 +1,128 @@
+-- The rules of faults with what holds before them: the messages so far are accepted, and the limits are kept.
+use Rattle.std.specs.Prelude.{◌≡◌, ◌⊎◌, ℕ, suc, ◌+◌, ◌<◌, ◌≤◌, List, [], ◌++◌, length}
+use Rattle.record_mark.specs.RecordMark.{IsTooLong, IsOpen}
+use Rattle.record_mark.specs.Word.{IsWord}
+use Rattle.xdr3.specs.Item.{Item}
+use Rattle.xdr3.specs.declared.reason.Reason.TheVariants.{BadMark, AfterEnd, TooManyConnections, RecordCut, RecordTooLong, TooManyBytes}
+use Rattle.capture3.specs.declared.fault.Fault.{Fault}
+use Rattle.capture3.specs.Capture.{Version, One, max_connections, Streams, total_size}
+use Rattle.capture3.specs.Chunks.{max_bytes, AreChunks, IsStream}
+use Rattle.capture3.specs.Connections.{Context, Refusal, refusal, calls_in_turn, replies_to, client_position, server_position}
+use Rattle.capture3.specs.Entry.{Entry}
+use Rattle.capture3.specs.FirstFault.{DiffersFromMagic}
+use Rattle.capture3.specs.Reached.{Opens}
+use Rattle.capture3.specs.Records.{Judgement, RecordFault, RefusesRecord, Holds, HoldsSoFar, fault_at}
+use Rattle.capture3.specs.Sides.{Position, file_fault, place_in}
+
+-- the stream ends with a whole fragment header, with which the body would pass the limit
+pub record PassesLimit {M : Type 0} (judge : Judgement M) (stream : List ℕ) (fault : RecordFault) : Type 0 where
+  pub front : List ℕ
+  pub last : List ℕ
+  pub messages : List M
+  pub at : ℕ
+  pub split : stream ≡ front ++ last
+  pub holds : Holds judge front messages
+  pub long : IsTooLong last at
+  pub is : fault ≡ fault_at messages at RecordTooLong
+
+-- the last byte of the stream shows this fault
+abbrev pub StreamShows : {M : Type 0} → Judgement M → List ℕ → RecordFault → Type 0
+StreamShows judge stream fault = RefusesRecord judge stream fault ⊎ PassesLimit judge stream fault
+
+-- the stream ends while a record is open: RecordCut, behind as many bytes of its body as have come
+pub record IsCut {M : Type 0} (judge : Judgement M) (stream : List ℕ) (fault : RecordFault) : Type 0 where
+  pub front : List ℕ
+  pub last : List ℕ
+  pub messages : List M
+  pub body : List ℕ
+  pub split : stream ≡ front ++ last
+  pub holds : Holds judge front messages
+  pub is_open : IsOpen last body
+  pub is : fault ≡ fault_at messages (length body) RecordCut
+
+-- a chunk's whole length word, with which the stream bytes would pass the limit
+pub record PassesBytes {M : Type 0} (judge : Judgement M) (position : Position) (bytes : List ℕ) (fault : Fault) : Type 0 where
+  pub front : List ℕ
+  pub last : List ℕ
+  pub stream : List ℕ
+  pub messages : List M
+  pub count : ℕ
+  pub split : bytes ≡ front ++ last
+  pub chunks : AreChunks front stream
+  pub holds : HoldsSoFar judge stream messages
+  pub fits : position.before + length stream ≤ max_bytes
+  pub word : IsWord last count
+  pub passes : max_bytes < position.before + length stream + count
+  pub is : fault ≡ file_fault (position.start + length front) TooManyBytes
+
+-- the stream's word 0 while a record is open
+pub record CutsRecord {M : Type 0} (judge : Judgement M) (position : Position) (bytes : List ℕ) (fault : Fault) : Type 0 where
+  pub stream : List ℕ
+  pub shown : RecordFault
+  pub closed : IsStream bytes stream
+  pub cut : IsCut judge stream shown
+  pub fits : position.before + length stream ≤ max_bytes
+  pub is : fault ≡ place_in position shown
+
+-- a chunk's byte that shows a fault of its record
+pub record ShowsRecord {M : Type 0} (judge : Judgement M) (position : Position) (bytes : List ℕ) (fault : Fault) : Type 0 where
+  pub front : List ℕ
+  pub header : List ℕ
+  pub got : List ℕ
+  pub stream : List ℕ
+  pub left : ℕ
+  pub split : bytes ≡ front ++ header ++ got
+  pub chunks : AreChunks front stream
+  pub word : IsWord header (length got + left)
+  pub some : 0 < length got
+  pub fits : position.before + length stream + (length got + left) ≤ max_bytes
+  pub shown : RecordFault
+  pub shows : StreamShows judge (stream ++ got) shown
+  pub is : fault ≡ place_in position shown
+
+-- the last byte of a stream's bytes in the file shows this fault
+abbrev pub SideShows : {M : Type 0} → Judgement M → Position → List ℕ → Fault → Type 0
+SideShows judge position bytes fault = PassesBytes judge position bytes fault ⊎ CutsRecord judge position bytes fault ⊎ ShowsRecord judge position bytes fault
+
+-- a fault in the server side, behind the client side with these calls
+pub record ServerShows (context : Context) (bytes : List ℕ) (fault : Fault) : Type 0 where
+  pub front : List ℕ
+  pub last : List ℕ
+  pub client : List ℕ
+  pub calls : List (List Item)
+  pub split : bytes ≡ front ++ last
+  pub first : IsStream front client
+  pub holds : Holds calls_in_turn client calls
+  pub fits : context.before + length client ≤ max_bytes
+  pub shows : SideShows (replies_to calls) (server_position context front client) last fault
+
+-- the last byte of a connection's bytes shows this fault
+abbrev pub ConnectionShows : Version → Context → List ℕ → Refusal → Type 0
+ConnectionShows One context bytes shown = (shown ≡ refusal shown.fault) × (SideShows calls_in_turn (client_position context) bytes shown.fault ⊎ ServerShows context bytes shown.fault)
+
+-- whole connections, a connection word, and what comes behind it
+pub record BehindConnections (bytes : List ℕ) : Type 0 where
+  pub version : Version
+  pub front : List ℕ
+  pub word : List ℕ
+  pub rest : List ℕ
+  pub connections : List Streams
+  pub entries : List Entry
+  pub mark : ℕ
+  pub split : bytes ≡ front ++ word ++ rest
+  pub opens : Opens version front connections entries
+  pub is_word : IsWord word mark
+
+-- the rules: the last byte of these bytes shows this fault
+pub data Rule (bytes : List ℕ) (shown : Refusal) : Type 0 where
+  -- a byte among the first 8 differs from the magic's
+  MagicDiffers : DiffersFromMagic bytes shown.fault → shown ≡ refusal shown.fault → Rule bytes shown
+  -- a whole connection word is not 0 or 1
+  MarkIsBad : (b : BehindConnections bytes) → b.rest ≡ [] → 1 < b.mark → shown ≡ refusal (file_fault (length b.front) BadMark) → Rule bytes shown
+  -- it is 1 after 65,535 connections
+  ConnectionIsTooMany : (b : BehindConnections bytes) → b.rest ≡ [] → b.mark ≡ 1 → length b.connections ≡ max_connections → shown ≡ refusal (file_fault (length b.front) TooManyConnections) → Rule bytes shown
+  -- in a connection
+  WithinConnection : (b : BehindConnections bytes) → b.mark ≡ 1 → length b.connections < max_connections
+      → ConnectionShows b.version (record { number = suc (length b.connections); start = length b.front + 4; before = total_size b.connections }) b.rest shown → Rule bytes shown
+  -- a byte after the last word 0
+  ByteBehindEnd : (b : BehindConnections bytes) → b.mark ≡ 0 → length b.rest ≡ 1 → shown ≡ refusal (file_fault (length b.front + 4) AfterEnd) → Rule bytes shown
