@@ -3,7 +3,7 @@ use Rattle.std.proofs.Common.{◌≡◌, Bool, false, is_some, take_all, ℕ, �
 use Rattle.std.proofs.Math.Seq.{take-add, take-take}
 use Rattle.xdr3.specs.declared.reason.Reason.TheVariants.{RecordTooLong}
 use Rattle.record_mark.specs.Joining.{Joining, Between, Whole, TooLong, join_next}
-use Rattle.record_mark.specs.Machine.{Runs, Stops, after}
+use Rattle.record_mark.specs.Machine.{Next, Runs, Stops, after, Run}
 use Rattle.record_mark.specs.Taking.{Taking, IsRunning, joining_of, body_of}
 use Rattle.record_mark.proofs.Machines.{after-append, counted_runs, counted_stops}
 use Rattle.capture3.specs.declared.fault.Error.{Error}
@@ -111,20 +111,23 @@ join_too_long p side left most at old rest here fits (n, within, joins) =
 -- ---- step after step
 
 -- the bytes at hand are all that are left
-rest_is : (bytes : List ℕ) (n : ℕ) → take (length bytes - n) (drop n bytes) ≡ drop n bytes
+pub rest_is : (bytes : List ℕ) (n : ℕ) → take (length bytes - n) (drop n bytes) ≡ drop n bytes
 rest_is bytes n =
     let size = length-drop n bytes in
     let all : length (drop n bytes) ≤ length bytes - n = omega arith in
     take_all (length bytes - n) (drop n bytes) all
 
 -- the run behind a front of the bytes, and some of the bytes at hand
+pub piece_more : {S F : Type 0} (next : S → ℕ → Next S F) (from : Run S F) (bytes : List ℕ) (n m : ℕ)
+    → after next from (take (n + m) bytes) ≡ after next (after next from (take n bytes)) (take m (take (length bytes - n) (drop n bytes)))
+piece_more next from bytes n m =
+    ap (after next from) (take-add n m bytes)
+    ∙ after-append next from (take n bytes) (take m (drop n bytes))
+    ∙ ap (λ (rest : List ℕ). after next (after next from (take n bytes)) (take m rest)) (sym (rest_is bytes n))
+
 runs_more : (from u : Unpacking) (bytes : List ℕ) (n m : ℕ) → after unpack_next (Runs from) (take n bytes) ≡ Runs u
     → after unpack_next (Runs from) (take (n + m) bytes) ≡ after unpack_next (Runs u) (take m (take (length bytes - n) (drop n bytes)))
-runs_more from u bytes n m first =
-    ap (after unpack_next (Runs from)) (take-add n m bytes)
-    ∙ after-append unpack_next (Runs from) (take n bytes) (take m (drop n bytes))
-    ∙ ap (λ r. after unpack_next r (take m (drop n bytes))) first
-    ∙ ap (λ (rest : List ℕ). after unpack_next (Runs u) (take m rest)) (sym (rest_is bytes n))
+runs_more from u bytes n m first = piece_more unpack_next (Runs from) bytes n m ∙ ap (λ r. after unpack_next r (take m (take (length bytes - n) (drop n bytes)))) first
 
 pub arrives_more : (from : Unpacking) (bytes : List ℕ) (n m : ℕ) (p q : Position) (t u : Taking) (event : Option Event)
     → Arrives from (take n bytes) None p t → Arrives (unpacking_of p t) (take m (take (length bytes - n) (drop n bytes))) event q u → Arrives from (take (n + m) bytes) event q u

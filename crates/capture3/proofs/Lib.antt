@@ -26,3 +26,4 @@ pub mod Overs
 pub mod SideRules
 pub mod FileRules
 pub mod Loosened
+pub mod Parsed

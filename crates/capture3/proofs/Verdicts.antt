@@ -117,7 +117,7 @@ fault_from_run file fault (Stopped shown) are e v =
 pub fault_from_verdict : (file : List ℕ) (fault : Fault) → AreBytes file → verdict file ≡ Err fault → FirstFault file fault
 fault_from_verdict file fault are = fault_from_run file fault (parsed file) are refl
 
-stays : (size : ℕ) (shown : Refusal) (rest : List ℕ) → verdict_of size (after file_next (Stops shown) rest) ≡ Err shown.fault
+pub stays : (size : ℕ) (shown : Refusal) (rest : List ℕ) → verdict_of size (after file_next (Stops shown) rest) ≡ Err shown.fault
 stays size shown [] = refl
 stays size shown (byte ∷ rest) = ap (verdict_of size) (after_stopped file_next shown rest)
 

@@ -1,36 +1,69 @@
-use Rattle.std.proofs.Common.{rules, ◌≡◌, ◌≢◌, ◌≤◌, ℕ, List, IfErr, IfOk, vec_len, ◌+◌, ◌-◌, ◌*◌, ◌<◌, length, ◌/◌, ◌%◌, Bool, true, false, nat_eq, nat_lt, [], ◌∷◌, ◌++◌, slice_index_or, slice_set, bit_and, bit_or, Fits, w8, w32, w64, Bor, MutBor}
+use Rattle.std.proofs.Common.{arith, ap, subst, sym, ◌≡◌, ◌∙◌, ◌++◌, ◌+◌, ◌-◌, List, ℕ, [], ◌∷◌, take, take_all, drop, length, length-take, length-drop, refl}
+use Rattle.record_mark.specs.Machine.{after}
 use Rattle.capture3.specs.declared.fault.Fault.{Fault}
-use Rattle.capture3.specs.Entry as spec
+use Rattle.capture3.specs.Entry.{End}
 use Rattle.capture3.specs.FirstFault.{FirstFault}
+use Rattle.capture3.specs.Judges.{entry_cost}
 use Rattle.capture3.specs.Kept.{AreKept}
-use Rattle.capture3.specs.Position.{most_entries}
-use Rattle.capture3.specs.Typed.{Typed}
+use Rattle.capture3.specs.Parsing.{file_next, parsed}
+use Rattle.capture3.proofs.Parsed.{cut_at, first_fault, kept_snoc, keeps_more, keeps_on, Keeps, never_reads, never_writes, refused_is, typed_at}
 use Rattle.capture3.proofs.whole.parse.Goals as goal
 
--- src/whole.rt:32:5
 pub loop-taken-preserved-in-Continue-1 : goal.loop-taken-preserved-in-Continue-1
-loop-taken-preserved-in-Continue-1 c = ?
+loop-taken-preserved-in-Continue-1 c =
+    let invariant = c.loop-taken.invariant in
+    let cost = ap entry_cost c.in-Ok-default-Some.field-0-1-is in
+    let left = length-drop c.loop-taken.taken c.args.bytes.now in
+    let piece = length-take (length c.args.bytes.now - c.loop-taken.taken) (drop c.loop-taken.taken c.args.bytes.now) in
+    record {
+      within = omega (arith, c.in-Ok-default-Some.ensures.within, piece, left, invariant.within);
+      sound = c.in-Ok-default-Some.ensures.sound;
+      running = c.in-Ok-default-Some.ensures.running;
+      room = omega (arith, invariant.room, c.in-Ok-default-Some.ensures.room, cost, c.in_ok-push-in-Ok-default-Some.ensures.len);
+      machine =
+        rw c.in_ok-push-in-Ok-default-Some.ensures.items
+        (keeps_more c.args.bytes.now c.loop-taken.taken c.in-Ok-default-Some.count _ _ _ c.loop-taken.entries.items invariant.machine.0 _ _ c.in-Ok-default-Some.field-0-1-is
+        (c.in-Ok-default-Some.ensures.machine (parsed (take c.loop-taken.taken c.args.bytes.now)) invariant.machine.0 invariant.machine.1) invariant.machine.2);
+    }
 
--- src/whole.rt:32:5
 pub loop-taken-preserved : goal.loop-taken-preserved
-loop-taken-preserved c = ?
+loop-taken-preserved c =
+    let invariant = c.loop-taken.invariant in
+    let cost = ap entry_cost c.in-Ok-default-None.field-0-1-is in
+    let left = length-drop c.loop-taken.taken c.args.bytes.now in
+    let piece = length-take (length c.args.bytes.now - c.loop-taken.taken) (drop c.loop-taken.taken c.args.bytes.now) in
+    record {
+      within = omega (arith, c.in-Ok-default-None.ensures.within, piece, left, invariant.within);
+      sound = c.in-Ok-default-None.ensures.sound;
+      running = c.in-Ok-default-None.ensures.running;
+      room = omega (arith, invariant.room, c.in-Ok-default-None.ensures.room, cost);
+      machine =
+        keeps_on c.args.bytes.now c.loop-taken.taken c.in-Ok-default-None.count _ _ _ c.loop-taken.entries.items invariant.machine.0 _ c.in-Ok-default-None.field-0-1-is
+        (c.in-Ok-default-None.ensures.machine (parsed (take c.loop-taken.taken c.args.bytes.now)) invariant.machine.0 invariant.machine.1) invariant.machine.2;
+    }
 
--- src/whole.rt:39:27
 pub returns-in-Err-clause-fault : goal.returns-in-Err-clause-fault
-returns-in-Err-clause-fault c = ?
+returns-in-Err-clause-fault c fault e =
+    first_fault c.args.bytes.now c.loop-taken.taken c.in-Err.error fault (λ i. omega (arith, c.type_inv.bytes i))
+    (c.in-Err.ensures.fault (parsed (take c.loop-taken.taken c.args.bytes.now)) c.loop-taken.invariant.machine.0 c.loop-taken.invariant.machine.1) e
 
--- src/whole.rt:39:27
 pub returns-in-Err-clause-read : goal.returns-in-Err-clause-read
-returns-in-Err-clause-read c = ?
+returns-in-Err-clause-read c = never_reads _ _ c.in-Err.error (c.in-Err.ensures.fault (parsed (take c.loop-taken.taken c.args.bytes.now)) c.loop-taken.invariant.machine.0 c.loop-taken.invariant.machine.1)
 
--- src/whole.rt:39:27
 pub returns-in-Err-clause-write : goal.returns-in-Err-clause-write
-returns-in-Err-clause-write c = ?
+returns-in-Err-clause-write c = never_writes _ _ c.in-Err.error (c.in-Err.ensures.fault (parsed (take c.loop-taken.taken c.args.bytes.now)) c.loop-taken.invariant.machine.0 c.loop-taken.invariant.machine.1)
 
--- src/whole.rt:28:1
 pub returns-in-Ok-clause-entries : goal.returns-in-Ok-clause-entries
-returns-in-Ok-clause-entries c = ?
+returns-in-Ok-clause-entries c =
+    let invariant = c.loop-taken.invariant in
+    let all : take c.loop-taken.taken c.args.bytes.now ≡ c.args.bytes.now = take_all c.loop-taken.taken c.args.bytes.now (omega (arith, c.loop-taken-test.false)) in
+    (invariant.machine.0 ++ End ∷ [],
+    typed_at c.args.bytes.now _ _ _ (parsed (take c.loop-taken.taken c.args.bytes.now)) invariant.machine.0 (λ i. omega (arith, c.type_inv.bytes i)) invariant.machine.1 (ap parsed all) c.in-Ok.ensures.ok,
+    rw c.in_ok-push-in-Ok.ensures.items (kept_snoc c.loop-taken.entries.items invariant.machine.0 _ End invariant.machine.2 refl))
 
--- src/whole.rt:22:1
 pub returns-clause-fault : goal.returns-clause-fault
-returns-clause-fault c = ?
+returns-clause-fault c fault e =
+    let invariant = c.loop-taken.invariant in
+    let all : take c.loop-taken.taken c.args.bytes.now ≡ c.args.bytes.now = take_all c.loop-taken.taken c.args.bytes.now (omega (arith, c.loop-taken-test.false)) in
+    let met = cut_at c.args.bytes.now _ _ _ (parsed (take c.loop-taken.taken c.args.bytes.now)) invariant.machine.0 (λ i. omega (arith, c.type_inv.bytes i)) invariant.machine.1 (ap parsed all) c.in-Err-end.ensures.err.0 in
+    subst (λ (f : Fault). FirstFault c.args.bytes.now f) (refused_is _ fault (sym c.in-Err-end.ensures.err.1 ∙ e)) met

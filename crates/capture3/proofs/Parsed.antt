@@ -1,0 +1,138 @@
+-- A whole file: from where its machine stands to what is to be said of it.
+use Rattle.std.proofs.Common.{◌≡◌, ◌≢◌, ℕ, zero, suc, ◌+◌, ◌-◌, ◌≤◌, Option, Some, None, take-append-drop, List, [], ◌∷◌, ◌++◌, length, take, drop, refl, sym, ap, ◌∙◌, subst, Ok, Err}
+use Rattle.xdr3.specs.declared.reason.Reason.TheVariants.{CaptureCut}
+use Rattle.xdr3.specs.Item.{AreBytes}
+use Rattle.record_mark.specs.Joining.{Joining}
+use Rattle.record_mark.specs.Machine.{Run, Runs, Stops, after}
+use Rattle.record_mark.specs.Taking.{Taking}
+use Rattle.record_mark.proofs.Machines.{after-append}
+use Rattle.capture3.specs.declared.calls.NumberedCall.{NumberedCall}
+use Rattle.capture3.specs.declared.entry.Entry as kept
+use Rattle.capture3.specs.declared.fault.Error.{Error}
+use Rattle.capture3.specs.declared.fault.Error.TheVariants as errors
+use Rattle.capture3.specs.declared.fault.Fault.{Fault}
+use Rattle.capture3.specs.declared.fault.Side.{Side}
+use Rattle.capture3.specs.declared.fault.Side.TheVariants.{Client, Server}
+use Rattle.capture3.specs.declared.position.Position.{Position}
+use Rattle.capture3.specs.declared.position.Spot.{Spot}
+use Rattle.capture3.specs.declared.position.Spot.TheVariants as spots
+use Rattle.capture3.specs.Connections.{Refusal}
+use Rattle.capture3.specs.Container.{unpacking_of}
+use Rattle.capture3.specs.Entry.{Entry, End}
+use Rattle.capture3.specs.FirstFault.{FirstFault}
+use Rattle.capture3.specs.Judges.{StandsAt, GoesTo, FailsAt}
+use Rattle.capture3.specs.Kept.{IsKept, AreKept}
+use Rattle.capture3.specs.Parsing.{Parsing, file_next, file_start, parsed, concluded, verdict_of, verdict}
+use Rattle.capture3.specs.Position.{opened_at}
+use Rattle.capture3.specs.Resumed.{Judged, resumed_at, parsing_at, emitted_at}
+use Rattle.capture3.specs.Sides.{file_fault}
+use Rattle.capture3.specs.Typed.{Typed}
+use Rattle.capture3.specs.declared.position.TheConstants.{MAGIC}
+use Rattle.capture3.proofs.Containers.{piece_more}
+use Rattle.capture3.specs.Unpacking.{left_of_magic, Unpacking, Opened, Magic, Mark, Length, Chunk, Ended}
+use Rattle.capture3.proofs.Verdicts.{typed_from_verdict, fault_from_verdict, stays}
+
+pub kept_snoc : (items : List kept.Entry) (model : List Entry) (one : kept.Entry) (entry : Entry) → AreKept items model → IsKept one entry → AreKept (items ++ one ∷ []) (model ++ entry ∷ [])
+kept_snoc [] model one entry are is = (entry, [], ap (λ m. m ++ entry ∷ []) are, is, refl)
+kept_snoc (item ∷ items) model one entry are is = (are.0, are.1 ++ entry ∷ [], ap (λ m. m ++ entry ∷ []) are.2, are.3, kept_snoc items are.1 one entry are.4 is)
+
+-- ---- the end
+
+-- where it has ended, the entries that are whole are all but the end
+ended_concludes : (size at total connections : ℕ) (joining : Joining) (o : Opened) (j : Judged) → o ≡ Ended
+    → concluded size (resumed_at at total connections joining o j).entries (resumed_at at total connections joining o j).spot ≡ Ok (emitted_at o j ++ End ∷ [])
+ended_concludes size at total connections joining Ended j is = refl
+ended_concludes size at total connections joining (Magic due) j is = absurd (cc)
+ended_concludes size at total connections joining (Mark part) j is = absurd (cc)
+ended_concludes size at total connections joining (Length side part) j is = absurd (cc)
+ended_concludes size at total connections joining (Chunk side left) j is = absurd (cc)
+
+cut_concludes : (size at total connections : ℕ) (joining : Joining) (o : Opened) (j : Judged) → (o ≡ Ended → ⊥)
+    → concluded size (resumed_at at total connections joining o j).entries (resumed_at at total connections joining o j).spot ≡ Err (file_fault size CaptureCut)
+cut_concludes size at total connections joining Ended j not = absurd (not refl)
+cut_concludes size at total connections joining (Magic []) j not = refl
+cut_concludes size at total connections joining (Magic (due ∷ [])) j not = refl
+cut_concludes size at total connections joining (Magic (due ∷ next ∷ more)) j not = refl
+cut_concludes size at total connections joining (Mark part) j not = refl
+cut_concludes size at total connections joining (Length Client part) j not = refl
+cut_concludes size at total connections joining (Length Server part) j not = refl
+cut_concludes size at total connections joining (Chunk Client left) j not = refl
+cut_concludes size at total connections joining (Chunk Server left) j not = refl
+
+-- the open part is the end only at the end
+ended_only : (spot : Spot) (at : ℕ) → opened_at spot at ≡ Ended → spot ≡ spots.Ended
+ended_only spots.Ended at e = refl
+ended_only spots.Magic at e = by_left (drop at MAGIC) e
+  where
+    by_left : (due : List ℕ) → left_of_magic due ≡ Ended → spots.Magic ≡ spots.Ended
+    by_left [] same = absurd (cc)
+    by_left (byte ∷ due) same = absurd (cc)
+ended_only (spots.Mark part) at e = absurd (cc)
+ended_only (spots.Length side part) at e = absurd (cc)
+ended_only (spots.Chunk side zero) at e = absurd (cc)
+ended_only (spots.Chunk side (suc left)) at e = absurd (cc)
+
+-- ---- the verdict
+
+pub typed_at : (bytes : List ℕ) (p : Position) (t : Taking) (table : List NumberedCall) (run : Run Parsing Refusal) (model : List Entry)
+    → AreBytes bytes → StandsAt p t table run model → run ≡ parsed bytes → p.spot ≡ spots.Ended → Typed bytes (model ++ End ∷ [])
+typed_at bytes p t table run model are s is ended =
+    typed_from_verdict bytes (model ++ End ∷ []) are
+    (ap (verdict_of (length bytes)) (sym is ∙ s.stands)
+    ∙ ended_concludes (length bytes) p.at p.total p.connections (unpacking_of p t).joining (opened_at p.spot p.at) s.so_far (ap (λ (spot : Spot). opened_at spot p.at) ended)
+    ∙ ap (λ (m : List Entry). Ok (m ++ End ∷ [])) (sym s.emitted))
+
+pub cut_at : (bytes : List ℕ) (p : Position) (t : Taking) (table : List NumberedCall) (run : Run Parsing Refusal) (model : List Entry)
+    → AreBytes bytes → StandsAt p t table run model → run ≡ parsed bytes → (p.spot ≡ spots.Ended → ⊥) → FirstFault bytes (file_fault (length bytes) CaptureCut)
+cut_at bytes p t table run model are s is not =
+    fault_from_verdict bytes (file_fault (length bytes) CaptureCut) are
+    (ap (verdict_of (length bytes)) (sym is ∙ s.stands)
+    ∙ cut_concludes (length bytes) p.at p.total p.connections (unpacking_of p t).joining (opened_at p.spot p.at) s.so_far (λ e. not (ended_only p.spot p.at e)))
+
+-- a fault along the bytes at hand is the file's first
+pub first_fault : (bytes : List ℕ) (n : ℕ) (error : Error) (fault : Fault) → AreBytes bytes → FailsAt (parsed (take n bytes)) (take (length bytes - n) (drop n bytes)) error → error ≡ errors.Refused fault → FirstFault bytes fault
+first_fault bytes n (errors.Refused met) fault are (m, fits, (shown, stops, is)) e =
+    fault_from_verdict bytes fault are
+    (ap (λ (b : List ℕ). verdict_of (length bytes) (parsed b)) (sym (take-append-drop (n + m) bytes))
+    ∙ ap (verdict_of (length bytes)) (after-append file_next (Runs file_start) (take (n + m) bytes) (drop (n + m) bytes) ∙ ap (λ r. after file_next r (drop (n + m) bytes)) (piece_more file_next (Runs file_start) bytes n m ∙ stops))
+    ∙ stays (length bytes) shown (drop (n + m) bytes)
+    ∙ cc)
+first_fault bytes n errors.Read fault are f e = absurd (cc)
+first_fault bytes n errors.Write fault are f e = absurd (cc)
+first_fault bytes n errors.Memory fault are f e = absurd (cc)
+
+pub refused_is : (fault other : Fault) → errors.Refused fault ≡ errors.Refused other → fault ≡ other
+refused_is fault other e = cc
+
+pub never_reads : (run : Run Parsing Refusal) (rest : List ℕ) (error : Error) → FailsAt run rest error → error ≢ errors.Read
+never_reads run rest (errors.Refused met) f = λ e. cc
+never_reads run rest errors.Read f = absurd f
+never_reads run rest errors.Write f = absurd f
+never_reads run rest errors.Memory f = λ e. cc
+
+pub never_writes : (run : Run Parsing Refusal) (rest : List ℕ) (error : Error) → FailsAt run rest error → error ≢ errors.Write
+never_writes run rest (errors.Refused met) f = λ e. cc
+never_writes run rest errors.Read f = absurd f
+never_writes run rest errors.Write f = absurd f
+never_writes run rest errors.Memory f = λ e. cc
+
+-- ---- along the bytes
+
+pub stands_more : (bytes : List ℕ) (n m : ℕ) (p : Position) (t : Taking) (table : List NumberedCall) (model : List Entry)
+    → StandsAt p t table (after file_next (parsed (take n bytes)) (take m (take (length bytes - n) (drop n bytes)))) model → StandsAt p t table (parsed (take (n + m) bytes)) model
+stands_more bytes n m p t table model s = subst (λ (r : Run Parsing Refusal). StandsAt p t table r model) (sym (piece_more file_next (Runs file_start) bytes n m)) s
+
+abbrev pub Keeps : Position → Taking → List NumberedCall → List ℕ → List kept.Entry → Type 0
+Keeps p t table bytes items = (model : List Entry) × StandsAt p t table (parsed bytes) model × AreKept items model
+
+pub keeps_on : (bytes : List ℕ) (n m : ℕ) (p : Position) (t : Taking) (table : List NumberedCall) (items : List kept.Entry) (model : List Entry) (came : Option kept.Entry) → came ≡ None
+    → GoesTo came p t table (after file_next (parsed (take n bytes)) (take m (take (length bytes - n) (drop n bytes)))) model → AreKept items model → Keeps p t table (take (n + m) bytes) items
+keeps_on bytes n m p t table items model None e goes are = (model, stands_more bytes n m p t table model goes, are)
+keeps_on bytes n m p t table items model (Some one) e goes are = absurd (cc)
+
+pub keeps_more : (bytes : List ℕ) (n m : ℕ) (p : Position) (t : Taking) (table : List NumberedCall) (items : List kept.Entry) (model : List Entry) (came : Option kept.Entry) (one : kept.Entry) → came ≡ Some one
+    → GoesTo came p t table (after file_next (parsed (take n bytes)) (take m (take (length bytes - n) (drop n bytes)))) model → AreKept items model → Keeps p t table (take (n + m) bytes) (items ++ one ∷ [])
+keeps_more bytes n m p t table items model None one e goes are = absurd (cc)
+keeps_more bytes n m p t table items model (Some new) one e goes are =
+    let same : new ≡ one = cc in
+    (model ++ goes.0 ∷ [], stands_more bytes n m p t table (model ++ goes.0 ∷ []) goes.2, kept_snoc items model one goes.0 are (subst (λ (x : kept.Entry). IsKept x goes.0) same goes.1))
