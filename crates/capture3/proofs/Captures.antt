@@ -1,7 +1,6 @@
 -- A capture whose records are judged as they come: step after step.
-use Rattle.std.proofs.Common.{lit<, ◌≡◌, ◌≢◌, ℕ, suc, ◌+◌, ◌≤◌, Bool, true, false, cond, nat_eq, is_some, Option, Some, None, Ok, Err, List, [], ◌∷◌, ◌++◌, length, map, take, drop, refl, sym, ap, ◌∙◌, subst, arith, length-append, add-one}
+use Rattle.std.proofs.Common.{lit<, ◌≡◌, ℕ, ◌≤◌, Bool, true, false, cond, nat_eq, is_some, Option, Some, None, List, [], ◌∷◌, ◌++◌, length, take, refl, sym, ap, ◌∙◌, subst}
 use Rattle.std.proofs.lemmas.Bool.{eqb-true}
-use Rattle.xdr3.specs.declared.reason.Stop.{Stop}
 use Rattle.xdr3.specs.Item.{Item}
 use Rattle.record_mark.specs.Joining.{Between}
 use Rattle.record_mark.specs.Machine.{Ends, Run, Runs, Stops, after, landed}
@@ -9,7 +8,6 @@ use Rattle.record_mark.specs.Taking.{Taking, body_of, unbegun}
 use Rattle.rpc_head.specs.declared.call.ProcId.{ProcId}
 use Rattle.rpc_head.specs.Messages.{procedure_in}
 use Rattle.capture3.specs.declared.calls.NumberedCall.{NumberedCall}
-use Rattle.capture3.specs.declared.entry.Entry as kept
 use Rattle.capture3.specs.declared.entry.Entry.TheVariants as variants
 use Rattle.capture3.specs.declared.entry.KeptCall.{KeptCall}
 use Rattle.capture3.specs.declared.entry.KeptReply.{KeptReply}
@@ -38,7 +36,7 @@ use Rattle.capture3.specs.Records.{fault_at}
 use Rattle.capture3.specs.Resumed.{Judged, parsing_at, resumed, call_judged, reply_judged, emitted_at, begun, turned, closed}
 use Rattle.capture3.specs.Resumed as resuming
 use Rattle.capture3.specs.Sides.{place_at}
-use Rattle.capture3.specs.Unpacking.{Unpacking, Has, Refuses, unpack_next, unpacking_start}
+use Rattle.capture3.specs.Unpacking.{Unpacking, Refuses, unpack_next, unpacking_start}
 use Rattle.capture3.proofs.Resumptions.{runs_follow, stops_follow}
 use Rattle.capture3.proofs.Emissions.{runs_emit, stops_emit}
 
@@ -169,14 +167,17 @@ ends_fails run bytes n errors.Memory within ends = tt
 -- ---- what is whole
 
 pub begin_goes : (p : Position) (t : Taking) (table none : List NumberedCall) (run : Run Parsing Refusal) (all : List Entry) → none ≡ [] → HasMet p t table Begin run all → GoesTo (Some variants.Begin) p t none run all
-begin_goes p t table none run all empty m =
-    (entries.Begin, refl, record {
-      so_far = begun (unpacking_of p t) m.so_far;
-      agrees = m.agrees;
-      calls = λ q. ap (λ (l : List NumberedCall). found l q) empty;
-      stands = m.stands;
-      emitted = sym m.emits;
-    })
+begin_goes p t table none run all empty m = (
+  entries.Begin,
+  refl,
+  record {
+    so_far = begun (unpacking_of p t) m.so_far;
+    agrees = m.agrees;
+    calls = λ q. ap (λ (l : List NumberedCall). found l q) empty;
+    stands = m.stands;
+    emitted = sym m.emits;
+  },
+)
 
 pub turn_goes : (p : Position) (t : Taking) (table : List NumberedCall) (run : Run Parsing Refusal) (all : List Entry) → HasMet p t table Turn run all → GoesTo (Some variants.Turn) p t table run all
 turn_goes p t table run all m =
@@ -191,14 +192,17 @@ pub call_goes : (p : Position) (t u : Taking) (table new : List NumberedCall) (r
 call_goes p t u table new run all call free m k =
     let v : Unpacking = unpacking_at p Between in
     let at : unpacking_of p u ≡ v = ap (unpacking_of p) free in
-    let j : Judged = resuming.with_call m.so_far k.items in
-    (entries.Call k.items, (k.items, subst (λ (b : List ℕ). bodies.IsCall b k.items) (sym k.body_is) k.is_call, k.id_is, refl), record {
-      so_far = j;
-      agrees = subst (λ (w : Unpacking). resuming.Agrees w j) (sym at) (m.agrees.0 k.items);
-      calls = k.added;
-      stands = m.stands ∙ ap (λ r. landed (call_judged v m.so_far r)) k.judged ∙ ap (λ (w : Unpacking). Runs (parsing_at w j)) (sym at);
-      emitted = sym (m.emits k.items) ∙ ap (λ (w : Unpacking). emitted_at w.opened j) (sym at);
-    })
+    let j : Judged = resuming.with_call m.so_far k.items in (
+      entries.Call k.items,
+      (k.items, subst (λ (b : List ℕ). bodies.IsCall b k.items) (sym k.body_is) k.is_call, k.id_is, refl),
+      record {
+        so_far = j;
+        agrees = subst (λ (w : Unpacking). resuming.Agrees w j) (sym at) (m.agrees.0 k.items);
+        calls = k.added;
+        stands = m.stands ∙ ap (λ r. landed (call_judged v m.so_far r)) k.judged ∙ ap (λ (w : Unpacking). Runs (parsing_at w j)) (sym at);
+        emitted = sym (m.emits k.items) ∙ ap (λ (w : Unpacking). emitted_at w.opened j) (sym at);
+      },
+    )
 
 pub reply_goes : (p : Position) (t u : Taking) (table : List NumberedCall) (run : Run Parsing Refusal) (all : List Entry) (reply : KeptReply) → u ≡ unbegun
     → (m : HasMet p t table (Record Server) run all) → KeepsReply m.so_far.calls (body_of t) reply → GoesTo (Some (variants.Reply reply)) p u table run all
@@ -206,16 +210,17 @@ reply_goes p t u table run all reply free m k =
     let v : Unpacking = unpacking_at p Between in
     let at : unpacking_of p u ≡ v = ap (unpacking_of p) free in
     let j : Judged = resuming.with_reply m.so_far k.answer in
-    let same : k.answer ≡ record { id = reply.id; items = k.answer.items } = ap (λ (i : ProcId). record { id = i; items = k.answer.items }) (sym k.id_is) in
-    (entries.Reply k.answer.id k.answer.items,
-    (k.answer.items, subst (λ (b : List ℕ). bodies.IsReply b (record { id = reply.id; items = k.answer.items })) (sym k.body_is) (subst (λ a. bodies.IsReply (body_of t) a) same k.is_reply), ap (λ (i : ProcId). entries.Reply i k.answer.items) (sym k.id_is)),
-    record {
-      so_far = j;
-      agrees = subst (λ (w : Unpacking). resuming.Agrees w j) (sym at) (m.agrees.0 k.answer);
-      calls = m.calls;
-      stands = m.stands ∙ ap (λ r. landed (reply_judged v m.so_far r)) k.judged ∙ ap (λ (w : Unpacking). Runs (parsing_at w j)) (sym at);
-      emitted = sym (m.emits k.answer) ∙ ap (λ (w : Unpacking). emitted_at w.opened j) (sym at);
-    })
+    let same : k.answer ≡ record { id = reply.id; items = k.answer.items } = ap (λ (i : ProcId). record { id = i; items = k.answer.items }) (sym k.id_is) in (
+      entries.Reply k.answer.id k.answer.items,
+      (k.answer.items, subst (λ (b : List ℕ). bodies.IsReply b (record { id = reply.id; items = k.answer.items })) (sym k.body_is) (subst (λ a. bodies.IsReply (body_of t) a) same k.is_reply), ap (λ (i : ProcId). entries.Reply i k.answer.items) (sym k.id_is)),
+      record {
+        so_far = j;
+        agrees = subst (λ (w : Unpacking). resuming.Agrees w j) (sym at) (m.agrees.0 k.answer);
+        calls = m.calls;
+        stands = m.stands ∙ ap (λ r. landed (reply_judged v m.so_far r)) k.judged ∙ ap (λ (w : Unpacking). Runs (parsing_at w j)) (sym at);
+        emitted = sym (m.emits k.answer) ∙ ap (λ (w : Unpacking). emitted_at w.opened j) (sym at);
+      },
+    )
 
 -- the same with the side and the place as the code has them
 pub call_goes_at : (p q : Position) (t u : Taking) (table new : List NumberedCall) (run : Run Parsing Refusal) (all : List Entry) (call : KeptCall) {side : Side} → side ≡ Client → q ≡ p → u ≡ unbegun
@@ -233,20 +238,22 @@ reply_goes_at p q t u table new run all reply {side} is same kept free m k =
 
 pub call_refused : (p : Position) (t : Taking) (table : List NumberedCall) (run : Run Parsing Refusal) (all : List Entry) (error : Error)
     → (m : HasMet p t table (Record Client) run all) → RefusesBody p Client (judge_call m.so_far.calls (body_of t)) error → EndsWith run error
-call_refused p t table run all (errors.Refused fault) m (stop, judged, is) =
-    (refusal (place_at p.connections Client (fault_at m.so_far.calls stop.at stop.reason)),
-    m.stands ∙ ap (λ r. landed (call_judged (unpacking_at p Between) m.so_far r)) judged,
-    ap (λ (n : ℕ). record { place = places.Record p.connections Client n stop.at; reason = stop.reason }) (sym m.agrees.1) ∙ sym is)
+call_refused p t table run all (errors.Refused fault) m (stop, judged, is) = (
+  refusal (place_at p.connections Client (fault_at m.so_far.calls stop.at stop.reason)),
+  m.stands ∙ ap (λ r. landed (call_judged (unpacking_at p Between) m.so_far r)) judged,
+  ap (λ (n : ℕ). record { place = places.Record p.connections Client n stop.at; reason = stop.reason }) (sym m.agrees.1) ∙ sym is,
+)
 call_refused p t table run all errors.Read m h = h
 call_refused p t table run all errors.Write m h = h
 call_refused p t table run all errors.Memory m h = tt
 
 pub reply_refused : (p : Position) (t : Taking) (table : List NumberedCall) (run : Run Parsing Refusal) (all : List Entry) (error : Error)
     → (m : HasMet p t table (Record Server) run all) → RefusesBody p Server (judge_reply m.so_far.calls (body_of t)) error → EndsWith run error
-reply_refused p t table run all (errors.Refused fault) m (stop, judged, is) =
-    (refusal (place_at p.connections Server (fault_at m.so_far.replies stop.at stop.reason)),
-    m.stands ∙ ap (λ r. landed (reply_judged (unpacking_at p Between) m.so_far r)) judged,
-    ap (λ (n : ℕ). record { place = places.Record p.connections Server n stop.at; reason = stop.reason }) (sym m.agrees.1) ∙ sym is)
+reply_refused p t table run all (errors.Refused fault) m (stop, judged, is) = (
+  refusal (place_at p.connections Server (fault_at m.so_far.replies stop.at stop.reason)),
+  m.stands ∙ ap (λ r. landed (reply_judged (unpacking_at p Between) m.so_far r)) judged,
+  ap (λ (n : ℕ). record { place = places.Record p.connections Server n stop.at; reason = stop.reason }) (sym m.agrees.1) ∙ sym is,
+)
 reply_refused p t table run all errors.Read m h = h
 reply_refused p t table run all errors.Write m h = h
 reply_refused p t table run all errors.Memory m h = tt

@@ -1,5 +1,5 @@
 -- Containers, as the machine has them: chunks' bytes at once, and step after step.
-use Rattle.std.proofs.Common.{◌≡◌, Bool, false, is_some, take_all, ℕ, ◌+◌, ◌-◌, ◌≤◌, Option, Some, None, Result, Ok, Err, IfOk, IfErr, List, [], ◌++◌, length, take, drop, refl, sym, ap, ◌∙◌, arith, length-append, length-take, length-drop}
+use Rattle.std.proofs.Common.{◌≡◌, false, is_some, take_all, ℕ, ◌+◌, ◌-◌, ◌≤◌, Option, Some, None, Result, Ok, Err, IfOk, IfErr, List, length, take, drop, refl, sym, ap, ◌∙◌, arith, length-take, length-drop}
 use Rattle.std.proofs.Math.Seq.{take-add, take-take}
 use Rattle.xdr3.specs.declared.reason.Reason.TheVariants.{RecordTooLong}
 use Rattle.record_mark.specs.Joining.{Joining, Between, Whole, TooLong, join_next}
@@ -15,9 +15,9 @@ use Rattle.capture3.specs.declared.position.Event.TheVariants.{Begin, Record, Tu
 use Rattle.capture3.specs.declared.position.Position.{Position}
 use Rattle.capture3.specs.declared.position.Spot.TheVariants.{Chunk}
 use Rattle.capture3.specs.declared.position.Taken.{Taken}
-use Rattle.capture3.specs.Unpacking.{Unpacking, Unpacked, Has, in_chunk, in_record, joined, unpack_next}
+use Rattle.capture3.specs.Unpacking.{Unpacking, Has, in_chunk, in_record, joined, unpack_next}
 use Rattle.capture3.specs.Position.{unpacking_at, IsOfContainer, Moves, ShowsFault}
-use Rattle.capture3.specs.Container.{unpacking_of, arrived, Arrives, Fails, Leaves}
+use Rattle.capture3.specs.Container.{unpacking_of, Arrives, Fails, Leaves}
 use Rattle.capture3.proofs.Positions.{at_spot}
 
 -- ---- one step of the container alone

@@ -14,7 +14,7 @@ use Rattle.capture3.specs.Entry.{Entry}
 use Rattle.capture3.specs.Entry as entries
 use Rattle.capture3.specs.Typed.{reply_entry}
 use Rattle.capture3.specs.Resumed.{Judged, client_entries, server_entries, emitted_at, EmitsOn}
-use Rattle.capture3.specs.Unpacking.{Opened, Magic, Mark, Length, Chunk, Ended, Unpacking, Unpacked, Has, at_byte, before_stream, marked, counted, joined, in_chunk, left_of_magic, unpack_next}
+use Rattle.capture3.specs.Unpacking.{Opened, Magic, Mark, Length, Chunk, Ended, Unpacking, Unpacked, Has, at_byte, before_stream, marked, counted, joined, in_chunk, unpack_next}
 use Rattle.capture3.proofs.Resumptions.{at_unpacking}
 
 map_one_more : {X Y : Type 0} (f : X → Y) (xs : List X) (x : X) → map f (xs ++ x ∷ []) ≡ map f xs ++ f x ∷ []

@@ -1,5 +1,5 @@
 -- Judging a body as the code does: its first two words, its side, its head, what stands behind the head, its end.
-use Rattle.std.proofs.Common.{◌≡◌, ◌≢◌, ℕ, Bool, true, false, not, cond, List, [], ◌∷◌, ◌++◌, length, Option, Some, None, Result, Ok, Err, refl, sym, ap, ◌∙◌, append_assoc, append-nil, eq-eqb, nat_eq}
+use Rattle.std.proofs.Common.{◌≡◌, ◌≢◌, ℕ, Bool, true, false, not, cond, List, ◌++◌, length, Some, None, Result, Ok, Err, refl, sym, ap, ◌∙◌, append_assoc, eq-eqb}
 use Rattle.std.proofs.lemmas.Bool.{ne_eqb}
 use Rattle.xdr3.specs.declared.reason.Reason.TheVariants.{Trailing, WrongSide, NoCall, XidConflict}
 use Rattle.xdr3.specs.declared.reason.Stop.{Stop}
@@ -20,8 +20,8 @@ use Rattle.rpc_head.specs.Shapes.{call_head, message_start, reply_head}
 use Rattle.rpc_head.specs.Starts.{start_items}
 use Rattle.rpc_head.proofs.Messages.{call_read, call_head_refused, reply_read, reply_head_refused, results_behind}
 use Rattle.procs3.specs.Table.{arguments_of, results_of}
-use Rattle.capture3.specs.Bodies.{ReplyItems, procedure_of, xid_in}
-use Rattle.capture3.specs.Judging.{judge_call, judge_reply, read_whole, ended, agreed, agrees, is_same, answering}
+use Rattle.capture3.specs.Bodies.{procedure_of, xid_in}
+use Rattle.capture3.specs.Judging.{judge_call, judge_reply, read_whole, ended, agreed, agrees, answering}
 use Rattle.xdr3.specs.declared.reason.GetError.{GetError}
 use Rattle.xdr3.specs.declared.reason.GetError.TheVariants as errors
 use Rattle.std.specs.Result.{IsErrAnd}

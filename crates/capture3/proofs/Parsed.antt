@@ -1,9 +1,9 @@
 -- A whole file: from where its machine stands to what is to be said of it.
-use Rattle.std.proofs.Common.{◌≡◌, ◌≢◌, ℕ, zero, suc, ◌+◌, ◌-◌, ◌≤◌, Option, Some, None, take-append-drop, List, [], ◌∷◌, ◌++◌, length, take, drop, refl, sym, ap, ◌∙◌, subst, Ok, Err}
+use Rattle.std.proofs.Common.{◌≡◌, ◌≢◌, ℕ, zero, suc, ◌+◌, ◌-◌, Option, Some, None, take-append-drop, List, [], ◌∷◌, ◌++◌, length, take, drop, refl, sym, ap, ◌∙◌, subst, Ok, Err}
 use Rattle.xdr3.specs.declared.reason.Reason.TheVariants.{CaptureCut}
 use Rattle.xdr3.specs.Item.{AreBytes}
 use Rattle.record_mark.specs.Joining.{Joining}
-use Rattle.record_mark.specs.Machine.{Run, Runs, Stops, after}
+use Rattle.record_mark.specs.Machine.{Run, Runs, after}
 use Rattle.record_mark.specs.Taking.{Taking}
 use Rattle.record_mark.proofs.Machines.{after-append}
 use Rattle.capture3.specs.declared.calls.NumberedCall.{NumberedCall}
@@ -11,7 +11,6 @@ use Rattle.capture3.specs.declared.entry.Entry as kept
 use Rattle.capture3.specs.declared.fault.Error.{Error}
 use Rattle.capture3.specs.declared.fault.Error.TheVariants as errors
 use Rattle.capture3.specs.declared.fault.Fault.{Fault}
-use Rattle.capture3.specs.declared.fault.Side.{Side}
 use Rattle.capture3.specs.declared.fault.Side.TheVariants.{Client, Server}
 use Rattle.capture3.specs.declared.position.Position.{Position}
 use Rattle.capture3.specs.declared.position.Spot.{Spot}
@@ -22,14 +21,14 @@ use Rattle.capture3.specs.Entry.{Entry, End}
 use Rattle.capture3.specs.FirstFault.{FirstFault}
 use Rattle.capture3.specs.Judges.{StandsAt, GoesTo, FailsAt}
 use Rattle.capture3.specs.Kept.{IsKept, AreKept}
-use Rattle.capture3.specs.Parsing.{Parsing, file_next, file_start, parsed, concluded, verdict_of, verdict}
+use Rattle.capture3.specs.Parsing.{Parsing, file_next, file_start, parsed, concluded, verdict_of}
 use Rattle.capture3.specs.Position.{opened_at}
-use Rattle.capture3.specs.Resumed.{Judged, resumed_at, parsing_at, emitted_at}
+use Rattle.capture3.specs.Resumed.{Judged, resumed_at, emitted_at}
 use Rattle.capture3.specs.Sides.{file_fault}
 use Rattle.capture3.specs.Typed.{Typed}
 use Rattle.capture3.specs.declared.position.TheConstants.{MAGIC}
 use Rattle.capture3.proofs.Containers.{piece_more}
-use Rattle.capture3.specs.Unpacking.{left_of_magic, Unpacking, Opened, Magic, Mark, Length, Chunk, Ended}
+use Rattle.capture3.specs.Unpacking.{left_of_magic, Opened, Magic, Mark, Length, Chunk, Ended}
 use Rattle.capture3.proofs.Verdicts.{typed_from_verdict, fault_from_verdict, stays}
 
 pub kept_snoc : (items : List kept.Entry) (model : List Entry) (one : kept.Entry) (entry : Entry) → AreKept items model → IsKept one entry → AreKept (items ++ one ∷ []) (model ++ entry ∷ [])

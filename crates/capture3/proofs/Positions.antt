@@ -2,7 +2,7 @@
 use Rattle.std.proofs.Math.Seq.{drop-cons, take-suc}
 use Rattle.std.proofs.lemmas.Bool.{ne_eqb}
 use Rattle.record_mark.proofs.Machines.{after-append}
-use Rattle.std.proofs.Common.{◌≢◌, drop, get_or, add-one, eq-eqb, Result, Ok, Err, IfOk, ◌≡◌, ℕ, zero, suc, ◌+◌, ◌<◌, ◌≤◌, List, [], ◌∷◌, ◌++◌, length, take, refl, sym, ap, subst, ◌∙◌, arith, length-append, length-take, cond, nat_lt, lt-ltb, le-ltb}
+use Rattle.std.proofs.Common.{◌≢◌, drop, get_or, add-one, eq-eqb, Result, Ok, Err, IfOk, ◌≡◌, ℕ, zero, suc, ◌+◌, ◌<◌, ◌≤◌, List, [], ◌∷◌, length, take, refl, ap, ◌∙◌, arith, length-take, cond, lt-ltb, le-ltb}
 use Rattle.xdr3.specs.declared.reason.Reason.TheVariants.{BadMagic, BadMark, TooManyBytes, TooManyConnections}
 use Rattle.record_mark.specs.Machine.{Next, Goes, Ends, Runs, after, landed}
 use Rattle.record_mark.specs.Joining.{Joining}
@@ -20,7 +20,7 @@ use Rattle.capture3.specs.declared.fault.Place.TheVariants.{File}
 use Rattle.capture3.specs.declared.position.TheConstants.{MAGIC}
 use Rattle.capture3.specs.declared.word_part.WordPart.{WordPart}
 use Rattle.capture3.specs.declared.word_part.Word.TheVariants.{Part, Whole}
-use Rattle.capture3.specs.Unpacking.{Unpacking, Unpacked, Has, Refuses, at_byte, before_stream, counted, in_chunk, left_of_magic, marked, unpack_next}
+use Rattle.capture3.specs.Unpacking.{Unpacking, Unpacked, Has, at_byte, before_stream, counted, in_chunk, left_of_magic, marked, unpack_next}
 use Rattle.capture3.specs.Position.{bytes_so_far, unpacking_at, Lands, Moves, ShowsFault, TakesWord}
 use Rattle.capture3.proofs.Unpackings.{mark_goes_on, mark_ends, length_goes_on, length_ends}
 

@@ -1,15 +1,15 @@
 -- The machine for a capture file goes as the one that takes the capture apart, with its records judged.
-use Rattle.std.proofs.Common.{lit<, ◌≡◌, ℕ, zero, suc, ◌+◌, ◌<◌, Bool, true, false, cond, nat_eq, nat_lt, List, [], ◌∷◌, ◌++◌, length, drop, Result, Ok, Err, refl, sym, ap, subst, ◌∙◌, add-one, arith, length-append, eq-eqb, ltb-true}
+use Rattle.std.proofs.Common.{lit<, ◌≡◌, ℕ, zero, suc, ◌+◌, ◌<◌, Bool, true, false, cond, nat_eq, nat_lt, List, [], ◌∷◌, ◌++◌, length, drop, Result, Ok, Err, refl, sym, ap, subst, ◌∙◌, add-one, arith, length-append}
 use Rattle.xdr3.specs.declared.reason.Stop.{Stop}
 use Rattle.xdr3.specs.declared.reason.Reason.TheVariants.{BadMagic, TooManyConnections, TooManyBytes, RecordCut, RecordTooLong}
 use Rattle.xdr3.specs.Item.{Item}
 use Rattle.record_mark.specs.Joining.{Joining, Between, Header, Bytes, Joined, Whole, TooLong, join_next}
-use Rattle.record_mark.specs.Machine.{Next, Goes, Ends, Run, Runs, Stops, Stopped, after, landed, step, within}
+use Rattle.record_mark.specs.Machine.{Next, Goes, Ends, Runs, Stops, after, landed, within}
 use Rattle.record_mark.specs.Word.{word_next}
 use Rattle.record_mark.proofs.Machines.{not_runs, only_stops}
 use Rattle.capture3.specs.declared.fault.Side.{Side}
 use Rattle.capture3.specs.declared.fault.Side.TheVariants.{Client, Server}
-use Rattle.capture3.specs.declared.position.Event.TheVariants.{Begin, Record, Turn, Close}
+use Rattle.capture3.specs.declared.position.Event.TheVariants.{Begin}
 use Rattle.capture3.specs.declared.position.TheConstants.{MAGIC}
 use Rattle.capture3.specs.Bodies.{ReplyItems}
 use Rattle.capture3.specs.Connections.{Refusal, refusal}
@@ -24,10 +24,9 @@ use Rattle.xdr3.specs.declared.reason.Reason.{Reason}
 use Rattle.capture3.specs.Parsing as parsing
 use Rattle.capture3.specs.Parsing.{Parsing, file_next}
 use Rattle.capture3.specs.declared.fault.Fault.{Fault}
-use Rattle.capture3.specs.Records.{fault_at}
 use Rattle.capture3.specs.Sides.{file_fault, place_at}
-use Rattle.capture3.specs.Resumed.{Judged, parsing_in, siding_at, resumed_at, parsing_at, resumed, call_judged, reply_judged, with_call, with_reply, Agrees, AgreesAt, AgreesOn}
-use Rattle.capture3.specs.Unpacking.{Opened, Magic, Mark, Length, Chunk, Ended, Unpacking, Unpacked, Has, Refuses, at_byte, before_stream, marked, closed, counted, joined, in_chunk, unpack_next}
+use Rattle.capture3.specs.Resumed.{Judged, parsing_in, siding_at, parsing_at, resumed, call_judged, reply_judged, Agrees, AgreesAt, AgreesOn}
+use Rattle.capture3.specs.Unpacking.{Opened, Magic, Mark, Length, Chunk, Ended, Unpacking, Unpacked, Has, Refuses, at_byte, before_stream, marked, counted, joined, in_chunk, unpack_next}
 
 -- where the two machines stand
 abbrev pub at_unpacking : (at total connections records : ℕ) → Joining → Opened → Unpacking

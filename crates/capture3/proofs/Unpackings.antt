@@ -1,12 +1,12 @@
 -- Many bytes at once: those of a word, and those of a chunk.
-use Rattle.std.proofs.Common.{◌≡◌, ℕ, zero, suc, ◌+◌, ◌<◌, List, [], ◌∷◌, ◌++◌, length, refl, sym, ap, ◌∙◌, arith, length-append}
-use Rattle.record_mark.specs.Machine.{Next, Runs, Stops, after, landed, within}
+use Rattle.std.proofs.Common.{◌≡◌, ℕ, ◌<◌, List, [], ◌++◌, length, refl, sym, ap, ◌∙◌}
+use Rattle.record_mark.specs.Machine.{Runs, Stops, after, landed}
 use Rattle.record_mark.specs.Word.{IsWord, word_next}
 use Rattle.record_mark.specs.Joining.{Joining}
 use Rattle.record_mark.proofs.Machines.{after-append, nested_runs, nested_stops}
 use Rattle.record_mark.proofs.Words.{word_runs, word_stops}
 use Rattle.capture3.specs.declared.fault.Side.{Side}
-use Rattle.capture3.specs.Unpacking.{Opened, Mark, Length, Unpacking, Unpacked, counted, marked, unpack_next}
+use Rattle.capture3.specs.Unpacking.{Mark, Length, Unpacking, counted, marked, unpack_next}
 
 -- from a part of a word
 from_part : (part bytes : List ℕ) → length part < 4 → after word_next (Runs part) bytes ≡ after word_next (Runs []) (part ++ bytes)

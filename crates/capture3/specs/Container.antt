@@ -1,5 +1,5 @@
 -- What a container holds, as the machine has it.
-use Rattle.std.specs.Prelude.{◌≡◌, ◌≤◌, ℕ, Option, Some, None, Result, Ok, Err, List, [], length, take}
+use Rattle.std.specs.Prelude.{◌≡◌, ℕ, Option, Some, None, List, []}
 use Rattle.record_mark.specs.Joining.{Between}
 use Rattle.record_mark.specs.Machine.{Run, Runs, Stops, after}
 use Rattle.record_mark.specs.Taking.{Taking, IsRunning, IsWhole, body_of, joining_of}

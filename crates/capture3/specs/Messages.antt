@@ -1,12 +1,11 @@
 -- The items of whole messages as values, and what judging a body answers.
-use Rattle.std.specs.Prelude.{◌≡◌, ℕ, Bool, true, false, ◌==◌, if◌then◌else◌, List, [], ◌∷◌, Option, Some, None, Result, Ok, Err}
+use Rattle.std.specs.Prelude.{◌≡◌, ℕ, true, false, List, [], Option, Some, None, Result, Ok, Err}
 use Rattle.xdr3.specs.declared.reason.GetError.{GetError}
 use Rattle.xdr3.specs.declared.reason.GetError.TheVariants.{Stop}
 use Rattle.xdr3.specs.declared.reason.Stop as stops
 use Rattle.xdr3.specs.Item.{Item, followed_by}
 use Rattle.xdr3.specs.Layout.{Layout, reading_layout}
 use Rattle.xdr3.specs.Reading.{Outcome}
-use Rattle.rpc_head.specs.declared.call.ProcId.{ProcId}
 use Rattle.rpc_head.specs.declared.reply.Accept.TheVariants.{Success, ProgUnavail, ProgMismatch, ProcUnavail, GarbageArgs, SystemErr}
 use Rattle.rpc_head.specs.declared.reply.ReplyHead.{ReplyHead}
 use Rattle.rpc_head.specs.declared.reply.ReplyHead.TheVariants.{Accepted, Denied}

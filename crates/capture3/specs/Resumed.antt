@@ -1,5 +1,5 @@
 -- Taking a capture apart, and judging its records as they come: where the machine for a capture file stands.
-use Rattle.std.specs.Prelude.{◌≡◌, ◌<◌, map, ℕ, suc, ◌+◌, List, [], ◌∷◌, ◌++◌, length, drop, Result, Ok, Err}
+use Rattle.std.specs.Prelude.{◌≡◌, ◌<◌, map, ℕ, suc, List, [], ◌∷◌, ◌++◌, length, drop, Result, Ok, Err}
 use Rattle.xdr3.specs.declared.reason.Stop.{Stop}
 use Rattle.xdr3.specs.Item.{Item}
 use Rattle.record_mark.specs.Joining.{Joining, Between}

@@ -1,5 +1,5 @@
 -- Taking a capture apart, one byte after another, up to what is whole next. Records are not judged here.
-use Rattle.std.specs.Prelude.{◌≡◌, ◌≤◌, ℕ, zero, suc, ◌+◌, ◌-◌, List, [], ◌∷◌, length, take, drop, cond, nat_eq, nat_lt, Option, Some, None}
+use Rattle.std.specs.Prelude.{ℕ, zero, suc, ◌+◌, List, [], ◌∷◌, length, cond, nat_eq, nat_lt}
 use Rattle.xdr3.specs.declared.reason.Reason.{Reason}
 use Rattle.xdr3.specs.declared.reason.Reason.TheVariants.{BadMagic, BadMark, AfterEnd, TooManyConnections, TooManyBytes, RecordCut, RecordTooLong}
 use Rattle.record_mark.specs.Machine.{Next, Goes, Ends, within}

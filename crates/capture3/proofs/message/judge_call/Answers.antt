@@ -1,6 +1,6 @@
 use Rattle.std.proofs.Common.{arith, ◌≡◌, ◌≢◌, [], Bool, length, Ok, Err, ap, refl, sym, ◌∙◌, true, false}
 use Rattle.std.proofs.lemmas.Bool.{false≢true}
-use Rattle.xdr3.specs.declared.reason.Reason.TheVariants.{Trailing, WrongSide, XidConflict}
+use Rattle.xdr3.specs.declared.reason.Reason.TheVariants.{WrongSide, XidConflict}
 use Rattle.xdr3.specs.declared.reason.Stop.{Stop}
 use Rattle.procs3.specs.Items.{args_items}
 use Rattle.capture3.specs.Judging.{agrees, judge_call}

@@ -1,6 +1,6 @@
-use Rattle.std.proofs.Common.{arith, ◌≡◌, ◌≢◌, ℕ, List, [], ◌∷◌, cond, eq-eqb, Bool, length, Some, None, Ok, Err, ap, refl, sym, ◌∙◌, true}
+use Rattle.std.proofs.Common.{arith, ◌≡◌, ◌≢◌, ℕ, List, [], ◌∷◌, cond, eq-eqb, Bool, length, Some, None, Ok, Err, ap, refl, sym, ◌∙◌}
 use Rattle.std.proofs.lemmas.Bool.{false≢true}
-use Rattle.xdr3.specs.declared.reason.Reason.TheVariants.{NoCall, Trailing, WrongSide}
+use Rattle.xdr3.specs.declared.reason.Reason.TheVariants.{NoCall, WrongSide}
 use Rattle.xdr3.specs.declared.reason.Stop.{Stop}
 use Rattle.capture3.specs.Judging.{judge_reply}
 use Rattle.capture3.specs.Bodies.{procedure_of}

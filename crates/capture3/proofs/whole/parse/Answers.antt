@@ -1,12 +1,10 @@
-use Rattle.std.proofs.Common.{arith, ap, subst, sym, ◌≡◌, ◌∙◌, ◌++◌, ◌+◌, ◌-◌, List, ℕ, [], ◌∷◌, take, take_all, drop, length, length-take, length-drop, refl}
-use Rattle.record_mark.specs.Machine.{after}
+use Rattle.std.proofs.Common.{arith, ap, subst, sym, ◌≡◌, ◌∙◌, ◌++◌, ◌-◌, [], ◌∷◌, take, take_all, drop, length, length-take, length-drop, refl}
 use Rattle.capture3.specs.declared.fault.Fault.{Fault}
 use Rattle.capture3.specs.Entry.{End}
 use Rattle.capture3.specs.FirstFault.{FirstFault}
 use Rattle.capture3.specs.Judges.{entry_cost}
-use Rattle.capture3.specs.Kept.{AreKept}
-use Rattle.capture3.specs.Parsing.{file_next, parsed}
-use Rattle.capture3.proofs.Parsed.{cut_at, first_fault, kept_snoc, keeps_more, keeps_on, Keeps, never_reads, never_writes, refused_is, typed_at}
+use Rattle.capture3.specs.Parsing.{parsed}
+use Rattle.capture3.proofs.Parsed.{cut_at, first_fault, kept_snoc, keeps_more, keeps_on, never_reads, never_writes, refused_is, typed_at}
 use Rattle.capture3.proofs.whole.parse.Goals as goal
 
 pub loop-taken-preserved-in-Continue-1 : goal.loop-taken-preserved-in-Continue-1
@@ -21,9 +19,9 @@ loop-taken-preserved-in-Continue-1 c =
       running = c.in-Ok-default-Some.ensures.running;
       room = omega (arith, invariant.room, c.in-Ok-default-Some.ensures.room, cost, c.in_ok-push-in-Ok-default-Some.ensures.len);
       machine =
-        rw c.in_ok-push-in-Ok-default-Some.ensures.items
-        (keeps_more c.args.bytes.now c.loop-taken.taken c.in-Ok-default-Some.count _ _ _ c.loop-taken.entries.items invariant.machine.0 _ _ c.in-Ok-default-Some.field-0-1-is
-        (c.in-Ok-default-Some.ensures.machine (parsed (take c.loop-taken.taken c.args.bytes.now)) invariant.machine.0 invariant.machine.1) invariant.machine.2);
+          rw c.in_ok-push-in-Ok-default-Some.ensures.items
+          (keeps_more c.args.bytes.now c.loop-taken.taken c.in-Ok-default-Some.count _ _ _ c.loop-taken.entries.items invariant.machine.0 _ _ c.in-Ok-default-Some.field-0-1-is
+          (c.in-Ok-default-Some.ensures.machine (parsed (take c.loop-taken.taken c.args.bytes.now)) invariant.machine.0 invariant.machine.1) invariant.machine.2);
     }
 
 pub loop-taken-preserved : goal.loop-taken-preserved
@@ -38,8 +36,8 @@ loop-taken-preserved c =
       running = c.in-Ok-default-None.ensures.running;
       room = omega (arith, invariant.room, c.in-Ok-default-None.ensures.room, cost);
       machine =
-        keeps_on c.args.bytes.now c.loop-taken.taken c.in-Ok-default-None.count _ _ _ c.loop-taken.entries.items invariant.machine.0 _ c.in-Ok-default-None.field-0-1-is
-        (c.in-Ok-default-None.ensures.machine (parsed (take c.loop-taken.taken c.args.bytes.now)) invariant.machine.0 invariant.machine.1) invariant.machine.2;
+          keeps_on c.args.bytes.now c.loop-taken.taken c.in-Ok-default-None.count _ _ _ c.loop-taken.entries.items invariant.machine.0 _ c.in-Ok-default-None.field-0-1-is
+          (c.in-Ok-default-None.ensures.machine (parsed (take c.loop-taken.taken c.args.bytes.now)) invariant.machine.0 invariant.machine.1) invariant.machine.2;
     }
 
 pub returns-in-Err-clause-fault : goal.returns-in-Err-clause-fault
@@ -56,10 +54,11 @@ returns-in-Err-clause-write c = never_writes _ _ c.in-Err.error (c.in-Err.ensure
 pub returns-in-Ok-clause-entries : goal.returns-in-Ok-clause-entries
 returns-in-Ok-clause-entries c =
     let invariant = c.loop-taken.invariant in
-    let all : take c.loop-taken.taken c.args.bytes.now ≡ c.args.bytes.now = take_all c.loop-taken.taken c.args.bytes.now (omega (arith, c.loop-taken-test.false)) in
-    (invariant.machine.0 ++ End ∷ [],
-    typed_at c.args.bytes.now _ _ _ (parsed (take c.loop-taken.taken c.args.bytes.now)) invariant.machine.0 (λ i. omega (arith, c.type_inv.bytes i)) invariant.machine.1 (ap parsed all) c.in-Ok.ensures.ok,
-    rw c.in_ok-push-in-Ok.ensures.items (kept_snoc c.loop-taken.entries.items invariant.machine.0 _ End invariant.machine.2 refl))
+    let all : take c.loop-taken.taken c.args.bytes.now ≡ c.args.bytes.now = take_all c.loop-taken.taken c.args.bytes.now (omega (arith, c.loop-taken-test.false)) in (
+      invariant.machine.0 ++ End ∷ [],
+      typed_at c.args.bytes.now _ _ _ (parsed (take c.loop-taken.taken c.args.bytes.now)) invariant.machine.0 (λ i. omega (arith, c.type_inv.bytes i)) invariant.machine.1 (ap parsed all) c.in-Ok.ensures.ok,
+      rw c.in_ok-push-in-Ok.ensures.items (kept_snoc c.loop-taken.entries.items invariant.machine.0 _ End invariant.machine.2 refl),
+    )
 
 pub returns-clause-fault : goal.returns-clause-fault
 returns-clause-fault c fault e =

@@ -1,8 +1,7 @@
 use Rattle.std.proofs.Common.{sym, ap, subst, ◌∙◌, List, ℕ}
 use Rattle.capture3.specs.Bodies.{IsCall}
 use Rattle.capture3.specs.Judging.{judge_call}
-use Rattle.capture3.specs.Messages.{call_items, IsTableOf}
-use Rattle.procs3.specs.Items.{args_items}
+use Rattle.capture3.specs.Messages.{call_items}
 use Rattle.capture3.proofs.Captures.{table_added}
 use Rattle.capture3.proofs.Judgements.{call_procedure_is, call_xid_is}
 use Rattle.capture3.proofs.judging.Capture.call.Goals as goal
@@ -15,6 +14,6 @@ returns-clause-ok c calls table = record {
   body_is = c.in_ok-body.ensures.items ∙ c.body-body.ensures.body;
   id_is = sym (call_procedure_is c.in-Ok.call);
   added =
-    rw c.in_ok-add.ensures.ok
-    (table_added c.args.self.now.calls calls (call_items c.in-Ok.call) c.in-Ok.call.xid c.in-Ok.call.head.id (call_xid_is c.in-Ok.call) (call_procedure_is c.in-Ok.call) table);
+      rw c.in_ok-add.ensures.ok
+      (table_added c.args.self.now.calls calls (call_items c.in-Ok.call) c.in-Ok.call.xid c.in-Ok.call.head.id (call_xid_is c.in-Ok.call) (call_procedure_is c.in-Ok.call) table);
 }
