@@ -19,6 +19,7 @@ pub mod Verdicts
 pub mod Reaches
 pub mod Emits
 pub mod Limits
+pub mod Sizes
 pub mod Examples
 pub mod Emissions
 pub mod Captures

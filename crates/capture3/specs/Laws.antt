@@ -71,3 +71,7 @@ spelled (End ∷ entries) = spelled entries
 pub record AreWithinLimits (entries : List Entry) : Type 0 where
   pub few : begins entries ≤ max_connections
   pub small : spelled entries ≤ max_bytes
+
+-- The longest a capture can be: the magic, 65,535 connections of a word 1 and two words 0, the last word 0, and 1,073,741,824 stream bytes in chunks of one byte.
+abbrev pub most_bytes : ℕ
+most_bytes = 5369495552

@@ -1,6 +1,6 @@
 //! Laws over the definitions of captures alone. They do nothing: each is what a function without a result ensures.
 
-ghost use Rattle.std.specs.Prelude.{◌≡◌, ◌↔◌, ℕ, List, ◌++◌, Ok, Err};
+ghost use Rattle.std.specs.Prelude.{◌≡◌, ◌↔◌, ◌≤◌, ℕ, List, ◌++◌, length, Ok, Err};
 ghost use Rattle.xdr3.specs.Item.{AreBytes, Item};
 ghost use Rattle.record_mark.specs.Machine.{after};
 ghost use Rattle.capture3.specs.declared.fault.Fault.{Fault};
@@ -8,8 +8,8 @@ ghost use Rattle.capture3.specs.Bodies.{ReplyItems};
 ghost use Rattle.capture3.specs.Capture.{Streams};
 ghost use Rattle.capture3.specs.Connections.{calls_in_turn, replies_to};
 ghost use Rattle.capture3.specs.Entry.{Entry};
-ghost use Rattle.capture3.specs.FirstFault.{FirstFault};
-ghost use Rattle.capture3.specs.Laws.{AreWithinLimits, HasOneVerdict, IsCutShort, IsJudgedInTurn, IsJudgedOnce};
+ghost use Rattle.capture3.specs.FirstFault.{FirstFault, IsClean};
+ghost use Rattle.capture3.specs.Laws.{AreWithinLimits, HasOneVerdict, IsCutShort, IsJudgedInTurn, IsJudgedOnce, most_bytes};
 ghost use Rattle.capture3.specs.Parsing.{file_next, parsed, reached, verdict};
 ghost use Rattle.capture3.specs.Reached.{Reached};
 ghost use Rattle.capture3.specs.Typed.{Typed};
@@ -49,6 +49,12 @@ pub fn judged_in_turn()
 pub fn within_limits()
     ensures typed { (file : List ℕ) (entries : List Entry) → Typed file entries → AreWithinLimits entries }
     ensures reached { (bytes : List ℕ) (entries : List Entry) → Reached bytes entries → AreWithinLimits entries }
+{}
+
+/// A well-formed file has at most 5,369,495,552 bytes, and so have bytes that show no fault.
+pub fn longest()
+    ensures typed { (file : List ℕ) (entries : List Entry) → Typed file entries → length file ≤ most_bytes }
+    ensures clean { (file : List ℕ) → AreBytes file → IsClean file → length file ≤ most_bytes }
 {}
 
 /// The machine answers the entries or the first fault, and each only where it holds; and what it emits
