@@ -1,6 +1,10 @@
 // Whether a capture is well formed.
 
-ghost use Rattle.std.specs.Prelude.{◌≡◌, ◌<◌, ◌^◌, length, IfOk, vec_len};
+ghost use Rattle.std.specs.Prelude.{◌≡◌, ◌≢◌, ◌⊎◌, ◌<◌, ◌+◌, ◌^◌, ℕ, List, Some, cond, count_by, length, IfErr, IfOk, vec_len};
+ghost use Rattle.xdr3.specs.Item.{AreBytes};
+ghost use Rattle.capture3.specs.declared.fault.Fault.{Fault};
+ghost use Rattle.capture3.specs.FirstFault.{FirstFault};
+ghost use Rattle.canon3.specs.Summing.{CountsReading, IsReadFrom, IsSummary, keeps_begin, keeps_call, keeps_reply};
 
 use capture3::{Entry, Error, Source, parse};
 use std::alloc::{AllocError, Global};
@@ -11,7 +15,7 @@ pub struct Summary {
     pub connections: u32,
     pub calls: u32,
     pub replies: u32,
-    /// Distinct file handles that are not empty.
+    /// Distinct file handles that are not empty. They are not counted yet: 0.
     pub handles: u32,
 }
 
@@ -23,25 +27,36 @@ const MOST_BYTES: usize = 5_369_495_553;
 /// How many bytes a read asks for.
 const BLOCK: usize = 65_536;
 
-/// Reads a capture to its end, and counts what it has where it is well formed. It never answers
-/// `Write`.
-pub fn check<R: Source>(alloc: Global, source: &mut R) -> Result<Summary, Error> {
+/// Reads a capture to its end, and counts what it has where it is well formed.
+///
+/// # Errors
+///
+/// `Refused` with the first fault of a capture that is not well formed, `Read` where a read failed, and
+/// `Memory` where none was to be had; never `Write`.
+pub fn check<R: Source>(alloc: Global, source: &mut R) -> Result<Summary, Error>
+    ensures ok { (bytes : List ℕ) → R.left source.old ≡ Some bytes → IfOk result (IsSummary bytes) }
+    ensures refused { (bytes : List ℕ) → R.left source.old ≡ Some bytes → IfErr result (λ error. (fault : Fault) → error ≡ Error.Refused fault → FirstFault bytes fault) }
+    ensures read { CountsReading (R.failures source.old) (R.failures source.new) result }
+    ensures write { IfErr result (λ error. error ≢ Error.Write) }
+{
     let bytes = whole(alloc, source)?;
-    let entries = parse(alloc, &bytes)?;
-    Ok(counted(&entries))
+    summed(alloc, &bytes)
 }
 
 /// All bytes of a source, at most one more than the longest capture has.
-fn whole<R: Source>(alloc: Global, source: &mut R) -> Result<Vec<u8>, Error> {
+fn whole<R: Source>(alloc: Global, source: &mut R) -> Result<Vec<u8>, Error>
+    ensures bytes { (all : List ℕ) → R.left source.old ≡ Some all → IfOk result (λ bytes. IsReadFrom bytes.items all) }
+    ensures read { CountsReading (R.failures source.old) (R.failures source.new) result }
+    ensures errors { IfErr result (λ error. (error ≡ Error.Read) ⊎ (error ≡ Error.Memory)) }
+{
     let mut bytes = Vec::new(alloc);
     let mut block = new_block(alloc)?;
     while bytes.len() < MOST_BYTES {
-        let count = match source.read_some(&mut block) {
-            Ok(0) => break,
-            Ok(count) => count,
+        match source.read_some(&mut block) {
+            Ok(0) => return Ok(bytes),
+            Ok(count) => bytes.extend_from_slice(&block[..count])?,
             Err(_) => return Err(Error::Read),
-        };
-        bytes.extend_from_slice(&block[..count])?;
+        }
     }
     Ok(bytes)
 }
@@ -53,8 +68,24 @@ fn new_block(alloc: Global) -> Result<Vec<u8>, AllocError>
     vec![in alloc; 0; BLOCK]
 }
 
+/// What the capture in these bytes has, where it is well formed.
+fn summed(alloc: Global, bytes: &[u8]) -> Result<Summary, Error>
+    ensures fit { AreBytes bytes.now }
+    ensures ok { IfOk result (IsSummary bytes.now) }
+    ensures refused { IfErr result (λ error. (fault : Fault) → error ≡ Error.Refused fault → FirstFault bytes.now fault) }
+    ensures device { IfErr result (λ error. (error ≢ Error.Read) × (error ≢ Error.Write)) }
+{
+    match parse(alloc, bytes) {
+        Ok(entries) => Ok(counted(&entries)),
+        Err(error) => Err(error),
+    }
+}
+
 fn counted(entries: &[Entry]) -> Summary
     requires { length entries.now < 2 ^ 32 }
+    ensures connections { result.connections ≡ count_by keeps_begin entries.now }
+    ensures calls { result.calls ≡ count_by keeps_call entries.now }
+    ensures replies { result.replies ≡ count_by keeps_reply entries.now }
 {
     let mut summary = Summary {
         connections: 0,
@@ -63,12 +94,23 @@ fn counted(entries: &[Entry]) -> Summary
         handles: 0,
     };
     for entry in entries {
+        summary.add(entry);
+    }
+    summary
+}
+
+impl Summary {
+    fn add(&mut self, entry: &Entry)
+        requires { self.old.connections + self.old.calls + self.old.replies + 1 < 2 ^ 32 }
+        ensures connections { self.new.connections ≡ self.old.connections + cond (keeps_begin entry.now) 1 0 }
+        ensures calls { self.new.calls ≡ self.old.calls + cond (keeps_call entry.now) 1 0 }
+        ensures replies { self.new.replies ≡ self.old.replies + cond (keeps_reply entry.now) 1 0 }
+    {
         match entry {
-            Entry::Begin => summary.connections += 1,
-            Entry::Call(_) => summary.calls += 1,
-            Entry::Reply(_) => summary.replies += 1,
+            Entry::Begin => self.connections += 1,
+            Entry::Call(_) => self.calls += 1,
+            Entry::Reply(_) => self.replies += 1,
             Entry::Turn | Entry::Close | Entry::End => {}
         }
     }
-    summary
 }

@@ -1,0 +1,2 @@
+-- Lemmas of canonical captures.
+pub mod Summing

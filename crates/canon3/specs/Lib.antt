@@ -1,0 +1,2 @@
+-- What captures are up to renaming, their canonical form, and its bytes.
+pub mod Summing
