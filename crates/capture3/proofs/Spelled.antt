@@ -1,5 +1,5 @@
 -- A body that spells a message is read without a stop, and as a message of that procedure.
-use Rattle.std.proofs.Common.{◌≡◌, ℕ, Bool, true, false, cond, nat_eq, List, [], ◌∷◌, Option, Some, None, Result, Ok, Err, refl, sym, ap, ◌∙◌, eq-eqb}
+use Rattle.std.proofs.Common.{◌≡◌, ℕ, Bool, true, false, cond, List, [], ◌∷◌, Some, None, Result, Ok, Err, sym, ap, ◌∙◌, eq-eqb}
 use Rattle.std.proofs.Math.Logic.{∥∥₁_elim}
 use mathlib.Core.Bool.{Bool-set}
 use Rattle.xdr3.specs.declared.reason.Stop.{Stop}
@@ -8,11 +8,11 @@ use Rattle.xdr3.specs.Reading.{reading}
 use Rattle.xdr3.proofs.Layouts.{reads_whole}
 use Rattle.rpc_head.specs.declared.call.ProcId.{ProcId}
 use Rattle.rpc_head.specs.declared.message.Start.{Start}
-use Rattle.rpc_head.specs.Messages.{call_layout, reply_layout, procedure_in}
+use Rattle.rpc_head.specs.Messages.{reply_layout, procedure_in}
 use Rattle.rpc_head.specs.Names.{names}
 use Rattle.rpc_head.specs.Shapes.{message_start}
 use Rattle.rpc_head.specs.Starts.{start_items}
-use Rattle.procs3.specs.Table.{arguments_of, results_of}
+use Rattle.procs3.specs.Table.{results_of}
 use Rattle.capture3.specs.declared.message.CallMsg.{CallMsg}
 use Rattle.capture3.specs.Bodies.{IsCall, Starts, xid_in, procedure_of}
 use Rattle.capture3.specs.Judging.{is_same, judge_call, judge_reply}

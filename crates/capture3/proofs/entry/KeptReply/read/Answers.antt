@@ -1,8 +1,6 @@
-use Rattle.std.proofs.Common.{◌≡◌, List, ℕ, [], ◌∷◌, nat_eq, refl, sym, ap, ◌∙◌}
+use Rattle.std.proofs.Common.{[], ◌∷◌, nat_eq, refl, sym, ap, ◌∙◌}
 use Rattle.std.proofs.Math.Logic.{∥∥₁_elim}
 use mathlib.Core.HLevel.{⊥_prop}
-use Rattle.rpc_head.specs.Shapes.{message_start}
-use Rattle.xdr3.specs.Reading.{reading}
 use Rattle.capture3.specs.Judging.{judge_reply}
 use Rattle.capture3.proofs.Spelled.{asking, only_one, reply_never_stops, reply_start_is_whole}
 use Rattle.capture3.proofs.entry.KeptReply.read.Goals as goal
