@@ -134,10 +134,10 @@ is_not_started body stop are e =
 
 -- ---- procedures
 
-is_same_self : (id : ProcId) → is_same id id ≡ true
+pub is_same_self : (id : ProcId) → is_same id id ≡ true
 is_same_self id = rw (eq-eqb id.prog id.prog refl, eq-eqb id.vers id.vers refl, eq-eqb id.proc_no id.proc_no refl) refl
 
-same_is : (a b : ProcId) → is_same a b ≡ true → a ≡ b
+pub same_is : (a b : ProcId) → is_same a b ≡ true → a ≡ b
 same_is a b e = go (nat_eq a.prog b.prog) (nat_eq a.vers b.vers) (nat_eq a.proc_no b.proc_no) refl refl refl e
   where
     go : (p v n : Bool) → nat_eq a.prog b.prog ≡ p → nat_eq a.vers b.vers ≡ v → nat_eq a.proc_no b.proc_no ≡ n → ((p && v) && n) ≡ true → a ≡ b

@@ -10,6 +10,7 @@ pub mod Streams
 pub mod Sides
 pub mod Layouts
 pub mod Bodies
+pub mod Spelled
 pub mod Converses
 pub mod Resumptions
 pub mod Openings

@@ -8,6 +8,7 @@ use Rattle.record_mark.specs.Taking.{Taking}
 use Rattle.record_mark.proofs.Machines.{after-append}
 use Rattle.capture3.specs.declared.calls.NumberedCall.{NumberedCall}
 use Rattle.capture3.specs.declared.entry.Entry as kept
+use Rattle.capture3.specs.declared.entry.Entry.TheVariants as variants
 use Rattle.capture3.specs.declared.fault.Error.{Error}
 use Rattle.capture3.specs.declared.fault.Error.TheVariants as errors
 use Rattle.capture3.specs.declared.fault.Fault.{Fault}
@@ -20,7 +21,8 @@ use Rattle.capture3.specs.Container.{unpacking_of}
 use Rattle.capture3.specs.Entry.{Entry, End}
 use Rattle.capture3.specs.FirstFault.{FirstFault}
 use Rattle.capture3.specs.Judges.{StandsAt, GoesTo, FailsAt}
-use Rattle.capture3.specs.Kept.{IsKept, AreKept}
+use Rattle.capture3.specs.Kept.{IsKept, AreKept, begun}
+use Rattle.capture3.specs.Laws.{begins}
 use Rattle.capture3.specs.Parsing.{Parsing, file_next, file_start, parsed, concluded, verdict_of}
 use Rattle.capture3.specs.Position.{opened_at}
 use Rattle.capture3.specs.Resumed.{Judged, resumed_at, emitted_at}
@@ -135,3 +137,17 @@ keeps_more bytes n m p t table items model None one e goes are = absurd (cc)
 keeps_more bytes n m p t table items model (Some new) one e goes are =
     let same : new ≡ one = cc in
     (model ++ goes.0 ∷ [], stands_more bytes n m p t table (model ++ goes.0 ∷ []) goes.2, kept_snoc items model one goes.0 are (subst (λ (x : kept.Entry). IsKept x goes.0) same goes.1))
+
+-- ---- what kept entries begin
+
+pub begun_is : (items : List kept.Entry) (entries : List Entry) → AreKept items entries → begun items ≡ begins entries
+begun_is [] entries are = sym (ap begins are)
+begun_is (one ∷ items) entries are = begun_more one items are.0 are.1 are.3 (begun_is items are.1 are.4) ∙ sym (ap begins are.2)
+  where
+    begun_more : (one : kept.Entry) (items : List kept.Entry) (entry : Entry) (rest : List Entry) → IsKept one entry → begun items ≡ begins rest → begun (one ∷ items) ≡ begins (entry ∷ rest)
+    begun_more variants.Begin items entry rest is same = ap (λ (n : ℕ). 1 + n) same ∙ ap (λ (e : Entry). begins (e ∷ rest)) (sym is)
+    begun_more (variants.Call call) items entry rest is same = same ∙ ap (λ (e : Entry). begins (e ∷ rest)) (sym is.3)
+    begun_more variants.Turn items entry rest is same = same ∙ ap (λ (e : Entry). begins (e ∷ rest)) (sym is)
+    begun_more (variants.Reply reply) items entry rest is same = same ∙ ap (λ (e : Entry). begins (e ∷ rest)) (sym is.2)
+    begun_more variants.Close items entry rest is same = same ∙ ap (λ (e : Entry). begins (e ∷ rest)) (sym is)
+    begun_more variants.End items entry rest is same = same ∙ ap (λ (e : Entry). begins (e ∷ rest)) (sym is)

@@ -1,5 +1,5 @@
 -- Kept entries, and the entries that they are.
-use Rattle.std.specs.Prelude.{◌≡◌, List, [], ◌∷◌}
+use Rattle.std.specs.Prelude.{◌≡◌, ℕ, ◌+◌, List, [], ◌∷◌}
 use Rattle.xdr3.specs.Item.{Item}
 use Rattle.rpc_head.specs.Messages.{procedure_in}
 use Rattle.capture3.specs.declared.entry.Entry as kept
@@ -20,3 +20,13 @@ IsKept variants.End entry = entry ≡ End
 abbrev pub AreKept : List kept.Entry → List Entry → Type 0
 AreKept [] entries = entries ≡ []
 AreKept (one ∷ more) entries = (entry : Entry) × (rest : List Entry) × (entries ≡ entry ∷ rest) × IsKept one entry × AreKept more rest
+
+-- how many connections kept entries begin
+abbrev pub begun : List kept.Entry → ℕ
+begun [] = 0
+begun (variants.Begin ∷ more) = 1 + begun more
+begun (variants.Call call ∷ more) = begun more
+begun (variants.Turn ∷ more) = begun more
+begun (variants.Reply reply ∷ more) = begun more
+begun (variants.Close ∷ more) = begun more
+begun (variants.End ∷ more) = begun more

@@ -24,4 +24,5 @@ pub mod Typed
 pub mod Resumed
 pub mod Examples
 pub mod Kept
+pub mod Spelled
 pub mod Judges

@@ -45,21 +45,10 @@ impl CallList {
         self.calls.clear();
     }
 
-    /// The procedure of the calls with this xid.
-    pub(crate) fn procedure_of(&self, xid: u32) -> Option<ProcId>
-        ensures { result ≡ found self.now xid }
+    pub(crate) fn as_slice(&self) -> &[NumberedCall]
+        ensures { result.now ≡ self.now }
     {
-        procedure_in(&self.calls, xid)
-    }
-
-    /// Tells that no call has this xid and another procedure.
-    pub(crate) fn agrees(&self, xid: u32, id: ProcId) -> bool
-        ensures { result ≡ agrees (found self.now xid) id }
-    {
-        match self.procedure_of(xid) {
-            None => true,
-            Some(other) => other == id,
-        }
+        &self.calls
     }
 
     /// Adds a call, unless its xid is there.
@@ -67,14 +56,15 @@ impl CallList {
         ensures ok { OnOk result (self.new ≡ with_call self.old xid id) }
         ensures err { OnErr result (self.new ≡ self.old) }
     {
-        if self.procedure_of(xid).is_none() {
+        if procedure_in(&self.calls, xid).is_none() {
             self.calls.push(NumberedCall { xid, id })?;
         }
         Ok(())
     }
 }
 
-fn procedure_in(calls: &[NumberedCall], xid: u32) -> Option<ProcId>
+/// The procedure of the calls with this xid.
+pub(crate) fn procedure_in(calls: &[NumberedCall], xid: u32) -> Option<ProcId>
     ensures { result ≡ found calls.now xid }
 {
     for call in calls {
@@ -83,4 +73,14 @@ fn procedure_in(calls: &[NumberedCall], xid: u32) -> Option<ProcId>
         }
     }
     None
+}
+
+/// Tells that no call has this xid and another procedure.
+pub(crate) fn agrees_in(calls: &[NumberedCall], xid: u32, id: ProcId) -> bool
+    ensures { result ≡ agrees (found calls.now xid) id }
+{
+    match procedure_in(calls, xid) {
+        None => true,
+        Some(other) => other == id,
+    }
 }

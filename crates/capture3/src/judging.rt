@@ -125,7 +125,7 @@ impl Capture {
         ensures err { (calls : List (List Item)) → IsTableOf self.old.calls calls → IfErr result (RefusesBody self.old.container.position Side.Client (judge_call calls (body_of self.old.container.joiner))) }
     {
         let body = self.container.body();
-        let (xid, id) = match judge_call(alloc, &self.calls, body) {
+        let (xid, id) = match judge_call(alloc, self.calls.as_slice(), body) {
             Ok(call) => (call.xid, call.head.id),
             Err(error) => return Err(self.record_error(Side::Client, error)),
         };
@@ -145,7 +145,7 @@ impl Capture {
         ensures err { (calls : List (List Item)) → IsTableOf self.old.calls calls → IfErr result (RefusesBody self.old.container.position Side.Server (judge_reply calls (body_of self.old.container.joiner))) }
     {
         let body = self.container.body();
-        let id = match judge_reply(alloc, &self.calls, body) {
+        let id = match judge_reply(alloc, self.calls.as_slice(), body) {
             Ok(reply) => reply.id,
             Err(error) => return Err(self.record_error(Side::Server, error)),
         };

@@ -12,6 +12,8 @@ mod message;
 mod plan;
 mod position;
 mod source;
+#[cfg(test)]
+mod tests;
 mod whole;
 mod word_part;
 

@@ -1,15 +1,16 @@
 // Whole messages.
 
-ghost use Rattle.std.specs.Prelude.{◌≡◌, ◌≤◌, List, length, IfOk};
+ghost use Rattle.std.specs.Prelude.{◌≡◌, ◌≤◌, List, length, Some, IfOk};
 ghost use Rattle.procs3.specs.Table.{results_of};
 ghost use Rattle.xdr3.specs.Gives.{Gives};
 ghost use Rattle.xdr3.specs.Item.{Item};
 ghost use Rattle.xdr3.specs.View.{MovesOn};
 ghost use Rattle.capture3.specs.Bodies.{IsCall, IsReply};
+ghost use Rattle.capture3.specs.Calls.{found};
 ghost use Rattle.capture3.specs.Judging as spec;
 ghost use Rattle.capture3.specs.Messages.{answered_items, behind_items, call_items, IsTableOf, Judged, reading_behind};
 
-use crate::calls::CallList;
+use crate::calls::{NumberedCall, agrees_in, procedure_in};
 use procs3::{Args, Results};
 use rpc_head::{Accept, CallHead, ProcId, ReplyHead, start};
 use std::alloc::Global;
@@ -36,7 +37,7 @@ pub struct ReplyMsg<'a> {
 /// Reads a body of the client stream, behind the calls of its connection that came before it.
 pub(crate) fn judge_call<'a>(
     alloc: Global,
-    calls: &CallList,
+    calls: &[NumberedCall],
     body: &'a [u8],
 ) -> Result<CallMsg<'a>, GetError>
     requires { length body.now ≤ 16777216 }
@@ -51,7 +52,7 @@ pub(crate) fn judge_call<'a>(
     let head = CallHead::get(alloc, &mut input)?;
     let args = Args::get(alloc, head.id, &mut input)?;
     input.end()?;
-    if !calls.agrees(start.xid, head.id) {
+    if !agrees_in(calls, start.xid, head.id) {
         return Err(stop(0, Reason::XidConflict));
     }
     Ok(CallMsg {
@@ -64,19 +65,20 @@ pub(crate) fn judge_call<'a>(
 /// Reads a body of the server stream, behind all calls of its connection.
 pub(crate) fn judge_reply<'a>(
     alloc: Global,
-    calls: &CallList,
+    calls: &[NumberedCall],
     body: &'a [u8],
 ) -> Result<ReplyMsg<'a>, GetError>
     requires { length body.now ≤ 16777216 }
     ensures judged { (before : List (List Item)) → IsTableOf calls.now before → Judged answered_items result (spec.judge_reply before body.now) }
     ensures reply { IfOk result (λ reply. IsReply body.now (answered_items reply)) }
+    ensures procedure { IfOk result (λ reply. found calls.now reply.xid ≡ Some reply.id) }
 {
     let mut input = Input::new(body);
     let start = start(&mut input)?;
     if !start.is_reply {
         return Err(stop(4, Reason::WrongSide));
     }
-    let Some(id) = calls.procedure_of(start.xid) else {
+    let Some(id) = procedure_in(calls, start.xid) else {
         return Err(stop(0, Reason::NoCall));
     };
     let head = ReplyHead::get(alloc, &mut input)?;

@@ -24,7 +24,7 @@ pub trait Source {
         ensures count { Counts (failures self.old) (failures self.new) result };
 }
 
-/// A source over any reader. It tells no bytes.
+/// A source over any reader, which tells the bytes that the reader tells.
 #[derive(Drop)]
 pub struct FromRead<R> {
     reader: R,
@@ -41,7 +41,7 @@ impl<R: Read> FromRead<R> {
 }
 
 impl<R: Read> Source for FromRead<R> {
-    ghost left = { λ _. None };
+    ghost left = { λ s. R.remaining s.reader };
 
     ghost failures = { λ s. s.failures };
 

@@ -2,9 +2,12 @@
 
 ghost use Rattle.std.specs.Prelude.{◌≡◌, ◌≢◌, ◌≤◌, ℕ, List, IfErr, IfOk, vec_len};
 ghost use Rattle.capture3.specs.declared.fault.Fault.{Fault};
+ghost use Rattle.capture3.specs.Capture.{max_connections};
+ghost use Rattle.capture3.specs.Chunks.{max_bytes};
 ghost use Rattle.capture3.specs.Entry as spec;
 ghost use Rattle.capture3.specs.FirstFault.{FirstFault};
-ghost use Rattle.capture3.specs.Kept.{AreKept};
+ghost use Rattle.capture3.specs.Kept.{AreKept, begun};
+ghost use Rattle.capture3.specs.Laws.{spelled};
 ghost use Rattle.capture3.specs.Position.{most_entries};
 ghost use Rattle.capture3.specs.Typed.{Typed};
 
@@ -24,6 +27,8 @@ pub fn parse(alloc: Global, bytes: &[u8]) -> Result<Vec<Entry>, Error>
     ensures fault { IfErr result (λ error. (fault : Fault) → error ≡ Error.Refused fault → FirstFault bytes.now fault) }
     ensures read { IfErr result (λ error. error ≢ Error.Read) }
     ensures write { IfErr result (λ error. error ≢ Error.Write) }
+    ensures connections { IfOk result (λ kept. begun kept.items ≤ max_connections) }
+    ensures spelled { IfOk result (λ _. (entries : List spec.Entry) → Typed bytes.now entries → spelled entries ≤ max_bytes) }
     ensures few { IfOk result (λ kept. vec_len kept ≤ most_entries) }
 {
     let mut capture = Capture::new(alloc);

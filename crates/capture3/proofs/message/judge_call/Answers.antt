@@ -51,8 +51,8 @@ returns-in_err-end-clause-judged c before table =
     (call_trails before c.args.body.now c.in_ok-start.start c.in_ok-head.head c.start.new.input.at c.get.new.input.at c.get-2.new.input.at (args_items c.in_ok-args.args) begins (rw behind at c.in_ok-args.ensures.read) other
     ∙ ap (λ (s : Stop). Err s) (sym c.in_err-end.ensures.err))
 
-pub returns-then-not-agrees-clause-judged : goal.returns-then-not-agrees-clause-judged
-returns-then-not-agrees-clause-judged c before table =
+pub returns-then-not-agrees_in-clause-judged : goal.returns-then-not-agrees_in-clause-judged
+returns-then-not-agrees_in-clause-judged c before table =
     let start = rw (c.new-input.ensures.body, c.new-input.ensures.start) at c.in_ok-start.ensures.read in
     let body : c.start.new.input.body ≡ c.args.body.now = c.in_ok-start.ensures.moves.same_body ∙ c.new-input.ensures.body in
     let behind : c.get.new.input.body ≡ c.args.body.now = c.in_ok-head.ensures.moves.same_body ∙ body in
@@ -61,8 +61,8 @@ returns-then-not-agrees-clause-judged c before table =
     record { start = start; is_call = c.if-start.false; read = rw body at c.in_ok-head.ensures.read } in
     let is : c.get-2.new.input.at ≡ length c.args.body.now = c.in_ok-end.ensures.ok.0 refl ∙ ap length last in
     let disagree : agrees (procedure_of before c.in_ok-start.start.xid) c.in_ok-head.head.id ≡ false =
-    ap (λ p. agrees p c.in_ok-head.head.id) (sym (table c.in_ok-start.start.xid)) ∙ sym c.agrees.ensures ∙ c.if-not-agrees.true in
-    refusal_judged c.stop-then-not-agrees.result (judge_call before c.args.body.now) (record { at = 0; reason = XidConflict }) c.stop-then-not-agrees.ensures
+    ap (λ p. agrees p c.in_ok-head.head.id) (sym (table c.in_ok-start.start.xid)) ∙ sym c.agrees_in.ensures ∙ c.if-not-agrees_in.true in
+    refusal_judged c.stop-then-not-agrees_in.result (judge_call before c.args.body.now) (record { at = 0; reason = XidConflict }) c.stop-then-not-agrees_in.ensures
     (call_conflicts before c.args.body.now c.in_ok-start.start c.in_ok-head.head c.start.new.input.at c.get.new.input.at c.get-2.new.input.at (args_items c.in_ok-args.args) begins (rw behind at c.in_ok-args.ensures.read) is disagree)
 
 pub returns-clause-judged : goal.returns-clause-judged
@@ -75,7 +75,7 @@ returns-clause-judged c before table =
     record { start = start; is_call = c.if-start.false; read = rw body at c.in_ok-head.ensures.read } in
     let is : c.get-2.new.input.at ≡ length c.args.body.now = c.in_ok-end.ensures.ok.0 refl ∙ ap length last in
     let agree : agrees (procedure_of before c.in_ok-start.start.xid) c.in_ok-head.head.id ≡ true =
-    ap (λ p. agrees p c.in_ok-head.head.id) (sym (table c.in_ok-start.start.xid)) ∙ sym c.agrees.ensures ∙ c.if-not-agrees.false in
+    ap (λ p. agrees p c.in_ok-head.head.id) (sym (table c.in_ok-start.start.xid)) ∙ sym c.agrees_in.ensures ∙ c.if-not-agrees_in.false in
     call_accepted before c.args.body.now c.in_ok-start.start c.in_ok-head.head c.start.new.input.at c.get.new.input.at c.get-2.new.input.at (args_items c.in_ok-args.args) begins (rw behind at c.in_ok-args.ensures.read) is agree
     ∙ ap (λ (b : Bool). Ok (whole_call (record { xid = c.in_ok-start.start.xid; is_reply = b }) c.in_ok-head.head (args_items c.in_ok-args.args))) c.if-start.false
 

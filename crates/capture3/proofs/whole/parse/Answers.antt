@@ -4,7 +4,8 @@ use Rattle.capture3.specs.Entry.{End}
 use Rattle.capture3.specs.FirstFault.{FirstFault}
 use Rattle.capture3.specs.Judges.{entry_cost}
 use Rattle.capture3.specs.Parsing.{parsed}
-use Rattle.capture3.proofs.Parsed.{cut_at, first_fault, kept_snoc, keeps_more, keeps_on, never_reads, never_writes, refused_is, typed_at}
+use Rattle.capture3.proofs.Limits.{typed_within}
+use Rattle.capture3.proofs.Parsed.{begun_is, cut_at, first_fault, kept_snoc, keeps_more, keeps_on, never_reads, never_writes, refused_is, typed_at}
 use Rattle.capture3.proofs.whole.parse.Goals as goal
 
 pub loop-taken-preserved-in-Continue-1 : goal.loop-taken-preserved-in-Continue-1
@@ -59,6 +60,14 @@ returns-in-Ok-clause-entries c =
       typed_at c.args.bytes.now _ _ _ (parsed (take c.loop-taken.taken c.args.bytes.now)) invariant.machine.0 (λ i. omega (arith, c.type_inv.bytes i)) invariant.machine.1 (ap parsed all) c.in-Ok.ensures.ok,
       rw c.in_ok-push-in-Ok.ensures.items (kept_snoc c.loop-taken.entries.items invariant.machine.0 _ End invariant.machine.2 refl),
     )
+
+pub returns-in-Ok-clause-connections : goal.returns-in-Ok-clause-connections
+returns-in-Ok-clause-connections c =
+    let of = returns-in-Ok-clause-entries c in
+    omega (arith, begun_is _ of.0 of.2, (typed_within c.args.bytes.now of.0 of.1).few)
+
+pub returns-in-Ok-clause-spelled : goal.returns-in-Ok-clause-spelled
+returns-in-Ok-clause-spelled c entries typed = (typed_within c.args.bytes.now entries typed).small
 
 pub returns-clause-fault : goal.returns-clause-fault
 returns-clause-fault c fault e =

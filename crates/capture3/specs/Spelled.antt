@@ -1,0 +1,14 @@
+-- Bodies that spell a message of a procedure.
+use Rattle.std.specs.Prelude.{◌≡◌, ℕ, List}
+use Rattle.xdr3.specs.Item.{Item}
+use Rattle.rpc_head.specs.declared.call.ProcId.{ProcId}
+use Rattle.rpc_head.specs.Messages.{procedure_in}
+use Rattle.capture3.specs.Bodies.{IsCall, IsReply}
+
+-- a call of this procedure (RFC 5531, section 9)
+abbrev pub SpellsCall : ProcId → List ℕ → Type 0
+SpellsCall id body = (items : List Item) × IsCall body items × (id ≡ procedure_in items)
+
+-- a reply to a call of this procedure (RFC 5531, section 9)
+abbrev pub SpellsReply : ProcId → List ℕ → Type 0
+SpellsReply id body = (items : List Item) × IsReply body (record { id = id; items = items })
