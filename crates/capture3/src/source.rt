@@ -32,7 +32,9 @@ pub struct FromRead<R> {
 }
 
 impl<R: Read> FromRead<R> {
-    pub fn new(reader: R) -> FromRead<R> {
+    pub fn new(reader: R) -> FromRead<R>
+        ensures { result ≡ record { reader = reader; failures = 0 } }
+    {
         FromRead {
             reader,
             failures: 0,
