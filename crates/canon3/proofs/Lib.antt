@@ -1,0 +1,12 @@
+pub mod Order
+pub mod Ranks
+pub mod Pairings
+pub mod Renamings
+pub mod Numbers
+pub mod Nesting
+pub mod Renumbered
+pub mod Equality
+pub mod Following
+pub mod Prefixes
+pub mod Places
+pub mod Kept

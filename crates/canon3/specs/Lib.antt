@@ -1,0 +1,9 @@
+-- What captures are up to renaming, their canonical form, and its bytes.
+pub mod Values
+pub mod Pairing
+pub mod Renaming
+pub mod Rank
+pub mod Canonical
+pub mod Bytes
+pub mod Following
+pub mod Parting
