@@ -5,7 +5,7 @@ use Rattle.canon3.specs.Renaming.{Same}
 use Rattle.canon3.specs.Canonical.{canonical}
 use Rattle.canon3.proofs.Order.{IsWellFormed}
 use Rattle.canon3.proofs.Renamings.{Matches, same-from_matches, matches-from_same, matches_turned, matches_linked}
-use Rattle.canon3.proofs.Numbers.{canonical-same}
+use Rattle.canon3.proofs.Numbering.{canonical-same}
 use Rattle.canon3.proofs.Renumbered.{matches_canonical, same-canonical}
 
 pub same_reflexive : (a : List Entry) → IsWellFormed a → Same a a

@@ -11,7 +11,7 @@ use Rattle.canon3.proofs.Order.{Stage, Between, InCalls, InReplies, Over, begin,
 use Rattle.canon3.proofs.Ranks.{itself}
 use Rattle.canon3.proofs.Pairings.{Agree, Alike}
 use Rattle.canon3.proofs.Renamings.{matches-from_same}
-use Rattle.canon3.proofs.Numbers.{In, pairwise-append, all_handles_paired, all_verifiers_paired}
+use Rattle.canon3.proofs.Numbering.{In, pairwise-append, all_handles_paired, all_verifiers_paired}
 use Rattle.canon3.proofs.Renumbered.{same-canonical}
 
 pairwise-length : {A B : Type 0} {R : A → B → Type 0} {l : List A} {m : List B} → Pairwise R l m → length l ≡ length m

@@ -2,7 +2,7 @@ pub mod Order
 pub mod Ranks
 pub mod Pairings
 pub mod Renamings
-pub mod Numbers
+pub mod Numbering
 pub mod Nesting
 pub mod Renumbered
 pub mod Equality

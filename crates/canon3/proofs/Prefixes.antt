@@ -15,7 +15,7 @@ use Rattle.canon3.proofs.Ranks.{member-append_left}
 use Rattle.canon3.proofs.Renumbered.{Within}
 use Rattle.canon3.proofs.Following.{canonical-after, take-after}
 use Rattle.canon3.proofs.Nesting.{runs-take}
-use Rattle.canon3.proofs.Numbers.{canonical-same}
+use Rattle.canon3.proofs.Numbering.{canonical-same}
 use Rattle.canon3.proofs.Equality.{same_from_canonical}
 
 module _ {X : Type 0} (f : Entry → List X) (i : ℕ) (es : List Entry) where

@@ -87,6 +87,23 @@ module _ {K : Type 0} (same : K → K → Bool) (laws : IsEquivalence same) wher
   any-push x y [] f e = rw f refl
   any-push x y (k ∷ ks) f e = by_test (same x k) (λ t. absurd (cc (t, e))) (λ g. rw g (any-push x y ks f (rw g at e)))
 
+  any-with_keys : (x : K) (l ks : List K) → list_any (same x) ks ≡ true → list_any (same x) (with_keys same ks l) ≡ true
+  any-with_keys x [] ks e = e
+  any-with_keys x (y ∷ l) ks e = any-with_keys x l (with_key same ks y) (cond_either (λ ls. list_any (same x) ls ≡ true) (list_any (same y) ks) e (any-append x ks (y ∷ []) e))
+
+  any-last : (x y : K) (ks : List K) → same x y ≡ true → list_any (same x) (ks ++ y ∷ []) ≡ true
+  any-last x y [] t = rw t refl
+  any-last x y (k ∷ ks) t = rw (any-last x y ks t) (or_true (same x k))
+
+  any-with_key : (x y : K) (ks : List K) → same x y ≡ true → list_any (same x) (with_key same ks y) ≡ true
+  any-with_key x y ks t = by_test (list_any (same y) ks) (λ s. rw s (any-alike x y t ks ∙ s)) (λ f. rw f (any-last x y ks t))
+
+  -- a key that is like one of the list is like a distinct one
+  pub any-distinct : (x : K) (l ks : List K) → list_any (same x) l ≡ true → list_any (same x) (with_keys same ks l) ≡ true
+  any-distinct x [] ks e = absurd cc
+  any-distinct x (y ∷ l) ks e =
+      by_test (same x y) (λ t. any-with_keys x l (with_key same ks y) (any-with_key x y ks t)) (λ f. any-distinct x l (with_key same ks y) (rw f at e))
+
   -- a key's place stays when keys are added
   place-append : (x : K) (l m : List K) → list_any (same x) l ≡ true → position_or_len (same x) (l ++ m) ≡ position_or_len (same x) l
   place-append x [] m e = absurd cc
@@ -104,10 +121,6 @@ module _ {K : Type 0} (same : K → K → Bool) (laws : IsEquivalence same) wher
       by_test (same x y)
       (λ t. absurd (cc (t, e)))
       (λ f. rw f (omega (arith, place-absent x ks m (rw f at e))))
-
-  any-last : (x y : K) (ks : List K) → same x y ≡ true → list_any (same x) (ks ++ y ∷ []) ≡ true
-  any-last x y [] t = rw t refl
-  any-last x y (k ∷ ks) t = rw (any-last x y ks t) (or_true (same x k))
 
   -- where x is not among the keys, it goes last and stays there
   place-added : (x y : K) (l ks : List K) → same x y ≡ true → list_any (same x) ks ≡ false → position_or_len (same x) (with_keys same (with_key same ks y) l) ≡ length ks

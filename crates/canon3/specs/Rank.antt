@@ -1,5 +1,5 @@
 -- Numbers by first appearance.
-use Rattle.std.specs.Prelude.{◌≡◌, ℕ, ◌+◌, Bool, List, [], ◌∷◌, ◌++◌, length, if◌then◌else◌}
+use Rattle.std.specs.Prelude.{◌≡◌, ℕ, ◌+◌, ◌-◌, ◌^◌, Bool, List, [], ◌∷◌, ◌++◌, length, if◌then◌else◌}
 use Rattle.std.specs.List.{list_any}
 use Rattle.canon3.specs.Pairing.{Member}
 
@@ -25,6 +25,14 @@ module _ {K : Type 0} (same : K → K → Bool) where
   -- 1 plus the number of distinct members before x's first place
   abbrev pub rank : K → List K → ℕ
   rank x l = 1 + length (distinct (before x l))
+
+  -- A table of numbers holds the distinct ones of the keys that were given.
+  abbrev pub StandsFor : List K → List K → Type 0
+  StandsFor table given = table ≡ distinct given
+
+-- the most that a number of a table may be
+abbrev pub number_limit : ℕ
+number_limit = 2 ^ 32 - 1
 
 -- no two of the list's members have one value
 abbrev pub IsInjectiveOn : {K L : Type 0} → (K → L) → List K → Type 0
