@@ -10,3 +10,6 @@ pub mod Following
 pub mod Prefixes
 pub mod Places
 pub mod Kept
+pub mod Rooms
+pub mod Items
+pub mod Messages

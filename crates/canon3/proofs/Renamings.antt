@@ -108,11 +108,11 @@ module _ (ps qs vs ws : Pairs (List ℕ)) where
 
 -- ---- what Same says, where a pair may be repeated
 
-all_mapped : {A B : Type 0} (P : A → Type 0) (Q : B → Type 0) (f : A → B) → ((x : A) → P x → Q (f x)) → (l : List A) → AllByRecursion P l → AllByRecursion Q (map f l)
+pub all_mapped : {A B : Type 0} (P : A → Type 0) (Q : B → Type 0) (f : A → B) → ((x : A) → P x → Q (f x)) → (l : List A) → AllByRecursion P l → AllByRecursion Q (map f l)
 all_mapped P Q f g [] h = tt
 all_mapped P Q f g (x ∷ l) h = (g x h.0, all_mapped P Q f g l h.1)
 
-all_weaker : {A : Type 0} (P Q : A → Type 0) → ((x : A) → P x → Q x) → (l : List A) → AllByRecursion P l → AllByRecursion Q l
+pub all_weaker : {A : Type 0} (P Q : A → Type 0) → ((x : A) → P x → Q x) → (l : List A) → AllByRecursion P l → AllByRecursion Q l
 all_weaker P Q g [] h = tt
 all_weaker P Q g (x ∷ l) h = (g x h.0, all_weaker P Q g l h.1)
 
