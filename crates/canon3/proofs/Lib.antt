@@ -13,3 +13,5 @@ pub mod Kept
 pub mod Rooms
 pub mod Items
 pub mod Messages
+pub mod Conversations
+pub mod Conversing
