@@ -54,7 +54,7 @@ conversing_weight streams calls replies c =
 
 -- ---- in streams of their own
 
-small_items : (replies : List ReplyItems) → AllByRecursion IsSpelledReply replies → AllByRecursion IsSmall (reply_items replies)
+pub small_items : (replies : List ReplyItems) → AllByRecursion IsSpelledReply replies → AllByRecursion IsSmall (reply_items replies)
 small_items replies h = all_mapped IsSpelledReply IsSmall items_of_reply (λ r p. p.1) replies h
 
 pub converses_anew : (c : Conversation) → AreConversing c → Converses (streams_of c) c.calls c.replies

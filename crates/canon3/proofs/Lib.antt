@@ -15,3 +15,5 @@ pub mod Items
 pub mod Messages
 pub mod Conversations
 pub mod Conversing
+pub mod Files
+pub mod InOrder
