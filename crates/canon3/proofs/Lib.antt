@@ -17,3 +17,4 @@ pub mod Conversations
 pub mod Conversing
 pub mod Files
 pub mod InOrder
+pub mod Closing
