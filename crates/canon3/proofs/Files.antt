@@ -15,6 +15,7 @@ use Rattle.capture3.specs.Typed.{reply_entry, connection_entries, HaveEntries, T
 use Rattle.canon3.specs.Values.{xid_of, call_xids, handles, verifiers}
 use Rattle.canon3.specs.Bytes.{message_bytes, entry_bytes, bytes_of}
 use Rattle.canon3.specs.Canonical.{numbered_message, numbered, canonical}
+use Rattle.canon3.specs.Laws.{AreOfTheirBytes}
 use Rattle.canon3.proofs.Renamings.{all_weaker}
 use Rattle.canon3.proofs.Conversations.{stream_of, chunks_of, IsSmall, is_stream, Conversation, items_of_reply, reply_items, IsSpelledCall, IsSpelledReply, AreConversing, weight, streams_of}
 use Rattle.canon3.proofs.Conversing.{conversing, conversing_weight, converses_anew, small_items, xids_of, length_of_xids, numbered_reply, numbered_conversation, conversing_numbered, weight_numbered}
@@ -199,6 +200,9 @@ module _ (hs vs : List (List ℕ)) where
   numbered-replies xs [] tail = refl
   numbered-replies xs (r ∷ replies) tail = ap (λ (l : List Entry). Reply r.id (numbered_message hs vs xs r.items) ∷ l) (numbered-replies xs replies tail)
 
+  abbrev pub numbered_all_conversations : List Conversation → List Conversation
+  numbered_all_conversations cs = map (numbered_conversation hs vs) cs
+
   pub numbered-all : (cs : List Conversation) (xs : List ℕ) → numbered hs vs xs (all_of cs) ≡ all_of (map (numbered_conversation hs vs) cs)
   numbered-all [] xs = refl
   numbered-all (c ∷ cs) xs =
@@ -235,10 +239,7 @@ module _ (hs vs : List (List ℕ)) where
   weight_of_numbered cs h = (all_numbered cs h.converse h.small).1
 
 -- the canonical form has the entries of its own bytes, in no more stream bytes
-abbrev pub IsFile : List Entry → ℕ → Type 0
-IsFile entries total = (typed : Typed (bytes_of entries) entries) × (total_size typed.connections ≤ total)
-
-pub canonical_is_file : (file : List ℕ) (all : List Entry) (typed : Typed file all) → IsFile (canonical all) (total_size typed.connections)
+pub canonical_is_file : (file : List ℕ) (all : List Entry) (typed : Typed file all) → AreOfTheirBytes (canonical all) (total_size typed.connections)
 canonical_is_file file all typed =
     let h = holds file all typed in
     let hs = handles all in
@@ -246,4 +247,4 @@ canonical_is_file file all typed =
     let ds = map (numbered_conversation hs vs) h.cs in
     let are = capture_numbered hs vs h.cs h.are in
     let e : canonical all ≡ all_of ds = ap (numbered hs vs []) h.is ∙ numbered-all hs vs h.cs [] in
-    subst (λ l. IsFile l (total_size typed.connections)) (sym e) (typed_anew ds are, omega (arith, total_of_anew ds are, weight_of_numbered hs vs h.cs h.are, h.light))
+    subst (λ l. AreOfTheirBytes l (total_size typed.connections)) (sym e) (typed_anew ds are, omega (arith, total_of_anew ds are, weight_of_numbered hs vs h.cs h.are, h.light))

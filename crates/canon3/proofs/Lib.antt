@@ -18,3 +18,4 @@ pub mod Conversing
 pub mod Files
 pub mod InOrder
 pub mod Closing
+pub mod First

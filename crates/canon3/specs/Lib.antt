@@ -7,3 +7,4 @@ pub mod Canonical
 pub mod Bytes
 pub mod Following
 pub mod Parting
+pub mod Laws
