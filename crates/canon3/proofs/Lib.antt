@@ -19,3 +19,4 @@ pub mod Files
 pub mod InOrder
 pub mod Closing
 pub mod First
+pub mod Checks

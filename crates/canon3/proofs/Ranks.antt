@@ -187,12 +187,12 @@ module _ {K : Type 0} (same : K → K → Bool) (decides : (x y : K) → Decides
   any-member {x = x} here = rw (itself x) refl
   any-member {x = x} (there {y = y} m) = rw (any-member m) (or_true (same x y))
 
-  member-any : (x : K) (l : List K) → list_any (same x) l ≡ true → Member x l
-  member-any x [] e = absurd cc
-  member-any x (y ∷ l) e =
+  pub member_of_test : (x : K) (l : List K) → list_any (same x) l ≡ true → Member x l
+  member_of_test x [] e = absurd cc
+  member_of_test x (y ∷ l) e =
       by_test (same x y)
       (λ t. subst (λ z. Member x (z ∷ l)) ((decides x y).0 t) here)
-      (λ f. there (member-any x l (rw f at e)))
+      (λ f. there (member_of_test x l (rw f at e)))
 
   member-with_key : {x : K} {ks : List K} (k : K) → Member x ks → Member x (with_key same ks k)
   member-with_key {x = x} {ks = ks} k h = cond_either (Member x) (list_any (same k) ks) h (member-append_left (k ∷ []) h)
@@ -209,7 +209,7 @@ module _ {K : Type 0} (same : K → K → Bool) (decides : (x y : K) → Decides
       (λ s. by_test (same y k) (λ t. absurd (omega (arith, rw (s, t) at e))) (λ t. same_place x y ks (member-tail s m) (member-tail t n) (omega (arith, rw (s, t) at e))))
 
   member-with_key_itself : (x : K) (ks : List K) → Member x (with_key same ks x)
-  member-with_key_itself x ks = by_test (list_any (same x) ks) (λ t. rw t (member-any x ks t)) (λ f. rw f (member-append_right ks here))
+  member-with_key_itself x ks = by_test (list_any (same x) ks) (λ t. rw t (member_of_test x ks t)) (λ f. rw f (member-append_right ks here))
 
   member-with_keys_left : {x : K} (l ks : List K) → Member x ks → Member x (with_keys same ks l)
   member-with_keys_left [] ks h = h

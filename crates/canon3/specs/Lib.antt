@@ -8,3 +8,4 @@ pub mod Bytes
 pub mod Following
 pub mod Parting
 pub mod Laws
+pub mod Examples

@@ -1,6 +1,7 @@
 //! Counts of a capture, what it is up to renaming, and where its canonical form is written to.
 #![tactic(auto)]
 
+pub mod examples;
 pub mod laws;
 mod numbers;
 mod plan;
