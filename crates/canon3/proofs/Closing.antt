@@ -187,10 +187,14 @@ reply_bytes r s = message_are_bytes r.items (spellings_are_bytes r.items (zero_s
 entries_have_bytes : (cs : List Conversation) → AllByRecursion AreConversing cs → AllByRecursion HasBytes (all_of cs)
 entries_have_bytes [] h = (word_are_bytes 0, tt)
 entries_have_bytes (c ∷ cs) h =
-    subst (AllByRecursion HasBytes) (sym (all_regrouped c cs))
-    (word_are_bytes 1, all_append HasBytes (map Call c.calls) (Turn ∷ (map reply_entry c.replies ++ (Close ∷ all_of cs))) (all_mapped IsSpelledCall HasBytes Call call_bytes c.calls h.0.calls_are)
-    (word_are_bytes 0, all_append HasBytes (map reply_entry c.replies) (Close ∷ all_of cs) (all_mapped IsSpelledReply HasBytes reply_entry reply_bytes c.replies h.0.replies_are)
-    (word_are_bytes 0, entries_have_bytes cs h.1)))
+    subst (AllByRecursion HasBytes) (sym (all_regrouped c cs)) (
+      word_are_bytes 1,
+      all_append HasBytes (map Call c.calls) (Turn ∷ (map reply_entry c.replies ++ (Close ∷ all_of cs))) (all_mapped IsSpelledCall HasBytes Call call_bytes c.calls h.0.calls_are) (
+        word_are_bytes 0,
+        all_append HasBytes (map reply_entry c.replies) (Close ∷ all_of cs) (all_mapped IsSpelledReply HasBytes reply_entry reply_bytes c.replies h.0.replies_are)
+            (word_are_bytes 0, entries_have_bytes cs h.1),
+      ),
+    )
 
 joined_are_bytes : (es : List Entry) → AllByRecursion HasBytes es → AreBytes (flat_map entry_bytes es)
 joined_are_bytes [] h = AreBytes-nil

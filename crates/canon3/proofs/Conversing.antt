@@ -155,7 +155,7 @@ module _ (hs vs : List (List ℕ)) where
         let b = begins_in c h a.0 a.1 in
         let s = of_all IsSpelledReply c.replies r h.replies_are p.1 in
         let xid : xid_in (under a.0) ≡ xid_in reply.items =
-            xid_numbered hs vs xs a.0 b ∙ (ap (λ x. rank nat_eq x xs) a.2 ∙ (sym (xid_numbered hs vs xs r.items (reply_begins r.id r.items s.0.0)) ∙ sym (ap (λ (k : ReplyItems). xid_in k.items) p.2))) in
+        xid_numbered hs vs xs a.0 b ∙ (ap (λ x. rank nat_eq x xs) a.2 ∙ (sym (xid_numbered hs vs xs r.items (reply_begins r.id r.items s.0.0)) ∙ sym (ap (λ (k : ReplyItems). xid_in k.items) p.2))) in
         (under a.0, map_in under c.calls a.0 a.1, xid, procedure_numbered hs vs xs a.0 b ∙ (a.3 ∙ sym (ap (λ (k : ReplyItems). k.id) p.2)))
 
     pub conversing_numbered : AreConversing (numbered_conversation c)

@@ -41,7 +41,7 @@ runs_replies (m ∷ replies) tail xs h r = steps (reply m.items h.0) (runs_repli
 reply_answers : (c : Conversation) → AreConversing c → (r : ReplyItems) → IsIn r c.replies → IsAnswering (xids_of c.calls) r.items
 reply_answers c h r i = answering (xids_of c.calls) r.items (reply_begins r.id r.items (of_all IsSpelledReply c.replies r h.replies_are i).0.0) (reply_known c h r i)
 
-runs_all : (cs : List Conversation) → AllByRecursion AreConversing cs → Runs Between (all_of cs) Over
+pub runs_all : (cs : List Conversation) → AllByRecursion AreConversing cs → Runs Between (all_of cs) Over
 runs_all [] h = steps end stays
 runs_all (c ∷ cs) h =
     subst (λ l. Runs Between l Over) (sym (all_regrouped c cs))

@@ -20,3 +20,4 @@ pub mod InOrder
 pub mod Closing
 pub mod First
 pub mod Checks
+pub mod Ends

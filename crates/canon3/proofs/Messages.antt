@@ -173,10 +173,12 @@ module _ (name : List ℕ) (s t : Shape) (next : List Item → Layout) where
 
   pub headed_short : (items : List Item) → HasRoom s → HasRoom t → ((l : List Item) → LayoutHasRoom (next l)) → IsHeaded items → AllByRecursion IsShort items
   headed_short items s_room t_room rooms h =
-      subst (AllByRecursion IsShort) (sym h.is)
-      (tt, all_append IsShort (h.start ++ h.head) h.back
-      (all_append IsShort h.start h.head (handles_short s h.start s_room h.start_fits) (handles_short t h.head t_room h.head_fits))
-      (layout_short (next (Word name h.number ∷ (h.start ++ h.head))) h.back (rooms (Word name h.number ∷ (h.start ++ h.head))) h.back_fits))
+      subst (AllByRecursion IsShort) (sym h.is) (
+        tt,
+        all_append IsShort (h.start ++ h.head) h.back
+            (all_append IsShort h.start h.head (handles_short s h.start s_room h.start_fits) (handles_short t h.head t_room h.head_fits))
+            (layout_short (next (Word name h.number ∷ (h.start ++ h.head))) h.back (rooms (Word name h.number ∷ (h.start ++ h.head))) h.back_fits),
+      )
 
 -- ---- calls and replies
 

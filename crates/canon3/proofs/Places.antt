@@ -9,14 +9,14 @@ use Rattle.capture3.specs.declared.fault.Side.TheVariants.{Client, Server}
 use Rattle.capture3.specs.declared.fault.Place.{Place}
 use Rattle.canon3.specs.Parting.{IsPlaceOf, first_message, second_message, first_ends, second_ends}
 
-abbrev AreAlike : Stage → Stage → Type 0
+abbrev pub AreAlike : Stage → Stage → Type 0
 AreAlike Between Between = ⊤
 AreAlike (InCalls xs) (InCalls ys) = ⊤
 AreAlike (InReplies xs) (InReplies ys) = ⊤
 AreAlike Over Over = ⊤
 AreAlike _ _ = ⊥
 
-stages_alike : {ps vs : Pairs (List ℕ)} {xs : Pairs ℕ} {xss : List (Pairs ℕ)} {a b : List Entry} → Renames ps vs xs xss a b → (s t u v : Stage) → Runs s a u → Runs t b v → AreAlike s t → AreAlike u v
+pub stages_alike : {ps vs : Pairs (List ℕ)} {xs : Pairs ℕ} {xss : List (Pairs ℕ)} {a b : List Entry} → Renames ps vs xs xss a b → (s t u v : Stage) → Runs s a u → Runs t b v → AreAlike s t → AreAlike u v
 stages_alike ended s t u v stays stays k = k
 stages_alike (begins r) s t u v (steps begin p) (steps begin q) k = stages_alike r _ _ u v p q tt
 stages_alike (calls m r) s t u v (steps (call i f) p) (steps (call j g) q) k = stages_alike r _ _ u v p q tt

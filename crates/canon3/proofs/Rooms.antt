@@ -42,4 +42,3 @@ LayoutHasRoom (exactly shape) = HasRoom shape
 LayoutHasRoom (rest name) = ⊤
 LayoutHasRoom (after shape next) =
     HasRoom shape × ((items : List Item) → LayoutHasRoom (next items)) × ((hs vs : List (List ℕ)) (items : List Item) → next (map (numbered_item hs vs) items) ≡ next items)
-

@@ -1,5 +1,5 @@
 -- What the laws say of captures.
-use Rattle.std.specs.Prelude.{◌≡◌, ◌≢◌, ◌≤◌, ◌↔◌, ◌+◌, ◌⊎◌, ℕ, List, ◌++◌, take, slice_get, Some}
+use Rattle.std.specs.Prelude.{◌≡◌, ◌≢◌, ◌≤◌, ◌↔◌, ◌+◌, ◌⊎◌, ℕ, List, ◌++◌, take, slice_get, Some, None}
 use Rattle.xdr3.specs.Item.{Item}
 use Rattle.xdr3.specs.Layout.{FitsLayout}
 use Rattle.rpc_head.specs.declared.call.ProcId.{ProcId}
@@ -39,6 +39,10 @@ abbrev pub HavePlaces : List Entry → List Entry → Type 0
 HavePlaces a b =
     (i : ℕ) (e f : Entry) → Same (take i a) (take i b) → slice_get a i ≡ Some e → slice_get b i ≡ Some f
     → (e ≡ f) ⊎ ((place : Place) × IsPlaceOf (take i a) (Some e) (Some f) place)
+
+-- two captures that are the same up to entry i end both there, or neither
+abbrev pub EndTogether : List Entry → List Entry → Type 0
+EndTogether a b = (i : ℕ) → Same (take i a) (take i b) → slice_get a i ≡ None ↔ slice_get b i ≡ None
 
 -- a call under numbers has the layout of a call, and asks for the same procedure
 abbrev pub CallStaysACall : (hs vs : List (List ℕ)) (xs : List ℕ) → List Item → Type 0

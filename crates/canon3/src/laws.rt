@@ -13,7 +13,7 @@ ghost use Rattle.canon3.specs.Renaming.{Pairwise, Same};
 ghost use Rattle.canon3.specs.Canonical.{canonical};
 ghost use Rattle.canon3.specs.Following.{entries_after};
 ghost use Rattle.canon3.specs.Bytes.{bytes_of};
-ghost use Rattle.canon3.specs.Laws.{AreFirst, AreOfTheirBytes, CallStaysACall, FrontsAreDecided, HavePlaces, PartWhereFormsDo, ReplyStaysAReply};
+ghost use Rattle.canon3.specs.Laws.{AreFirst, AreOfTheirBytes, CallStaysACall, EndTogether, FrontsAreDecided, HavePlaces, PartWhereFormsDo, ReplyStaysAReply};
 
 /// Ranks are blind to one-to-one renaming.
 pub fn ranks_are_blind()
@@ -75,4 +75,5 @@ pub fn comparison_finds_the_parting()
     ensures fronts { (a b : List Entry) → AreFirst a → AreFirst b → FrontsAreDecided a b }
     ensures parts { (a b : List Entry) → AreFirst a → AreFirst b → PartWhereFormsDo a b }
     ensures places { (a b : List Entry) → AreFirst a → AreFirst b → HavePlaces a b }
+    ensures ends { (file other : List ℕ) (a b : List Entry) → Typed file a → Typed other b → EndTogether a b }
 {}

@@ -3,8 +3,8 @@ ghost use Rattle.std.specs.Io.KnownBytes.{WriteAppends, Keeps};
 ghost use Rattle.capture3.specs.Device.{Counts};
 ghost use Rattle.capture3.specs.Memory.{MemoryWritten};
 
-use capture3::DeviceFailed;
 use crate::plan::FaultPlan;
+use capture3::DeviceFailed;
 use std::alloc::{AllocError, Global};
 use std::io::Write;
 use std::marker::Model;
@@ -38,14 +38,19 @@ pub struct ToWrite<W> {
 }
 
 impl<W: Write> ToWrite<W> {
-    pub fn new(writer: W) -> ToWrite<W> {
+    pub fn new(writer: W) -> ToWrite<W>
+        ensures writer { result.writer ≡ writer }
+        ensures count { result.failures ≡ 0 }
+    {
         ToWrite {
             writer,
             failures: 0,
         }
     }
 
-    pub fn inner(&self) -> &W {
+    pub fn inner(&self) -> &W
+        ensures { result.now ≡ self.now.writer }
+    {
         &self.writer
     }
 }
