@@ -30,7 +30,7 @@ is_over Between k = absurd k
 is_over (InCalls xs) k = absurd k
 is_over (InReplies xs) k = absurd k
 
-past : (l : List Entry) (i : ℕ) → slice_get l i ≡ None → length l ≤ i
+pub past : (l : List Entry) (i : ℕ) → slice_get l i ≡ None → length l ≤ i
 past l i e =
     elim (cases_lt i (length l)) [
       | inl lt ↦ let f : slice_get l i ≡ Some (get_or l i End) = slice_get-get_or l i End lt in absurd (cc)

@@ -63,7 +63,7 @@ module _ (a b : List Entry) (f : AreFirst a) (g : AreFirst b) where
   w : IsWellFormed b
   w = first_in_order b g
 
-  forms_of_fronts : (i : ℕ) → bytes_of (take i (canonical a)) ≡ bytes_of (take i (canonical b)) → take i (canonical a) ≡ take i (canonical b)
+  pub forms_of_fronts : (i : ℕ) → bytes_of (take i (canonical a)) ≡ bytes_of (take i (canonical b)) → take i (canonical a) ≡ take i (canonical b)
   forms_of_fronts i e =
       sym (canonical-take i a v) ∙ (forms_from_bytes (take i a) (take i b) (first_taken i a f) (first_taken i b g) (ap bytes_of (canonical-take i a v) ∙ (e ∙ ap bytes_of (sym (canonical-take i b w)))) ∙ canonical-take i b w)
 

@@ -21,3 +21,4 @@ pub mod Closing
 pub mod First
 pub mod Checks
 pub mod Ends
+pub mod Parted

@@ -42,13 +42,13 @@ place_of before s t e f u v turn turn k = inl refl
 place_of before s t e f u v close close k = inl refl
 place_of before s t e f u v p q k = absurd k
 
-record At (s : Stage) (es : List Entry) (i : ℕ) (e : Entry) : Type 0 where
-  here_stage : Stage
-  next_stage : Stage
-  front : Runs s (take i es) here_stage
-  step : Steps here_stage e next_stage
+pub record At (s : Stage) (es : List Entry) (i : ℕ) (e : Entry) : Type 0 where
+  pub here_stage : Stage
+  pub next_stage : Stage
+  pub front : Runs s (take i es) here_stage
+  pub step : Steps here_stage e next_stage
 
-stage_at : {s t : Stage} {es : List Entry} → Runs s es t → (i : ℕ) (e : Entry) → slice_get es i ≡ Some e → At s es i e
+pub stage_at : {s t : Stage} {es : List Entry} → Runs s es t → (i : ℕ) (e : Entry) → slice_get es i ≡ Some e → At s es i e
 stage_at stays i e h = absurd cc
 stage_at {s = s} (steps {t = t} p r) zero e h = record { here_stage = s; next_stage = t; front = stays; step = subst (λ x. Steps s x t) (cc) p }
 stage_at (steps p r) (suc i) e h = let a = stage_at r i e h in record { here_stage = a.here_stage; next_stage = a.next_stage; front = steps p a.front; step = a.step }

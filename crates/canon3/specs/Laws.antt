@@ -12,7 +12,7 @@ use Rattle.capture3.specs.declared.fault.Place.{Place}
 use Rattle.canon3.specs.Bytes.{bytes_of}
 use Rattle.canon3.specs.Canonical.{canonical, numbered_message}
 use Rattle.canon3.specs.Renaming.{Same}
-use Rattle.canon3.specs.Parting.{PartsAt, IsPlaceOf}
+use Rattle.canon3.specs.Parting.{Parting, PartsAt, IsPlaceOf}
 
 -- the first entries of a well-formed file, none, some or all
 pub record AreFirst (entries : List Entry) : Type 0 where
@@ -43,6 +43,14 @@ HavePlaces a b =
 -- two captures that are the same up to entry i end both there, or neither
 abbrev pub EndTogether : List Entry → List Entry → Type 0
 EndTogether a b = (i : ℕ) → Same (take i a) (take i b) → slice_get a i ≡ None ↔ slice_get b i ≡ None
+
+-- where two captures are not the same, they part at a place
+abbrev pub PartSomewhere : List Entry → List Entry → Type 0
+PartSomewhere a b = (Same a b → ⊥) → (place : Place) × Parting a b place
+
+-- they part at one place
+abbrev pub PartOnce : List Entry → List Entry → Type 0
+PartOnce a b = (p q : Place) → Parting a b p → Parting a b q → p ≡ q
 
 -- a call under numbers has the layout of a call, and asks for the same procedure
 abbrev pub CallStaysACall : (hs vs : List (List ℕ)) (xs : List ℕ) → List Item → Type 0

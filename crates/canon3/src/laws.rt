@@ -13,7 +13,7 @@ ghost use Rattle.canon3.specs.Renaming.{Pairwise, Same};
 ghost use Rattle.canon3.specs.Canonical.{canonical};
 ghost use Rattle.canon3.specs.Following.{entries_after};
 ghost use Rattle.canon3.specs.Bytes.{bytes_of};
-ghost use Rattle.canon3.specs.Laws.{AreFirst, AreOfTheirBytes, CallStaysACall, EndTogether, FrontsAreDecided, HavePlaces, PartWhereFormsDo, ReplyStaysAReply};
+ghost use Rattle.canon3.specs.Laws.{AreFirst, AreOfTheirBytes, CallStaysACall, EndTogether, FrontsAreDecided, HavePlaces, PartOnce, PartSomewhere, PartWhereFormsDo, ReplyStaysAReply};
 
 /// Ranks are blind to one-to-one renaming.
 pub fn ranks_are_blind()
@@ -26,6 +26,12 @@ pub fn tables_number_by_rank()
     ensures number { (x : List ℕ) (l : List (List ℕ)) → rank bytes_eq x (l ++ x ∷ []) ≡ 1 + position_or_len (bytes_eq x) (distinct bytes_eq l) }
     ensures added { (x : List ℕ) (l : List (List ℕ)) → distinct bytes_eq (l ++ x ∷ []) ≡ with_key bytes_eq (distinct bytes_eq l) x }
     ensures later { (x : List ℕ) (l m : List (List ℕ)) → Member x l → rank bytes_eq x (l ++ m) ≡ rank bytes_eq x l }
+{}
+
+/// Two captures that are not the same part at one place.
+pub fn captures_part_at_one_place()
+    ensures some { (file other : List ℕ) (a b : List Entry) → Typed file a → Typed other b → PartSomewhere a b }
+    ensures one { (a b : List Entry) → AreFirst a → AreFirst b → PartOnce a b }
 {}
 
 /// Messages under numbers keep their layouts and their procedures.
