@@ -1,25 +1,21 @@
 -- The first entries of a capture are told apart by their bytes: words 0 make a file of them.
-use Rattle.std.proofs.Common.{◌≡◌, ◌⊎◌, inl, inr, ⊎_elim, ℕ, zero, suc, ◌+◌, ◌^◌, ◌<◌, ◌≤◌, List, [], ◌∷◌, ◌++◌, length, map, refl, sym, ap, ap₂, ◌∙◌, subst, arith, length-append, append_assoc, append-nil, Ok, Err}
-use Rattle.std.specs.Prelude.{⊤}
+use Rattle.std.proofs.Common.{◌≡◌, ◌⊎◌, inl, inr, ⊎_elim, ℕ, zero, suc, ◌+◌, ◌^◌, ◌<◌, ◌≤◌, List, [], ◌∷◌, ◌++◌, length, map, refl, sym, ap, ap₂, ◌∙◌, subst, arith, length-append, append_assoc}
 use Rattle.std.specs.List.{AllByRecursion, flat_map}
 use Rattle.std.proofs.lemmas.Bool.{cases_lt}
 use Rattle.std.proofs.lemmas.List.{map-append, append_cancel_right}
 use Rattle.std.proofs.lemmas.List.Concat.{flat_map-append}
 use Rattle.xdr3.specs.Item.{Item, AreBytes, word_bytes, zero_spelling}
-use Rattle.rpc_head.specs.Messages.{procedure_in}
-use Rattle.capture3.specs.Bodies.{ReplyItems, xid_in}
-use Rattle.capture3.specs.Capture.{One, magic, max_connections}
-use Rattle.capture3.specs.Chunks.{max_bytes}
-use Rattle.capture3.specs.Entry.{Entry, Begin, Call, Turn, Reply, Close, End}
-use Rattle.capture3.specs.Parsing.{verdict}
-use Rattle.capture3.specs.Typed.{IsIn, HaveOneProcedure, AnswerCalls, reply_entry, connection_entries, Typed}
+use Rattle.capture3.specs.Bodies.{ReplyItems}
+use Rattle.capture3.specs.Capture.{One, magic}
+use Rattle.capture3.specs.Entry.{Entry, Begin, Call, Turn, Close, End}
+use Rattle.capture3.specs.Typed.{IsIn, reply_entry, Typed}
 use Rattle.capture3.proofs.BytesOf.{AreBytes-nil, AreBytes-append, AreBytes-front, all_bytes, checked}
 use Rattle.capture3.proofs.Verdicts.{verdict_from_typed, verdict_from_fault, is_cut_short}
 use Rattle.canon3.specs.Bytes.{record_bytes, message_bytes, entry_bytes, bytes_of}
-use Rattle.canon3.proofs.Renamings.{all_weaker, all_mapped}
+use Rattle.canon3.proofs.Renamings.{all_mapped}
 use Rattle.canon3.proofs.Items.{all_append, are_bytes_of_number, spellings_are_bytes}
-use Rattle.canon3.proofs.Conversations.{stream_of, Conversation, reply_items, items_of_reply, IsSpelledCall, IsSpelledReply, AreConversing, weight}
-use Rattle.canon3.proofs.Files.{entries_of, all_of, total_weight, AreCapture, all_regrouped, typed_anew}
+use Rattle.canon3.proofs.Conversations.{stream_of, Conversation, reply_items, items_of_reply, IsSpelledCall, IsSpelledReply, AreConversing}
+use Rattle.canon3.proofs.Files.{all_of, total_weight, AreCapture, all_regrouped, typed_anew}
 
 -- ---- fronts of joined lists
 

@@ -1,22 +1,18 @@
 -- The messages of connections, apart from the streams that carry them.
-use Rattle.std.proofs.Common.{◌≡◌, ℕ, zero, suc, ◌+◌, ◌<◌, ◌≤◌, ◌^◌, false, List, [], ◌∷◌, ◌++◌, length, map, refl, sym, ap, ap₂, ◌∙◌, subst, arith, length-append}
-use Rattle.std.specs.Prelude.{⊤}
+use Rattle.std.proofs.Common.{◌≡◌, ℕ, ◌+◌, ◌≤◌, ◌^◌, false, List, [], ◌∷◌, ◌++◌, length, map, refl, sym, ap, ◌∙◌, subst, arith, length-append}
 use Rattle.std.specs.List.{AllByRecursion, flat_map, concat}
 use Rattle.std.proofs.lemmas.List.{map-append}
 use Rattle.byteorder.specs.Numbers.{length-bytes_high_first}
-use Rattle.xdr3.specs.Item.{Item, Word, Spells, word_bytes, zero_spelling}
+use Rattle.xdr3.specs.Item.{Item, Spells, word_bytes, zero_spelling}
 use Rattle.xdr3.proofs.Items.{length_of_spelling}
 use Rattle.record_mark.specs.RecordMark.{max_body, IsFragment, IsRecord, Marks}
-use Rattle.record_mark.specs.Word.{IsWord, Joins}
+use Rattle.record_mark.specs.Word.{Joins}
 use Rattle.record_mark.proofs.Steps.{IsWord-big_bytes, heads, one_fragment}
-use Rattle.rpc_head.specs.Messages.{procedure_in}
-use Rattle.capture3.specs.Bodies.{ReplyItems, IsCall, IsReply, xid_in}
-use Rattle.capture3.specs.Capture.{Streams, size}
-use Rattle.capture3.specs.Chunks.{IsChunk, AreChunks, IsStream}
-use Rattle.capture3.specs.Typed.{AreEach, IsIn, HaveOneProcedure, AnswerCalls, Converses}
+use Rattle.capture3.specs.Bodies.{ReplyItems, IsCall, IsReply}
+use Rattle.capture3.specs.Capture.{Streams}
+use Rattle.capture3.specs.Chunks.{IsChunk, IsStream}
+use Rattle.capture3.specs.Typed.{AreEach, IsIn, HaveOneProcedure, AnswerCalls}
 use Rattle.canon3.specs.Bytes.{record_bytes, chunk_bytes, message_bytes}
-use Rattle.canon3.proofs.Messages.{FitsCall, FitsReply}
-use Rattle.canon3.proofs.Items.{all_append}
 
 -- ---- lists
 

@@ -1,14 +1,12 @@
 -- Messages of connections: from their streams, in streams of their own, and under numbers.
-use Rattle.std.proofs.Common.{◌≡◌, ℕ, zero, suc, ◌+◌, ◌<◌, ◌≤◌, ◌^◌, List, [], ◌∷◌, ◌++◌, length, map, refl, sym, ap, ap₂, ◌∙◌, subst, arith, length-append, append_assoc}
-use Rattle.std.specs.Prelude.{⊤, nat_eq}
+use Rattle.std.proofs.Common.{◌≡◌, ℕ, ◌<◌, ◌≤◌, ◌^◌, List, [], ◌∷◌, length, map, refl, sym, ap, ◌∙◌, subst, arith, length-append}
+use Rattle.std.specs.Prelude.{nat_eq}
 use Rattle.std.specs.List.{AllByRecursion, flat_map}
-use Rattle.std.proofs.lemmas.List.{map-append}
 use Rattle.std.proofs.lemmas.List.Concat.{flat_map-append}
 use Rattle.std.proofs.lemmas.Bool.Decides.{Decides-eqb}
 use Rattle.xdr3.specs.Item.{Item, Word, Spells, zero_spelling}
 use Rattle.xdr3.proofs.Items.{length_of_spelling}
 use Rattle.xdr3.proofs.Decided.{zero_spelled_all}
-use Rattle.record_mark.specs.RecordMark.{max_body}
 use Rattle.rpc_head.specs.Messages.{procedure_in}
 use Rattle.capture3.specs.Bodies.{ReplyItems, IsCall, IsReply, xid_in}
 use Rattle.capture3.specs.Capture.{Streams, size}
@@ -21,7 +19,7 @@ use Rattle.canon3.specs.Canonical.{numbered_message}
 use Rattle.canon3.proofs.Ranks.{member-append_left, member-append_right, same_rank}
 use Rattle.canon3.proofs.Renamings.{all_mapped, all_weaker}
 use Rattle.canon3.proofs.Messages.{BeginsWithWord, call_begins, reply_begins, call_numbered, reply_numbered, xid_numbered, procedure_numbered, message_spelled, message_shorter}
-use Rattle.canon3.proofs.Conversations.{in_later, all_in, of_all, in_map, map_in, stream_of, IsSmall, length_of_record, marks_of, HasBody, each_has_body, each_size, each_from, Conversation, items_of_reply, reply_items, itself, IsSpelledCall, IsSpelledReply, AreConversing, weight, streams_of}
+use Rattle.canon3.proofs.Conversations.{all_in, of_all, in_map, map_in, stream_of, IsSmall, length_of_record, marks_of, HasBody, each_has_body, each_size, each_from, Conversation, items_of_reply, reply_items, itself, IsSpelledCall, IsSpelledReply, AreConversing, weight, streams_of}
 
 -- ---- from streams
 

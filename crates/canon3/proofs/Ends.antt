@@ -1,6 +1,6 @@
 -- Two complete captures that are the same so far end together.
-use Rattle.std.proofs.Common.{◌≡◌, ◌↔◌, ℕ, ◌≤◌, List, [], ◌∷◌, ◌++◌, length, take, drop, None, Some, refl, sym, ap, ◌∙◌, subst, arith, take-append-drop, inl, inr, length-append}
-use Rattle.std.specs.Prelude.{⊤, slice_get, get_or}
+use Rattle.std.proofs.Common.{◌≡◌, ◌↔◌, ℕ, ◌≤◌, List, [], ◌∷◌, ◌++◌, length, take, drop, None, Some, refl, sym, ap, subst, arith, take-append-drop, inl, inr}
+use Rattle.std.specs.Prelude.{slice_get, get_or}
 use Rattle.std.proofs.lemmas.Bool.{cases_lt}
 use Rattle.std.proofs.lemmas.List.{take_all, length-drop}
 use Rattle.std.proofs.lemmas.Option.{slice_get_past, slice_get-get_or}
@@ -10,7 +10,7 @@ use Rattle.canon3.specs.Renaming.{Same}
 use Rattle.canon3.proofs.Order.{Stage, Between, InCalls, InReplies, Over, Runs, stays, steps}
 use Rattle.canon3.proofs.Equality.{same_symmetric}
 use Rattle.canon3.proofs.Places.{AreAlike, stages_alike}
-use Rattle.canon3.proofs.Files.{all_of, holds}
+use Rattle.canon3.proofs.Files.{holds}
 use Rattle.canon3.proofs.InOrder.{runs_all}
 
 typed_runs : (file : List ℕ) (all : List Entry) → Typed file all → Runs Between all Over

@@ -1,23 +1,22 @@
 -- Files from the messages of their connections.
-use Rattle.std.proofs.Common.{◌≡◌, ℕ, zero, suc, ◌+◌, ◌<◌, ◌≤◌, ◌^◌, List, [], ◌∷◌, ◌++◌, length, map, refl, sym, ap, ap₂, ◌∙◌, subst, arith, length-append, append_assoc, append-nil}
-use Rattle.std.specs.Prelude.{⊤, nat_eq}
+use Rattle.std.proofs.Common.{◌≡◌, ℕ, suc, ◌+◌, ◌<◌, ◌≤◌, ◌^◌, List, [], ◌∷◌, ◌++◌, length, map, refl, sym, ap, ap₂, ◌∙◌, subst, arith, append_assoc, append-nil}
 use Rattle.std.specs.List.{AllByRecursion, flat_map}
 use Rattle.std.proofs.lemmas.List.Concat.{flat_map-append}
 use Rattle.std.proofs.lemmas.List.Folds.{flat_map-map}
-use Rattle.xdr3.specs.Item.{Item, Word, word_bytes, zero_spelling}
-use Rattle.record_mark.specs.Word.{IsWord, Joins}
+use Rattle.xdr3.specs.Item.{Item, word_bytes}
+use Rattle.record_mark.specs.Word.{Joins}
 use Rattle.record_mark.proofs.Steps.{IsWord-big_bytes}
 use Rattle.capture3.specs.Bodies.{ReplyItems}
-use Rattle.capture3.specs.Capture.{Version, One, magic, max_connections, Streams, size, total_size, IsConnection, IsCapture}
+use Rattle.capture3.specs.Capture.{One, magic, max_connections, Streams, total_size, IsConnection}
 use Rattle.capture3.specs.Chunks.{max_bytes}
 use Rattle.capture3.specs.Entry.{Entry, Begin, Call, Turn, Reply, Close, End}
-use Rattle.capture3.specs.Typed.{reply_entry, connection_entries, HaveEntries, Typed, Converses}
+use Rattle.capture3.specs.Typed.{reply_entry, connection_entries, HaveEntries, Typed}
 use Rattle.canon3.specs.Values.{xid_of, call_xids, handles, verifiers}
 use Rattle.canon3.specs.Bytes.{message_bytes, entry_bytes, bytes_of}
 use Rattle.canon3.specs.Canonical.{numbered_message, numbered, canonical}
 use Rattle.canon3.specs.Laws.{AreOfTheirBytes}
 use Rattle.canon3.proofs.Renamings.{all_weaker}
-use Rattle.canon3.proofs.Conversations.{stream_of, chunks_of, IsSmall, is_stream, Conversation, items_of_reply, reply_items, IsSpelledCall, IsSpelledReply, AreConversing, weight, streams_of}
+use Rattle.canon3.proofs.Conversations.{chunks_of, IsSmall, is_stream, Conversation, items_of_reply, reply_items, IsSpelledCall, AreConversing, weight, streams_of}
 use Rattle.canon3.proofs.Conversing.{conversing, conversing_weight, converses_anew, small_items, xids_of, length_of_xids, numbered_reply, numbered_conversation, conversing_numbered, weight_numbered}
 
 -- ---- the entries of conversations

@@ -1,8 +1,7 @@
 -- What the first entries of a well-formed file are.
-use Rattle.std.proofs.Common.{◌≡◌, ◌≢◌, ◌↔◌, ℕ, ◌+◌, List, [], ◌∷◌, ◌++◌, length, take, drop, refl, sym, ap, ◌∙◌, subst, take-append-drop, append_assoc}
+use Rattle.std.proofs.Common.{◌≡◌, ◌≢◌, ◌↔◌, ℕ, ◌+◌, List, [], ◌++◌, length, take, drop, refl, sym, ap, ◌∙◌, subst, take-append-drop, append_assoc}
 use Rattle.std.proofs.lemmas.List.{take_at}
 use Rattle.capture3.specs.Entry.{Entry}
-use Rattle.capture3.specs.Typed.{Typed}
 use Rattle.canon3.specs.Bytes.{bytes_of}
 use Rattle.canon3.specs.Canonical.{canonical, numbered}
 use Rattle.canon3.specs.Values.{handles, verifiers}
@@ -11,7 +10,6 @@ use Rattle.canon3.specs.Parting.{PartsAt}
 use Rattle.canon3.specs.Laws.{AreFirst}
 use Rattle.canon3.proofs.Order.{IsWellFormed}
 use Rattle.canon3.proofs.Equality.{same_from_canonical}
-use Rattle.canon3.proofs.Numbering.{canonical-same}
 use Rattle.canon3.proofs.Prefixes.{IsWellFormed-take, canonical-take, same_front, parts_from_first_difference}
 use Rattle.canon3.proofs.Files.{all_of, holds, numbered-all, numbered_all_conversations, capture_numbered}
 use Rattle.canon3.proofs.InOrder.{typed_in_order}

@@ -1,16 +1,14 @@
 -- The entries of a well-formed file are in order, and their handles and write verifiers fit.
-use Rattle.std.proofs.Common.{◌≡◌, ℕ, zero, suc, ◌+◌, ◌<◌, ◌≤◌, ◌^◌, List, [], ◌∷◌, ◌++◌, length, map, refl, sym, ap, ◌∙◌, subst, arith, length-append, append_assoc, append-nil, ⊎_elim}
-use Rattle.std.specs.Prelude.{⊤}
+use Rattle.std.proofs.Common.{ℕ, ◌≤◌, List, [], ◌∷◌, ◌++◌, length, map, sym, subst, arith, length-append, append_assoc, append-nil, ⊎_elim}
 use Rattle.std.specs.List.{AllByRecursion, flat_map}
-use Rattle.xdr3.specs.Item.{Item, Word, Spells, zero_spelling}
+use Rattle.xdr3.specs.Item.{Item, Spells, zero_spelling}
 use Rattle.capture3.specs.Bodies.{ReplyItems, xid_in}
-use Rattle.capture3.specs.Capture.{total_size}
 use Rattle.capture3.specs.Chunks.{max_bytes}
 use Rattle.capture3.specs.Entry.{Entry, Begin, Call, Turn, Reply, Close, End}
 use Rattle.capture3.specs.Laws.{spelled}
 use Rattle.capture3.specs.Typed.{IsIn, reply_entry, connection_entries, Typed}
 use Rattle.capture3.proofs.Limits.{typed_within}
-use Rattle.canon3.specs.Values.{items_of, handles_in, verifiers_in, handles, verifiers, xid_of}
+use Rattle.canon3.specs.Values.{items_of, handles_in, verifiers_in, xid_of}
 use Rattle.canon3.specs.Pairing.{Member, IsHandle, IsVerifier}
 use Rattle.canon3.proofs.Order.{BeginsWithXid, IsAnswering, Between, InCalls, InReplies, Over, begin, call, turn, reply, close, end, Runs, stays, steps, IsWellFormed}
 use Rattle.canon3.proofs.Ranks.{member-append_cases}
@@ -19,7 +17,7 @@ use Rattle.canon3.proofs.Items.{IsShort, all_append, handles_are, verifiers_are,
 use Rattle.canon3.proofs.Messages.{BeginsWithWord, call_begins, reply_begins, call_short, reply_short}
 use Rattle.canon3.proofs.Conversations.{all_in, of_all, Conversation, IsSpelledCall, IsSpelledReply, AreConversing}
 use Rattle.canon3.proofs.Conversing.{xids_of, reply_known}
-use Rattle.canon3.proofs.Files.{entries_of, all_of, AreCapture, all_regrouped, holds}
+use Rattle.canon3.proofs.Files.{entries_of, all_of, all_regrouped, holds}
 
 -- ---- order
 

@@ -1,9 +1,8 @@
 -- Two complete captures that are not the same part at one place.
-use Rattle.std.proofs.Common.{◌≡◌, ◌⊎◌, inl, inr, ⊎_elim, ℕ, zero, suc, ◌+◌, ◌<◌, ◌≤◌, List, [], ◌∷◌, ◌++◌, length, take, refl, sym, ap, ◌∙◌, subst, arith, Option, Some, None, append-nil}
-use Rattle.std.specs.Prelude.{⊤, slice_get, get_or, bytes_eq}
+use Rattle.std.proofs.Common.{◌≡◌, ◌⊎◌, inl, inr, ⊎_elim, ℕ, zero, suc, ◌+◌, ◌≤◌, List, [], ◌∷◌, ◌++◌, length, take, refl, sym, ap, ◌∙◌, subst, arith, Option, Some, None, append-nil}
+use Rattle.std.specs.Prelude.{slice_get, bytes_eq}
 use Rattle.std.proofs.lemmas.Bool.{cases_lt}
-use Rattle.std.proofs.lemmas.List.{take_all, take_more}
-use Rattle.std.proofs.lemmas.Option.{slice_get_within, slice_get-get_or}
+use Rattle.std.proofs.lemmas.List.{take_all}
 use Rattle.std.proofs.lemmas.Slice.Eq.{bytes_eq-Decides}
 use Rattle.capture3.specs.Entry.{Entry, Begin, Call, Turn, Reply, Close, End}
 use Rattle.capture3.specs.Typed.{Typed}
@@ -17,12 +16,12 @@ use Rattle.canon3.specs.Values.{handles, verifiers}
 use Rattle.canon3.specs.Renaming.{Same, ended}
 use Rattle.canon3.specs.Parting.{IsMessageOf, IsPlaceOf, first_message, second_message, first_ends, second_ends, next_record, PartsAt, Parting}
 use Rattle.canon3.specs.Laws.{AreFirst}
-use Rattle.canon3.proofs.Order.{Stage, Between, InCalls, InReplies, Over, Steps, begin, call, turn, reply, close, end, IsWellFormed}
+use Rattle.canon3.proofs.Order.{Stage, Between, Steps, call, reply, IsWellFormed}
 use Rattle.canon3.proofs.Ranks.{by_test}
 use Rattle.canon3.proofs.Following.{canonical-after, entries_after-append}
 use Rattle.canon3.proofs.Prefixes.{IsWellFormed-take, canonical-take}
 use Rattle.canon3.proofs.Places.{AreAlike, stages_alike, stage_at, place_from_parting}
-use Rattle.canon3.proofs.First.{forms_of_fronts, first_in_order, first_taken, same_from_bytes, fronts_decided, parts_where_forms_do}
+use Rattle.canon3.proofs.First.{forms_of_fronts, first_in_order, same_from_bytes, fronts_decided, parts_where_forms_do}
 use Rattle.canon3.proofs.Ends.{past, ends_too}
 use Rattle.canon3.proofs.Equality.{same_symmetric}
 

@@ -1,5 +1,5 @@
 -- Layouts whose handles have room for numbers, and whose choices no number changes.
-use Rattle.std.proofs.Common.{◌≡◌, ℕ, ◌≤◌, Bool, true, false, List, map}
+use Rattle.std.proofs.Common.{◌≡◌, ℕ, ◌≤◌, List, map}
 use Rattle.std.specs.Prelude.{⊤}
 use Rattle.xdr3.specs.Item.{Item, Var, Text, Handle}
 use Rattle.xdr3.specs.Shape.{Shape, choose, hyper, fixed, write_verf, opaque, nothing, both, linked, counted, sized}

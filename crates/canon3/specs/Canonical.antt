@@ -12,11 +12,12 @@ numbered_item hs vs (Opaque Handle name (b ∷ bs)) = Opaque Handle name (word_b
 numbered_item hs vs (WriteVerf name v) = WriteVerf name (big_bytes 8 (rank bytes_eq v vs))
 numbered_item hs vs item = item
 
+-- a message with the number of its xid among these, and its items numbered
 abbrev pub numbered_message : (hs vs : List (List ℕ)) (xs : List ℕ) → List Item → List Item
 numbered_message hs vs xs (Word name x ∷ items) = Word name (rank nat_eq x xs) ∷ map (numbered_item hs vs) items
 numbered_message hs vs xs items = map (numbered_item hs vs) items
 
--- xs: the xids of the open connection's calls
+-- entries with numbers among these values, where xs are the xids of the open connection's calls
 abbrev pub numbered : (hs vs : List (List ℕ)) (xs : List ℕ) → List Entry → List Entry
 numbered hs vs xs [] = []
 numbered hs vs xs (Begin ∷ es) = Begin ∷ numbered hs vs (call_xids es) es

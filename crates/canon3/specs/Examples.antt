@@ -1,8 +1,7 @@
 -- Small captures worked by hand: what the definitions say of them, and what other ways of numbering would say.
-use Rattle.std.specs.Prelude.{◌≡◌, ◌≢◌, ℕ, ◌+◌, Bool, List, [], ◌∷◌, ◌++◌, length, map, bytes_eq, nat_lt, codes, filter}
+use Rattle.std.specs.Prelude.{◌≡◌, ◌≢◌, ℕ, ◌+◌, List, [], ◌∷◌, ◌++◌, length, map, bytes_eq, nat_lt, codes, filter}
 use Rattle.std.specs.List.{flat_map}
 use Rattle.xdr3.specs.Item.{Item, Word, Fixed, Opaque, WriteVerf, Var, Text, Handle, word_bytes}
-use Rattle.rpc_head.specs.declared.call.ProcId.{ProcId}
 use Rattle.capture3.specs.declared.fault.Side.TheVariants.{Client, Server}
 use Rattle.capture3.specs.declared.fault.Place.{Place}
 use Rattle.capture3.specs.declared.fault.Place.TheVariants as places

@@ -6,17 +6,18 @@ use Rattle.canon3.specs.Values.{handle_in, verifier_in, handles_in, verifiers_in
 use Rattle.canon3.specs.Rank.{rank}
 use Rattle.canon3.specs.Canonical.{numbered_item}
 
--- hs, vs: the handles and write verifiers before these items
+-- items, where hs and vs are the handles and write verifiers before them
 abbrev pub items_after : (hs vs : List (List ℕ)) → List Item → List Item
 items_after hs vs [] = []
 items_after hs vs (i ∷ items) =
     numbered_item (hs ++ handle_in i) (vs ++ verifier_in i) i ∷ items_after (hs ++ handle_in i) (vs ++ verifier_in i) items
 
--- xs: the xids of the open connection's calls so far, this one's too
+-- a message, where xs are the xids of the open connection's calls so far, this one's too
 abbrev pub message_after : (hs vs : List (List ℕ)) (xs : List ℕ) → List Item → List Item
 message_after hs vs xs (Word name x ∷ items) = Word name (rank nat_eq x xs) ∷ items_after hs vs items
 message_after hs vs xs items = items_after hs vs items
 
+-- entries, where hs, vs and xs are the values before them
 abbrev pub entries_after : (hs vs : List (List ℕ)) (xs : List ℕ) → List Entry → List Entry
 entries_after hs vs xs [] = []
 entries_after hs vs xs (Begin ∷ es) = Begin ∷ entries_after hs vs [] es

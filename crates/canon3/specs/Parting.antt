@@ -23,15 +23,17 @@ records_after n (Reply id items ∷ es) = records_after (n + 1) es
 records_after n (Close ∷ es) = records_after n es
 records_after n (End ∷ es) = records_after n es
 
--- the side of a message
+-- the entry is a message of that side: a call of the client, a reply of the server
 abbrev pub IsMessageOf : Side → Option Entry → Type 0
 IsMessageOf Client (Some (Call items)) = Unit {0}
 IsMessageOf Server (Some (Reply id items)) = Unit {0}
 IsMessageOf _ _ = ⊥
 
+-- the next record of the open stream
 abbrev pub next_record : Side → List Entry → Place
 next_record side before = places.Record (connections before) side (1 + records_after 0 before) 0
 
+-- the next connection, before its records
 abbrev pub next_connection : List Entry → Place
 next_connection before = places.Record (1 + connections before) Client 0 0
 
@@ -47,5 +49,6 @@ pub record PartsAt (a b : List Entry) (i : ℕ) : Type 0 where
   pub differ : Same (take (i + 1) a) (take (i + 1) b) → ⊥
   pub same_before : (j : ℕ) → j < i → Same (take (j + 1) a) (take (j + 1) b)
 
+-- the place of the first entry with which two captures are not the same
 abbrev pub Parting : List Entry → List Entry → Place → Type 0
 Parting a b place = (i : ℕ) × PartsAt a b i × IsPlaceOf (take i a) (slice_get a i) (slice_get b i) place

@@ -1,7 +1,5 @@
-use Rattle.std.proofs.Common.{◌≡◌, ◌≢◌, refl, arith, [], ◌∷◌}
-use Rattle.capture3.specs.Entry.{Entry}
-use Rattle.canon3.specs.Canonical.{canonical}
-use Rattle.canon3.specs.Examples.{aa, bb, two, one, getattr, two_commits, long, zero_verifier, AreNotSame, IsWrong, joins, parts}
+use Rattle.std.proofs.Common.{refl, arith, [], ◌∷◌}
+use Rattle.canon3.specs.Examples.{aa, bb, two, one, getattr, two_commits, long, zero_verifier, joins, parts}
 use Rattle.canon3.proofs.Checks.{same_by, not_same_by}
 use Rattle.canon3.proofs.examples.wrong_forms.Goals as goal
 
