@@ -30,7 +30,7 @@ pub trait Sink {
         ensures count { Counts (failures self.old) (failures self.new) result };
 }
 
-/// A sink over any writer. It tells no bytes.
+/// A sink over any writer, which tells the bytes that the writer tells.
 #[derive(Drop)]
 pub struct ToWrite<W> {
     writer: W,
@@ -56,7 +56,7 @@ impl<W: Write> ToWrite<W> {
 }
 
 impl<W: Write> Sink for ToWrite<W> {
-    ghost written = { λ _. None };
+    ghost written = { λ s. W.contents s.writer };
 
     ghost failures = { λ s. s.failures };
 
