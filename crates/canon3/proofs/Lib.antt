@@ -1,2 +1,26 @@
 -- Lemmas of canonical captures.
 pub mod Summing
+pub mod Order
+pub mod Ranks
+pub mod Pairings
+pub mod Renamings
+pub mod Numbering
+pub mod Nesting
+pub mod Renumbered
+pub mod Equality
+pub mod Following
+pub mod Prefixes
+pub mod Places
+pub mod Kept
+pub mod Rooms
+pub mod Items
+pub mod Messages
+pub mod Conversations
+pub mod Conversing
+pub mod Files
+pub mod InOrder
+pub mod Closing
+pub mod First
+pub mod Checks
+pub mod Ends
+pub mod Parted

@@ -1,6 +1,15 @@
-//! Counts of a capture, and what it is up to renaming.
+//! Counts of a capture, what it is up to renaming, and where its canonical form is written to.
 #![tactic(auto)]
 
+pub mod examples;
+pub mod laws;
+mod numbers;
+mod plan;
+mod sink;
 mod summary;
+#[cfg(test)]
+mod tests;
 
+pub use numbers::Numbers;
+pub use sink::{MemSink, Sink, ToWrite};
 pub use summary::{Summary, check};

@@ -1,0 +1,16 @@
+use Rattle.std.proofs.Common.{refl, arith}
+use Rattle.capture3.specs.declared.fault.Side.TheVariants.{Server}
+use Rattle.canon3.specs.Parting.{first_message}
+use Rattle.canon3.specs.Examples.{commits, long, zero_verifier, in_server}
+use Rattle.canon3.proofs.Checks.{same_by, parted_by}
+use Rattle.canon3.proofs.examples.commits.Goals as goal
+
+pub returns : goal.returns
+returns c = record {
+  form = refl;
+  later = refl;
+  zeros = refl;
+  swapped = same_by (commits long zero_verifier) (commits zero_verifier long) refl refl refl;
+  parted = parted_by (commits long long) (commits long zero_verifier) 5 (in_server 1 2) refl refl refl (λ e. grind arith) (first_message Server tt);
+  cookie_stays = refl;
+}

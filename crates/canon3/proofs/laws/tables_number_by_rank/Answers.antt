@@ -1,0 +1,13 @@
+use Rattle.std.specs.Prelude.{bytes_eq}
+use Rattle.std.proofs.lemmas.Slice.Eq.{bytes_eq-Decides}
+use Rattle.canon3.proofs.Ranks.{equivalence, rank-push, distinct-push, rank-append}
+use Rattle.canon3.proofs.laws.tables_number_by_rank.Goals as goal
+
+pub returns-clause-number : goal.returns-clause-number
+returns-clause-number c x l = rank-push bytes_eq (equivalence bytes_eq bytes_eq-Decides) x l
+
+pub returns-clause-added : goal.returns-clause-added
+returns-clause-added c x l = distinct-push bytes_eq (equivalence bytes_eq bytes_eq-Decides) x l
+
+pub returns-clause-later : goal.returns-clause-later
+returns-clause-later c x l m h = rank-append bytes_eq bytes_eq-Decides m h

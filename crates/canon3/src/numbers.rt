@@ -1,0 +1,66 @@
+// Numbers of keys by their first appearance.
+
+ghost use Rattle.std.specs.Prelude.{◌≡◌, ◌+◌, ◌-◌, ◌^◌, ◌++◌, ◌∷◌, min, true, List, [], length, IfOk, OnOk, OnErr, IsOk};
+ghost use Rattle.std.specs.List.{list_any};
+ghost use Rattle.canon3.specs.Rank.{rank, distinct, StandsFor, number_limit};
+
+use indexmap::IndexSet;
+use std::alloc::{AllocError, Global};
+use std::hash::{BuildHasher, Hash};
+use std::marker::Model;
+
+/// The keys given so far, each with a number: 1 for the first, 2 for the next other one, and so on. The
+/// hasher plays no part in the numbers.
+#[derive(Drop)]
+pub struct Numbers<K: Copy + Eq + Hash, S: BuildHasher + Drop> {
+    keys: IndexSet<K, S>,
+}
+
+impl<K: Copy + Eq + Hash, S: BuildHasher + Drop> Model for Numbers<K, S> {
+    ghost use Rattle.std.specs.Prelude.{List};
+    ghost use Rattle.std.specs.Coded.{coded_list};
+
+    ghost Value = { List K };
+
+    ghost coded = { coded_list K.code };
+
+    ghost view = { λ n. n.keys.keys };
+}
+
+impl<K: Copy + Eq + Hash, S: BuildHasher + Drop> Numbers<K, S> {
+    /// A table that was given no key.
+    pub fn new(alloc: Global, hasher: S) -> Numbers<K, S>
+        ensures { StandsFor K.eq result [] }
+    {
+        Numbers {
+            keys: IndexSet::with_hasher(alloc, hasher),
+        }
+    }
+
+    /// The key's number: 1 plus the number of distinct keys given before its first time, at most
+    /// 4,294,967,295. Only a key that was not given before takes memory, and where there is none the
+    /// table stays.
+    pub fn number_of(&mut self, key: K) -> Result<u32, AllocError>
+        ensures number { (given : List K) → StandsFor K.eq self.old given → IfOk result (λ n. n ≡ min (rank K.eq key (given ++ key ∷ [])) number_limit) }
+        ensures given { (given : List K) → StandsFor K.eq self.old given → OnOk result (StandsFor K.eq self.new (given ++ key ∷ [])) }
+        ensures known { (given : List K) → StandsFor K.eq self.old given → list_any (K.eq key) given ≡ true → IsOk result }
+        ensures err { OnErr result (self.new ≡ self.old) }
+    {
+        let (index, _) = self.keys.insert_full(key)?;
+        Ok(u32::try_from(index).unwrap_or(u32::MAX).saturating_add(1))
+    }
+
+    /// The number of distinct keys given, at most 4,294,967,295.
+    pub fn len(&self) -> u32
+        ensures { (given : List K) → StandsFor K.eq self.now given → result ≡ min (length (distinct K.eq given)) number_limit }
+    {
+        u32::try_from(self.keys.len()).unwrap_or(u32::MAX)
+    }
+
+    /// Forgets the keys, and keeps the hasher and the memory.
+    pub fn clear(&mut self)
+        ensures { StandsFor K.eq self.new [] }
+    {
+        self.keys.clear();
+    }
+}

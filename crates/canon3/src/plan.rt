@@ -1,0 +1,45 @@
+ghost use Rattle.std.specs.Prelude.{◌≡◌, ◌+◌, ◌-◌, ◌↔◌, ◌^◌, min, IsErr};
+ghost use Rattle.capture3.specs.Device.{Counts};
+
+use capture3::DeviceFailed;
+
+/// Which call of a device in memory fails, and how many have failed.
+#[derive(Clone, Copy)]
+pub(crate) struct FaultPlan {
+    pub(crate) fails_in: u64,
+    pub(crate) failures: u64,
+}
+
+impl FaultPlan {
+    pub(crate) fn new(fails_in: u64) -> FaultPlan
+        ensures { result ≡ record { fails_in = fails_in; failures = 0 } }
+    {
+        FaultPlan {
+            fails_in,
+            failures: 0,
+        }
+    }
+
+    pub(crate) fn next_call(&mut self) -> Result<(), DeviceFailed>
+        ensures fails { IsErr result ↔ (self.old.fails_in ≡ 1) }
+        ensures next { self.new.fails_in ≡ self.old.fails_in - 1 }
+        ensures count { Counts self.old.failures self.new.failures result }
+    {
+        if self.fails_in == 0 {
+            return Ok(());
+        }
+        self.fails_in -= 1;
+        if self.fails_in == 0 {
+            return Err(self.fail());
+        }
+        Ok(())
+    }
+
+    pub(crate) fn fail(&mut self) -> DeviceFailed
+        ensures count { self.new.failures ≡ min (self.old.failures + 1) (2 ^ 64 - 1) }
+        ensures plan { self.new.fails_in ≡ self.old.fails_in }
+    {
+        self.failures = self.failures.saturating_add(1);
+        DeviceFailed
+    }
+}

@@ -1,0 +1,168 @@
+ghost use Rattle.std.specs.Prelude.{◌≡◌, ◌≤◌, ◌<◌, ◌+◌, ◌-◌, ◌↔◌, ◌⊎◌, ℕ, List, [], length, take, drop, min, Option, None, Some, IfOk, IsErr, OnOk, OnErr, vec_len, vec_capacity};
+ghost use Rattle.std.specs.Io.KnownBytes.{WriteAppends, Keeps};
+ghost use Rattle.capture3.specs.Device.{Counts};
+ghost use Rattle.capture3.specs.Memory.{MemoryWritten};
+
+use crate::plan::FaultPlan;
+use capture3::DeviceFailed;
+use std::alloc::{AllocError, Global};
+use std::io::Write;
+use std::marker::Model;
+
+/// A writer whose calls may fail.
+pub trait Sink {
+    // The bytes that were written, where the sink tells them.
+    ghost written: { Self → Option (List ℕ) };
+
+    // How many writes and flushes have failed, up to 2^64 - 1.
+    ghost failures: { Self → ℕ };
+
+    /// Writes a front of `piece`, and gives how many bytes of it.
+    fn write_some(&mut self, piece: &[u8]) -> Result<usize, DeviceFailed>
+        requires content { 0 < length piece.now }
+        ensures some { IfOk result (λ n. 0 < n) }
+        ensures within { IfOk result (λ n. n ≤ length piece.now) }
+        ensures bytes { WriteAppends (written self.old) (written self.new) result piece.now }
+        ensures count { Counts (failures self.old) (failures self.new) result };
+
+    fn flush_all(&mut self) -> Result<(), DeviceFailed>
+        ensures bytes { Keeps (written self.old) (written self.new) }
+        ensures count { Counts (failures self.old) (failures self.new) result };
+}
+
+/// A sink over any writer, which tells the bytes that the writer tells.
+#[derive(Drop)]
+pub struct ToWrite<W> {
+    writer: W,
+    failures: u64,
+}
+
+impl<W: Write> ToWrite<W> {
+    pub fn new(writer: W) -> ToWrite<W>
+        ensures writer { result.writer ≡ writer }
+        ensures count { result.failures ≡ 0 }
+    {
+        ToWrite {
+            writer,
+            failures: 0,
+        }
+    }
+
+    pub fn inner(&self) -> &W
+        ensures { result.now ≡ self.now.writer }
+    {
+        &self.writer
+    }
+}
+
+impl<W: Write> Sink for ToWrite<W> {
+    ghost written = { λ s. W.contents s.writer };
+
+    ghost failures = { λ s. s.failures };
+
+    fn write_some(&mut self, piece: &[u8]) -> Result<usize, DeviceFailed> {
+        match self.writer.write(piece) {
+            Ok(count) if count > 0 => Ok(count),
+            _ => {
+                self.failures = self.failures.saturating_add(1);
+                Err(DeviceFailed)
+            }
+        }
+    }
+
+    fn flush_all(&mut self) -> Result<(), DeviceFailed> {
+        match self.writer.flush() {
+            Ok(()) => Ok(()),
+            Err(_) => {
+                self.failures = self.failures.saturating_add(1);
+                Err(DeviceFailed)
+            }
+        }
+    }
+}
+
+/// A sink in memory, which tells its bytes. It has room for so many bytes, takes at most `block` of a
+/// piece, and one call alone fails besides those without room.
+#[derive(Drop)]
+pub struct MemSink {
+    bytes: Vec<u8>,
+    room: usize,
+    block: usize,
+    plan: FaultPlan,
+}
+
+impl Model for MemSink {
+    ghost use Rattle.std.specs.Prelude.{◌<◌, ◌≤◌, ◌+◌, vec_len, vec_capacity};
+    ghost use Rattle.capture3.specs.Memory.{MemoryWritten};
+
+    ghost Value = { MemoryWritten };
+
+    ghost view = { λ s. record { bytes = s.bytes.items; room = s.room; block = s.block; fails_in = s.plan.fails_in; failures = s.plan.failures } };
+
+    ghost invariant = { λ s. (0 < s.block) × (vec_len s.bytes + s.room ≤ vec_capacity s.bytes) };
+}
+
+impl MemSink {
+    /// Call number `fail` fails, writes and flushes counted together, and none where it is 0.
+    pub fn new(alloc: Global, room: usize, block: usize, fail: u64) -> Result<MemSink, AllocError>
+        requires { 0 < block }
+        ensures { IfOk result (λ sink. sink ≡ record { bytes = []; room = room; block = block; fails_in = fail; failures = 0 }) }
+    {
+        let mut bytes = Vec::new(alloc);
+        bytes.reserve(room)?;
+        Ok(MemSink {
+            bytes,
+            room,
+            block,
+            plan: FaultPlan::new(fail),
+        })
+    }
+
+    pub fn bytes(&self) -> &[u8]
+        ensures { result.now ≡ self.now.bytes }
+    {
+        &self.bytes
+    }
+}
+
+impl Sink for MemSink {
+    ghost written = { λ s. Some s.bytes };
+
+    ghost failures = { λ s. s.failures };
+
+    fn write_some(&mut self, piece: &[u8]) -> Result<usize, DeviceFailed>
+        requires content { 0 < length piece.now }
+        ensures some { IfOk result (λ n. 0 < n) }
+        ensures within { IfOk result (λ n. n ≤ length piece.now) }
+        ensures bytes { WriteAppends (Some self.old.bytes) (Some self.new.bytes) result piece.now }
+        ensures count { Counts self.old.failures self.new.failures result }
+
+        // How many bytes a call takes, and which call fails.
+        ensures given { IfOk result (λ n. n ≡ min (min self.old.block self.old.room) (length piece.now)) }
+        ensures fails { IsErr result ↔ ((self.old.fails_in ≡ 1) ⊎ (self.old.room ≡ 0)) }
+        ensures room { self.new.room + length self.new.bytes ≡ self.old.room + length self.old.bytes }
+        ensures next { (self.new.fails_in ≡ self.old.fails_in - 1) × (self.new.block ≡ self.old.block) }
+    {
+        self.plan.next_call()?;
+        if self.room == 0 {
+            return Err(self.plan.fail());
+        }
+        let count = self.block.min(self.room).min(piece.len());
+        match self.bytes.extend_from_slice(&piece[..count]) {
+            Ok(()) => {
+                self.room -= count;
+                Ok(count)
+            }
+            Err(_) => unreachable!(),
+        }
+    }
+
+    fn flush_all(&mut self) -> Result<(), DeviceFailed>
+        ensures bytes { Keeps (Some self.old.bytes) (Some self.new.bytes) }
+        ensures count { Counts self.old.failures self.new.failures result }
+        ensures fails { IsErr result ↔ (self.old.fails_in ≡ 1) }
+        ensures next { (self.new.fails_in ≡ self.old.fails_in - 1) × (self.new.block ≡ self.old.block) × (self.new.room ≡ self.old.room) }
+    {
+        self.plan.next_call()
+    }
+}

@@ -1,0 +1,6 @@
+-- A file handle as its bytes (RFC 1813, section 2.5).
+use Rattle.std.specs.Prelude.{ℕ, List, take}
+use Rattle.nfs3_types.specs.declared.handle.Handle.{Handle}
+
+abbrev pub bytes_of : Handle → List ℕ
+bytes_of handle = take handle.len handle.bytes

@@ -1,0 +1,146 @@
+// File handles (RFC 1813, section 2.5).
+
+ghost use Rattle.std.specs.Prelude.{◌≡◌, ◌≤◌, ◌<◌, ◌↔◌, [], ◌∷◌, IfSome, IsNone, IsTrue, Some, bytes_eq, length, refl};
+ghost use Rattle.std.proofs.Common.{rules};
+ghost use Rattle.std.specs.Cmp.{on_equiv, on_per, on_po, on_total, partial_equiv_from_equiv};
+ghost use Rattle.std.specs.Cmp.Lexicographic.{nat_list_cmp_total, nat_list_eq_equiv, slice_cmp, texts_po, texts_ties};
+ghost use Rattle.std.specs.Cmp.Rules.{hashing};
+ghost use Rattle.std.specs.Ordering.{nat_cmp};
+
+use std::alloc::{AllocError, Global};
+use std::cmp::Ordering;
+use std::hash::{Hash, Hasher};
+use xdr3::{Field, GetError, Input, Visit, Walk, Xdr, walk_fields};
+
+/// A file handle: 0 to 64 bytes (RFC 1813, section 2.5). Equality, order and hash are those of its
+/// bytes.
+#[derive(Clone, Copy, Debug)]
+pub struct Handle {
+    bytes: [u8; 64],
+    len: u8,
+    ghost in_range: { len ≤ 64 },
+}
+
+impl Handle {
+    ghost use Rattle.nfs3_types.specs.Handle.{bytes_of};
+
+    /// None over 64 bytes.
+    pub fn new(bytes: &[u8]) -> Option<Handle>
+        ensures long { IsNone result ↔ (64 < length bytes.now) }
+        ensures bytes { IfSome result (λ handle. bytes_of handle ≡ bytes.now) }
+    {
+        if bytes.len() <= 64 {
+            Some(Handle::from_short(bytes))
+        } else {
+            None
+        }
+    }
+
+    fn from_short(bytes: &[u8]) -> Handle
+        requires { length bytes.now ≤ 64 }
+        ensures { bytes_of result ≡ bytes.now }
+    {
+        let mut held = [0; 64];
+        held[..bytes.len()].copy_from_slice(bytes);
+        Handle {
+            bytes: held,
+            len: bytes.len() as u8,
+        }
+    }
+
+    /// Its bytes, at most 64.
+    pub fn as_slice(&self) -> &[u8]
+        ensures bytes { result.now ≡ bytes_of self.now }
+        ensures short { length result.now ≤ 64 }
+    {
+        &self.bytes[..self.len as usize]
+    }
+
+    /// Whether it is the public handle, which has no bytes.
+    pub fn is_public(&self) -> bool
+        ensures { IsTrue result ↔ (bytes_of self.now ≡ []) }
+    {
+        self.len == 0
+    }
+}
+
+impl PartialEq for Handle {
+    ghost use Rattle.nfs3_types.specs.Handle.{bytes_of};
+
+    ghost eq = { λ a b. bytes_eq (bytes_of a) (bytes_of b) };
+
+    ghost laws = { on_per bytes_of (partial_equiv_from_equiv nat_list_eq_equiv) };
+
+    fn eq(&self, other: &Handle) -> bool {
+        self.as_slice() == other.as_slice()
+    }
+}
+
+impl Eq for Handle {
+    ghost use Rattle.nfs3_types.specs.Handle.{bytes_of};
+
+    ghost laws = { on_equiv bytes_of nat_list_eq_equiv };
+}
+
+impl PartialOrd for Handle {
+    ghost use Rattle.nfs3_types.specs.Handle.{bytes_of};
+
+    ghost partial_cmp = { λ a b. Some (slice_cmp nat_cmp (bytes_of a) (bytes_of b)) };
+
+    ghost laws = { on_po bytes_of texts_po };
+
+    fn partial_cmp(&self, other: &Handle) -> Option<Ordering> {
+        Some(self.cmp(other))
+    }
+}
+
+impl Ord for Handle {
+    ghost use Rattle.nfs3_types.specs.Handle.{bytes_of};
+
+    ghost cmp = { λ a b. slice_cmp nat_cmp (bytes_of a) (bytes_of b) };
+
+    ghost total = { on_total bytes_of nat_list_cmp_total };
+
+    ghost matches_partial_cmp = { λ a b. refl };
+
+    ghost matches_eq = { λ a b. texts_ties (bytes_of a) (bytes_of b) };
+
+    fn cmp(&self, other: &Handle) -> Ordering {
+        self.as_slice().cmp(other.as_slice())
+    }
+}
+
+impl Hash for Handle {
+    ghost use Rattle.nfs3_types.specs.Handle.{bytes_of};
+
+    ghost hash_input = { λ handle. bytes_of handle ∷ [] };
+
+    ghost respects_eq = { Prim.search (hashing, rules) };
+
+    fn hash<H: Hasher>(&self, state: &mut H) {
+        state.write(self.as_slice());
+    }
+}
+
+impl<'a> Xdr<'a> for Handle {
+    ghost use Rattle.nfs3_types.specs.Shapes.{handle};
+
+    ghost shape = { handle };
+
+    #[tactic(auto, unfolding(xdr3::specs::Reading::reading, crate::specs::Shapes::handle))]
+    fn get(_alloc: Global, input: &mut Input<'a>) -> Result<Handle, GetError> {
+        let bytes = input.var(64)?;
+        Ok(Handle::from_short(bytes))
+    }
+}
+
+impl Walk for Handle {
+    ghost use Rattle.nfs3_types.specs.Items.{handle_items};
+
+    ghost items = { handle_items };
+
+    #[tactic(auto, unfolding(crate::specs::Names::names))]
+    fn walk<V: Visit>(&self, visitor: &mut V) -> Result<(), AllocError> {
+        walk_fields(&[Field::Handle("fh", self.as_slice())], visitor)
+    }
+}

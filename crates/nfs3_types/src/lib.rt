@@ -1,0 +1,25 @@
+//! The parts of NFS version 3 and MOUNT version 3 messages (RFC 1813, sections 2.5, 2.6 and 5).
+#![tactic(auto)]
+
+mod attributes;
+mod directory;
+mod handle;
+mod kind;
+pub mod mount3;
+mod settable;
+mod stable;
+mod status;
+#[cfg(test)]
+mod tests;
+mod time;
+mod void;
+
+pub use attributes::{Fattr, PostOpAttr, Wcc, WccAttr};
+pub use directory::{DirOp, PostOpFh};
+pub use handle::Handle;
+pub use kind::FileKind;
+pub use settable::{Guard, Sattr};
+pub use stable::Stable;
+pub use status::{Res, Status};
+pub use time::{Time, TimeHow};
+pub use void::Void;

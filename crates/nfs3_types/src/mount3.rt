@@ -1,0 +1,335 @@
+//! The parts of MOUNT version 3 (RFC 1813, section 5).
+
+ghost use Rattle.std.specs.Prelude.{◌≡◌, IsTrue};
+ghost use Rattle.xdr3.specs.Reading.{word_at};
+ghost use Rattle.xdr3.specs.Shape.{is_listed};
+ghost use Rattle.xdr3.specs.View.{Answers, MovesOn};
+
+use crate::handle::Handle;
+use std::alloc::{AllocError, Global};
+use xdr3::{
+    Field, GetError, Input, Reason, Stop, Visit, Walk, Xdr, get_counted, get_linked, walk_counted,
+    walk_fields, walk_linked,
+};
+
+/// What a call of MNT answers, a mountstat3 (RFC 1813, section 5.1.5). 10 numbers are listed.
+#[derive(Clone, Copy, Debug, PartialEq, Eq)]
+pub enum MountStatus {
+    /// Done.
+    Ok,
+    /// Not owner.
+    Perm,
+    /// No such file or directory.
+    NoEnt,
+    /// I/O error.
+    Io,
+    /// Permission denied.
+    Acces,
+    /// Not a directory.
+    NotDir,
+    /// Invalid argument.
+    Inval,
+    /// The name was too long.
+    NameTooLong,
+    /// The operation is not supported.
+    NotSupp,
+    /// A fault of the server.
+    ServerFault,
+}
+
+impl MountStatus {
+    ghost use Rattle.nfs3_types.specs.MountStatus.{mount_status_number, mount_status_words};
+
+    /// Its number.
+    pub fn number(self) -> u32
+        ensures { result ≡ mount_status_number self }
+    {
+        match self {
+            MountStatus::Ok => 0,
+            MountStatus::Perm => 1,
+            MountStatus::NoEnt => 2,
+            MountStatus::Io => 5,
+            MountStatus::Acces => 13,
+            MountStatus::NotDir => 20,
+            MountStatus::Inval => 22,
+            MountStatus::NameTooLong => 63,
+            MountStatus::NotSupp => 10_004,
+            MountStatus::ServerFault => 10_006,
+        }
+    }
+
+    /// Takes the next word, which is the number of a status. `BadEnum` at it where it is any other, `Short`
+    /// where it is not whole.
+    pub fn take(input: &mut Input) -> Result<MountStatus, Stop>
+        ensures read { Answers mount_status_number result input.new.at (word_at (is_listed mount_status_words) Reason.BadEnum input.old.body input.old.at) }
+        ensures moves { MovesOn input.old input.new }
+    {
+        let n = input.listed(&[0, 1, 2, 5, 13, 20, 22, 63, 10_004, 10_006])?;
+        Ok(MountStatus::from_listed(n))
+    }
+
+    fn from_listed(n: u32) -> MountStatus
+        requires { IsTrue (is_listed mount_status_words n) }
+        ensures { mount_status_number result ≡ n }
+    {
+        match n {
+            0 => MountStatus::Ok,
+            1 => MountStatus::Perm,
+            2 => MountStatus::NoEnt,
+            5 => MountStatus::Io,
+            13 => MountStatus::Acces,
+            20 => MountStatus::NotDir,
+            22 => MountStatus::Inval,
+            63 => MountStatus::NameTooLong,
+            10_004 => MountStatus::NotSupp,
+            10_006 => MountStatus::ServerFault,
+            _ => unreachable!(),
+        }
+    }
+}
+
+impl<'a> Xdr<'a> for MountStatus {
+    ghost use Rattle.nfs3_types.specs.Shapes.{mount_status};
+
+    ghost shape = { mount_status };
+
+    #[tactic(auto, unfolding(xdr3::specs::Reading::reading, crate::specs::Shapes::mount_status))]
+    fn get(_alloc: Global, input: &mut Input<'a>) -> Result<MountStatus, GetError> {
+        let value = MountStatus::take(input)?;
+        Ok(value)
+    }
+}
+
+impl Walk for MountStatus {
+    ghost use Rattle.nfs3_types.specs.Mounts.{mount_status_items};
+
+    ghost items = { mount_status_items };
+
+    #[tactic(auto, unfolding(crate::specs::Names::names))]
+    fn walk<V: Visit>(&self, visitor: &mut V) -> Result<(), AllocError> {
+        walk_fields(&[Field::Word("status", self.number())], visitor)
+    }
+}
+
+/// An authentication flavor that a server takes (RFC 1813, section 5.2.1).
+#[derive(Clone, Copy, Debug, PartialEq, Eq)]
+pub struct Flavor {
+    pub number: u32,
+}
+
+impl<'a> Xdr<'a> for Flavor {
+    ghost use Rattle.nfs3_types.specs.Shapes.{flavor};
+
+    ghost shape = { flavor };
+
+    #[tactic(auto, unfolding(xdr3::specs::Reading::reading, crate::specs::Shapes::flavor))]
+    fn get(_alloc: Global, input: &mut Input<'a>) -> Result<Flavor, GetError> {
+        let number = input.word()?;
+        Ok(Flavor { number })
+    }
+}
+
+impl Walk for Flavor {
+    ghost use Rattle.nfs3_types.specs.Mounts.{flavor_items};
+
+    ghost items = { flavor_items };
+
+    #[tactic(auto, unfolding(crate::specs::Names::names))]
+    fn walk<V: Visit>(&self, visitor: &mut V) -> Result<(), AllocError> {
+        walk_fields(&[Field::Word("flavor", self.number)], visitor)
+    }
+}
+
+/// What a successful call of MNT gives, a mountres3_ok (RFC 1813, section 5.2.1).
+#[derive(Drop)]
+pub struct MountOk {
+    pub handle: Handle,
+    pub flavors: Vec<Flavor>,
+}
+
+impl<'a> Xdr<'a> for MountOk {
+    ghost use Rattle.nfs3_types.specs.Shapes.{mount_ok};
+
+    ghost shape = { mount_ok };
+
+    #[tactic(auto, unfolding(xdr3::specs::Reading::reading, crate::specs::Shapes::mount_ok, xdr3::specs::Item::followed_by))]
+    fn get(alloc: Global, input: &mut Input<'a>) -> Result<MountOk, GetError> {
+        let handle = Handle::get(alloc, input)?;
+        let flavors = get_counted(alloc, input, u32::MAX)?;
+        Ok(MountOk { handle, flavors })
+    }
+}
+
+impl Walk for MountOk {
+    ghost use Rattle.nfs3_types.specs.Mounts.{mount_ok_items};
+
+    ghost items = { mount_ok_items };
+
+    #[tactic(auto, using(xdr3::proofs::Walks::steps, crate::proofs::Flavors::few_flavors), unfolding(crate::specs::Names::names))]
+    fn walk<V: Visit>(&self, visitor: &mut V) -> Result<(), AllocError> {
+        self.handle.walk(visitor)?;
+        walk_counted("flavors", self.flavors.as_slice(), visitor)?;
+        Ok(())
+    }
+}
+
+/// A mount that a server remembers: a client's host name of at most 255 bytes, and the directory that
+/// it mounted, at most 1,024 bytes (RFC 1813, section 5.2.2). Both borrow from the record.
+#[derive(Clone, Copy)]
+pub struct Mounted<'a> {
+    pub hostname: &'a [u8],
+    pub directory: &'a [u8],
+}
+
+impl<'a> Xdr<'a> for Mounted<'a> {
+    ghost use Rattle.nfs3_types.specs.Shapes.{mounted};
+
+    ghost shape = { mounted };
+
+    #[tactic(auto, unfolding(xdr3::specs::Reading::reading, crate::specs::Shapes::mounted))]
+    fn get(_alloc: Global, input: &mut Input<'a>) -> Result<Mounted<'a>, GetError> {
+        let hostname = input.var(255)?;
+        let directory = input.var(1024)?;
+        Ok(Mounted {
+            hostname,
+            directory,
+        })
+    }
+}
+
+impl<'a> Walk for Mounted<'a> {
+    ghost use Rattle.nfs3_types.specs.Mounts.{mounted_items};
+
+    ghost items = { mounted_items };
+
+    #[tactic(auto, unfolding(crate::specs::Names::names))]
+    fn walk<V: Visit>(&self, visitor: &mut V) -> Result<(), AllocError> {
+        let all = [
+            Field::Text("hostname", self.hostname),
+            Field::Text("directory", self.directory),
+        ];
+        walk_fields(&all, visitor)
+    }
+}
+
+/// The mounts that a server remembers, a mountlist (RFC 1813, section 5.2.2).
+#[derive(Drop)]
+pub struct MountList<'a> {
+    pub entries: Vec<Mounted<'a>>,
+}
+
+impl<'a> Xdr<'a> for MountList<'a> {
+    ghost use Rattle.nfs3_types.specs.Shapes.{mount_list};
+
+    ghost shape = { mount_list };
+
+    #[tactic(auto, unfolding(crate::specs::Shapes::mount_list))]
+    fn get(alloc: Global, input: &mut Input<'a>) -> Result<MountList<'a>, GetError> {
+        let entries = get_linked(alloc, input)?;
+        Ok(MountList { entries })
+    }
+}
+
+impl<'a> Walk for MountList<'a> {
+    ghost use Rattle.nfs3_types.specs.Mounts.{mount_list_items};
+
+    ghost items = { mount_list_items };
+
+    #[tactic(auto, unfolding(crate::specs::Names::names))]
+    fn walk<V: Visit>(&self, visitor: &mut V) -> Result<(), AllocError> {
+        walk_linked("entry", self.entries.as_slice(), visitor)
+    }
+}
+
+/// A group that may mount a directory: a name of at most 255 bytes (RFC 1813, section 5.2.5). It
+/// borrows from the record.
+#[derive(Clone, Copy)]
+pub struct Group<'a> {
+    pub name: &'a [u8],
+}
+
+impl<'a> Xdr<'a> for Group<'a> {
+    ghost use Rattle.nfs3_types.specs.Shapes.{group};
+
+    ghost shape = { group };
+
+    #[tactic(auto, unfolding(xdr3::specs::Reading::reading, crate::specs::Shapes::group))]
+    fn get(_alloc: Global, input: &mut Input<'a>) -> Result<Group<'a>, GetError> {
+        let name = input.var(255)?;
+        Ok(Group { name })
+    }
+}
+
+impl<'a> Walk for Group<'a> {
+    ghost use Rattle.nfs3_types.specs.Mounts.{group_items};
+
+    ghost items = { group_items };
+
+    #[tactic(auto, unfolding(crate::specs::Names::names))]
+    fn walk<V: Visit>(&self, visitor: &mut V) -> Result<(), AllocError> {
+        walk_fields(&[Field::Text("name", self.name)], visitor)
+    }
+}
+
+/// A directory of at most 1,024 bytes that a server exports, and the groups that may mount it
+/// (RFC 1813, section 5.2.5).
+#[derive(Drop)]
+pub struct Export<'a> {
+    pub directory: &'a [u8],
+    pub groups: Vec<Group<'a>>,
+}
+
+impl<'a> Xdr<'a> for Export<'a> {
+    ghost use Rattle.nfs3_types.specs.Shapes.{export};
+
+    ghost shape = { export };
+
+    #[tactic(auto, unfolding(xdr3::specs::Reading::reading, crate::specs::Shapes::export, xdr3::specs::Item::followed_by))]
+    fn get(alloc: Global, input: &mut Input<'a>) -> Result<Export<'a>, GetError> {
+        let directory = input.var(1024)?;
+        let groups = get_linked(alloc, input)?;
+        Ok(Export { directory, groups })
+    }
+}
+
+impl<'a> Walk for Export<'a> {
+    ghost use Rattle.nfs3_types.specs.Mounts.{export_items};
+
+    ghost items = { export_items };
+
+    #[tactic(auto, using(xdr3::proofs::Walks::steps), unfolding(crate::specs::Names::names))]
+    fn walk<V: Visit>(&self, visitor: &mut V) -> Result<(), AllocError> {
+        walk_fields(&[Field::Text("directory", self.directory)], visitor)?;
+        walk_linked("group", self.groups.as_slice(), visitor)?;
+        Ok(())
+    }
+}
+
+/// The directories that a server exports (RFC 1813, section 5.2.5).
+#[derive(Drop)]
+pub struct Exports<'a> {
+    pub entries: Vec<Export<'a>>,
+}
+
+impl<'a> Xdr<'a> for Exports<'a> {
+    ghost use Rattle.nfs3_types.specs.Shapes.{exports};
+
+    ghost shape = { exports };
+
+    #[tactic(auto, unfolding(crate::specs::Shapes::exports))]
+    fn get(alloc: Global, input: &mut Input<'a>) -> Result<Exports<'a>, GetError> {
+        let entries = get_linked(alloc, input)?;
+        Ok(Exports { entries })
+    }
+}
+
+impl<'a> Walk for Exports<'a> {
+    ghost use Rattle.nfs3_types.specs.Mounts.{exports_items};
+
+    ghost items = { exports_items };
+
+    #[tactic(auto, unfolding(crate::specs::Names::names))]
+    fn walk<V: Visit>(&self, visitor: &mut V) -> Result<(), AllocError> {
+        walk_linked("entry", self.entries.as_slice(), visitor)
+    }
+}

@@ -1,0 +1,422 @@
+// Parts spelled by hand from RFC 1813: what is read of them, what is written again, and what is refused.
+
+ghost use Rattle.std.specs.Prelude.{◌≤◌, length};
+
+use crate::mount3::{Exports, MountList, MountOk, MountStatus};
+use crate::{
+    DirOp, Fattr, FileKind, Guard, Handle, PostOpAttr, PostOpFh, Res, Sattr, Stable, Status, Time,
+    TimeHow, Void, Wcc, WccAttr,
+};
+use std::alloc::{AllocError, Global};
+use std::test::Fail;
+use xdr3::{GetError, Input, Reason, Stop, Walk, Writer, Xdr, read};
+
+/// The attributes of a directory of 4,096 bytes.
+const DIRECTORY: [u32; 21] = [
+    2, 0x1ed, 2, 10, 20, 0, 4096, 1, 8192, 30, 40, 0, 50, 0, 60, 1, 70, 2, 80, 3, 90,
+];
+
+/// The words' bytes.
+fn spelled(alloc: Global, words: &[u32]) -> Result<Vec<u8>, AllocError> {
+    let mut bytes = Vec::new(alloc);
+    for word in words {
+        bytes.extend_from_slice(&word.to_be_bytes())?;
+    }
+    Ok(bytes)
+}
+
+/// What is written of the one value that the body is.
+fn rewritten<'a, T: Xdr<'a> + Drop>(alloc: Global, body: &'a [u8]) -> Result<Writer, GetError>
+    requires { length body.now ≤ 16777216 }
+{
+    let mut input = Input::new(body);
+    let value: T = read(alloc, &mut input)?;
+    input.end()?;
+    let mut writer = Writer::new(alloc);
+    value.walk(&mut writer)?;
+    Ok(writer)
+}
+
+/// The value that the body begins with.
+fn value_in<'a, T: Xdr<'a>>(alloc: Global, body: &'a [u8]) -> Result<T, GetError>
+    requires { length body.now ≤ 16777216 }
+{
+    let mut input = Input::new(body);
+    read(alloc, &mut input)
+}
+
+/// Where and why the body is refused.
+fn fault_in<'a, T: Xdr<'a> + Drop>(alloc: Global, body: &'a [u8]) -> Option<Stop>
+    requires { length body.now ≤ 16777216 }
+{
+    match rewritten::<T>(alloc, body) {
+        Err(GetError::Stop(stop)) => Some(stop),
+        _ => None,
+    }
+}
+
+#[test]
+fn attributes_are_read(rt: HostRuntime) -> Result<(), Fail> {
+    let alloc = rt.alloc();
+    let body = spelled(alloc, &DIRECTORY)?;
+    assert!(rt; body.len() == 84);
+    let attributes: Fattr = value_in(alloc, &body).map_err(|_| "refused")?;
+    let expected = Fattr {
+        kind: FileKind::Dir,
+        mode: 0o755,
+        nlink: 2,
+        uid: 10,
+        gid: 20,
+        size: 4096,
+        used: 0x0000_0001_0000_2000,
+        rdev1: 30,
+        rdev2: 40,
+        fsid: 50,
+        fileid: 60,
+        atime: Time { sec: 1, nsec: 70 },
+        mtime: Time { sec: 2, nsec: 80 },
+        ctime: Time { sec: 3, nsec: 90 },
+    };
+    assert_eq!(rt; attributes, expected);
+    let writer = rewritten::<Fattr>(alloc, &body).map_err(|_| "refused")?;
+    assert_eq!(rt; writer.bytes(), body.as_slice());
+    for (kind, accepted) in [(0, false), (1, true), (7, true), (8, false)] {
+        let mut words = DIRECTORY;
+        words[0] = kind;
+        let body = spelled(alloc, &words)?;
+        assert!(rt; body.len() == 84);
+        assert_eq!(rt;
+            fault_in::<Fattr>(alloc, &body).is_none(),
+            accepted,
+            "type {kind}"
+        );
+    }
+    Ok(())
+}
+
+#[test]
+fn listed_numbers_alone_are_read(rt: HostRuntime) -> Result<(), Fail> {
+    let alloc = rt.alloc();
+    let statuses = [
+        0, 1, 2, 5, 6, 13, 17, 18, 19, 20, 21, 22, 27, 28, 30, 31, 63, 66, 69, 70, 71, 10001,
+        10002, 10003, 10004, 10005, 10006, 10007, 10008,
+    ];
+    let mounts = [0, 1, 2, 5, 13, 20, 22, 63, 10004, 10006];
+    for n in 0..10_011 {
+        let body: [u8; 4] = u32::to_be_bytes(n);
+        let status = value_in::<Status>(alloc, &body).ok().map(|s| s.number());
+        assert_eq!(rt; status, statuses.contains(&n).then_some(n), "status {n}");
+        let mount = value_in::<MountStatus>(alloc, &body)
+            .ok()
+            .map(|s| s.number());
+        assert_eq!(rt; mount, mounts.contains(&n).then_some(n), "mount status {n}");
+    }
+    for n in 0..9 {
+        let body: [u8; 4] = u32::to_be_bytes(n);
+        let kind = value_in::<FileKind>(alloc, &body).ok().map(|k| k.number());
+        assert_eq!(rt; kind, (1..8).contains(&n).then_some(n), "type {n}");
+        let mut input = Input::new(&body);
+        let stable = Stable::take(&mut input).ok().map(|s| s.number());
+        assert_eq!(rt; stable, (n < 3).then_some(n), "stable {n}");
+    }
+    Ok(())
+}
+
+#[test]
+fn settable_attributes_are_read(rt: HostRuntime) -> Result<(), Fail> {
+    let alloc = rt.alloc();
+    let none = Sattr {
+        mode: None,
+        uid: None,
+        gid: None,
+        size: None,
+        atime: TimeHow::Keep,
+        mtime: TimeHow::Keep,
+    };
+    let time = TimeHow::Client(Time { sec: 8, nsec: 9 });
+    let rows: [(&[u32], Sattr); 8] = [
+        (&[0, 0, 0, 0, 0, 0], none),
+        (
+            &[1, 0x1ff, 0, 0, 0, 0, 0],
+            Sattr {
+                mode: Some(0o777),
+                ..none
+            },
+        ),
+        (
+            &[0, 1, 5, 0, 0, 0, 0],
+            Sattr {
+                uid: Some(5),
+                ..none
+            },
+        ),
+        (
+            &[0, 0, 1, 6, 0, 0, 0],
+            Sattr {
+                gid: Some(6),
+                ..none
+            },
+        ),
+        (
+            &[0, 0, 0, 1, 1, 0, 0, 0],
+            Sattr {
+                size: Some(1 << 32),
+                ..none
+            },
+        ),
+        (
+            &[0, 0, 0, 0, 1, 0],
+            Sattr {
+                atime: TimeHow::Server,
+                ..none
+            },
+        ),
+        (
+            &[0, 0, 0, 0, 2, 8, 9, 0],
+            Sattr {
+                atime: time,
+                ..none
+            },
+        ),
+        (
+            &[0, 0, 0, 0, 0, 2, 8, 9],
+            Sattr {
+                mtime: time,
+                ..none
+            },
+        ),
+    ];
+    for (words, expected) in rows {
+        let body = spelled(alloc, words)?;
+        assert!(rt; body.len() <= 32);
+        let read: Sattr = value_in(alloc, &body).map_err(|_| "refused")?;
+        assert_eq!(rt; read, expected);
+        let writer = rewritten::<Sattr>(alloc, &body).map_err(|_| "refused")?;
+        assert_eq!(rt; writer.bytes(), body.as_slice());
+    }
+    Ok(())
+}
+
+#[test]
+fn parts_are_written_as_they_were(rt: HostRuntime) -> Result<(), Fail> {
+    let alloc = rt.alloc();
+    let body = spelled(alloc, &[1, 0, 4096, 2, 80, 3, 90, 0])?;
+    assert!(rt; body.len() == 32);
+    let wcc: Wcc = value_in(alloc, &body).map_err(|_| "refused")?;
+    let before = WccAttr {
+        size: 4096,
+        mtime: Time { sec: 2, nsec: 80 },
+        ctime: Time { sec: 3, nsec: 90 },
+    };
+    assert_eq!(rt; (wcc.before, wcc.after.attr), (Some(before), None));
+    let writer = rewritten::<Wcc>(alloc, &body).map_err(|_| "refused")?;
+    assert_eq!(rt; writer.bytes(), body.as_slice());
+
+    let body = spelled(alloc, &[1, 3, 90])?;
+    assert!(rt; body.len() == 12);
+    let guard: Guard = value_in(alloc, &body).map_err(|_| "refused")?;
+    assert_eq!(rt; guard.check, Some(Time { sec: 3, nsec: 90 }));
+    let writer = rewritten::<Guard>(alloc, &body).map_err(|_| "refused")?;
+    assert_eq!(rt; writer.bytes(), body.as_slice());
+
+    let body = spelled(alloc, &[1, 2, 0xabcd_ffff])?;
+    let zero = spelled(alloc, &[1, 2, 0xabcd_0000])?;
+    assert!(rt; body.len() == 12);
+    let told: PostOpFh = value_in(alloc, &body).map_err(|_| "refused")?;
+    assert_eq!(rt; told.handle, Handle::new(&[0xab, 0xcd]));
+    let writer = rewritten::<PostOpFh>(alloc, &body).map_err(|_| "refused")?;
+    assert_eq!(rt; writer.bytes(), zero.as_slice());
+
+    let body = spelled(alloc, &[3, 0x0102_03ff, 5, 0x6865_6c6c, 0x6fff_ffff])?;
+    let zero = spelled(alloc, &[3, 0x0102_0300, 5, 0x6865_6c6c, 0x6f00_0000])?;
+    assert!(rt; body.len() == 20);
+    let place: DirOp = value_in(alloc, &body).map_err(|_| "refused")?;
+    assert_eq!(rt; place.dir.as_slice(), [1, 2, 3].as_slice());
+    assert_eq!(rt; place.name, b"hello".as_slice());
+    let writer = rewritten::<DirOp>(alloc, &body).map_err(|_| "refused")?;
+    assert_eq!(rt; writer.bytes(), zero.as_slice());
+    Ok(())
+}
+
+#[test]
+fn parts_are_refused(rt: HostRuntime) -> Result<(), Fail> {
+    let alloc = rt.alloc();
+    let body = spelled(alloc, &[0, 0, 0, 0, 3, 0, 0, 2])?;
+    assert!(rt; body.len() == 32);
+    let stop = |at, reason| Some(Stop { at, reason });
+    assert_eq!(rt; fault_in::<Sattr>(alloc, &body), stop(16, Reason::BadEnum));
+    assert_eq!(rt;
+        fault_in::<Sattr>(alloc, &body[..16]),
+        stop(16, Reason::Short)
+    );
+    assert_eq!(rt;
+        fault_in::<Sattr>(alloc, &body[12..]),
+        stop(4, Reason::BadBool)
+    );
+    assert_eq!(rt;
+        fault_in::<PostOpAttr>(alloc, &body[16..]),
+        stop(0, Reason::BadBool)
+    );
+    assert_eq!(rt;
+        fault_in::<Wcc>(alloc, &body[24..]),
+        stop(4, Reason::BadBool)
+    );
+    assert_eq!(rt;
+        fault_in::<Guard>(alloc, &body[28..]),
+        stop(0, Reason::BadBool)
+    );
+    assert_eq!(rt;
+        fault_in::<Void>(alloc, &body[..1]),
+        stop(0, Reason::Trailing)
+    );
+    assert_eq!(rt; fault_in::<Res<Void, PostOpAttr>>(alloc, &body[..4]), None);
+    assert_eq!(rt;
+        fault_in::<Res<Void, PostOpAttr>>(alloc, &body[28..]),
+        stop(4, Reason::Short)
+    );
+    Ok(())
+}
+
+#[test]
+fn handles_are_their_bytes(rt: HostRuntime) -> Result<(), Fail> {
+    let alloc = rt.alloc();
+    let bytes = [7; 65];
+    assert!(rt; Handle::new(&bytes).is_none());
+    let longest = Handle::new(&bytes[..64]).ok_or("over 64 bytes")?;
+    assert_eq!(rt; longest.as_slice(), &bytes[..64]);
+    let empty = Handle::new(&[]).ok_or("over 64 bytes")?;
+    assert!(rt; empty.is_public() && !longest.is_public());
+    let one = Handle::new(&[1]).ok_or("over 64 bytes")?;
+    let zero_behind = Handle::new(&[1, 0]).ok_or("over 64 bytes")?;
+    assert!(rt; empty < one && one < zero_behind && zero_behind < longest);
+    assert!(rt; one == one && one != zero_behind);
+
+    Ok(())
+}
+
+#[test]
+fn handles_are_read(rt: HostRuntime) -> Result<(), Fail> {
+    let alloc = rt.alloc();
+    let stop = |at, reason| Some(Stop { at, reason });
+    // the length word, how many bytes are there, where and why the handle is refused
+    let rows = [
+        (65, 69, 0, Reason::TooLong),
+        (64, 67, 4, Reason::Short),
+        (60, 68, 64, Reason::Trailing),
+        (4, 3, 0, Reason::Short),
+    ];
+    for (length, len, at, reason) in rows {
+        let mut body = spelled(alloc, &[length])?;
+        body.extend_from_slice(&[7; 65])?;
+        body.truncate(len);
+        assert!(rt; body.len() <= 69);
+        assert_eq!(rt; fault_in::<Handle>(alloc, &body), stop(at, reason));
+    }
+    let mut body = spelled(alloc, &[64])?;
+    body.extend_from_slice(&[7; 64])?;
+    assert!(rt; body.len() == 68);
+    let read: Handle = value_in(alloc, &body).map_err(|_| "refused")?;
+    assert_eq!(rt; read.as_slice(), [7; 64].as_slice());
+    Ok(())
+}
+
+#[test]
+fn mounts_are_read(rt: HostRuntime) -> Result<(), Fail> {
+    let alloc = rt.alloc();
+    let body = spelled(alloc, &[8, 0x0102_0304, 0x0506_0708, 2, 1, 0])?;
+    assert!(rt; body.len() == 24);
+    let mount: MountOk = value_in(alloc, &body).map_err(|_| "refused")?;
+    assert_eq!(rt;
+        mount.handle.as_slice(),
+        [1, 2, 3, 4, 5, 6, 7, 8].as_slice()
+    );
+    assert_eq!(rt; mount.flavors.iter().map(|f| f.number).eq([1, 0]), true);
+    let writer = rewritten::<MountOk>(alloc, &body).map_err(|_| "refused")?;
+    assert_eq!(rt; writer.bytes(), body.as_slice());
+
+    // the hosts h and ij with the directories /x and /
+    let words = [
+        1,
+        1,
+        0x68ff_ffff,
+        2,
+        0x2f78_ffff,
+        1,
+        2,
+        0x696a_0000,
+        1,
+        0x2f00_0000,
+        0,
+    ];
+    let body = spelled(alloc, &words)?;
+    assert!(rt; body.len() == 44);
+    let list: MountList = value_in(alloc, &body).map_err(|_| "refused")?;
+    assert!(rt; list.entries.len() == 2);
+    assert_eq!(rt; list.entries[0].hostname, b"h".as_slice());
+    assert_eq!(rt; list.entries[0].directory, b"/x".as_slice());
+    assert_eq!(rt; list.entries[1].hostname, b"ij".as_slice());
+    assert_eq!(rt; list.entries[1].directory, b"/".as_slice());
+    let mut zero = words;
+    zero[2] = 0x6800_0000;
+    zero[4] = 0x2f78_0000;
+    let zero = spelled(alloc, &zero)?;
+    let writer = rewritten::<MountList>(alloc, &body).map_err(|_| "refused")?;
+    assert_eq!(rt; writer.bytes(), zero.as_slice());
+
+    // /x for the groups a and bc, / for everyone
+    let words = [
+        1,
+        2,
+        0x2f78_0000,
+        1,
+        1,
+        0x6100_0000,
+        1,
+        2,
+        0x6263_0000,
+        0,
+        1,
+        1,
+        0x2f00_0000,
+        0,
+        0,
+    ];
+    let body = spelled(alloc, &words)?;
+    assert!(rt; body.len() == 60);
+    let list: Exports = value_in(alloc, &body).map_err(|_| "refused")?;
+    assert!(rt; list.entries.len() == 2);
+    assert_eq!(rt; list.entries[0].directory, b"/x".as_slice());
+    assert!(rt; list.entries[0].groups.len() == 2);
+    assert_eq!(rt; list.entries[0].groups[0].name, b"a".as_slice());
+    assert_eq!(rt; list.entries[0].groups[1].name, b"bc".as_slice());
+    assert_eq!(rt; list.entries[1].directory, b"/".as_slice());
+    assert!(rt; list.entries[1].groups.is_empty());
+    let writer = rewritten::<Exports>(alloc, &body).map_err(|_| "refused")?;
+    assert_eq!(rt; writer.bytes(), body.as_slice());
+    Ok(())
+}
+
+#[test]
+fn mounts_are_refused(rt: HostRuntime) -> Result<(), Fail> {
+    let alloc = rt.alloc();
+    let stop = |at, reason| Some(Stop { at, reason });
+    let body = spelled(alloc, &[1, 256, 0, 1, 1025, 0, 2, 0, 0x4000_0000, 1])?;
+    assert!(rt; body.len() == 40);
+    assert_eq!(rt;
+        fault_in::<MountList>(alloc, &body),
+        stop(4, Reason::TooLong)
+    );
+    assert_eq!(rt;
+        fault_in::<MountList>(alloc, &body[24..]),
+        stop(0, Reason::BadBool)
+    );
+    assert_eq!(rt;
+        fault_in::<Exports>(alloc, &body[12..]),
+        stop(4, Reason::TooLong)
+    );
+    assert_eq!(rt;
+        fault_in::<MountOk>(alloc, &body[28..]),
+        stop(12, Reason::Short)
+    );
+    Ok(())
+}
