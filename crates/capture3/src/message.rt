@@ -26,7 +26,7 @@ pub struct CallMsg<'a> {
 
 /// A reply: its xid, its procedure, which is that of its call, its head, and its results where it is an
 /// accepted success (RFC 5531, section 9).
-#[derive(Clone, Copy)]
+#[derive(Drop)]
 pub struct ReplyMsg<'a> {
     pub xid: u32,
     pub id: ProcId,

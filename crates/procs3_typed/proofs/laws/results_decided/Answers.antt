@@ -1,6 +1,0 @@
-use Rattle.xdr3.proofs.Layouts.{layout_is_decided}
-use Rattle.procs3_typed.specs.Table.{results_of}
-use Rattle.procs3_typed.proofs.laws.results_decided.Goals as goal
-
-pub returns : goal.returns
-returns c = λ id bytes h. layout_is_decided (results_of id) bytes h
