@@ -1,4 +1,5 @@
 -- Lemmas of canonical captures.
+pub mod Gathering
 pub mod Summing
 pub mod Order
 pub mod Ranks

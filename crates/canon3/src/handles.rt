@@ -1,12 +1,13 @@
 // The file handles of a capture.
 
-ghost use Rattle.std.specs.Prelude.{◌≡◌, ◌++◌, List, [], bytes_eq, length, min, OnOk};
+ghost use Rattle.std.specs.Prelude.{◌≡◌, ◌++◌, ◌∷◌, List, [], bytes_eq, length, min, OnErr, OnOk};
 ghost use Rattle.xdr3.specs.Item.{Item};
 ghost use Rattle.capture3.specs.Bodies.{IsCall, IsReply};
 ghost use Rattle.capture3.specs.Entry as spec;
 ghost use Rattle.capture3.specs.Kept.{IsKept};
-ghost use Rattle.canon3.specs.Gathering.{Gathers};
-ghost use Rattle.canon3.specs.Rank.{distinct, number_limit};
+ghost use Rattle.nfs3_types.specs.declared.handle.Handle as handles;
+ghost use Rattle.canon3.specs.Gathering.{Gathers, same_handle};
+ghost use Rattle.canon3.specs.Rank.{distinct, number_limit, StandsFor};
 ghost use Rattle.canon3.specs.Values.{handles_in, items_of};
 
 use crate::numbers::Numbers;
@@ -56,6 +57,14 @@ impl<S: BuildHasher + Drop> HandleTable<S> {
         message.walk(self)
     }
 
+    fn add(&mut self, handle: Handle) -> Result<(), AllocError>
+        ensures ok { (given : List handles.Handle) → StandsFor same_handle self.old.numbers given → OnOk result (StandsFor same_handle self.new.numbers (given ++ handle ∷ [])) }
+        ensures err { OnErr result (self.new.numbers ≡ self.old.numbers) }
+    {
+        self.numbers.number_of(handle)?;
+        Ok(())
+    }
+
     /// How many there are, at most 4,294,967,295.
     pub(crate) fn len(&self) -> u32
         ensures { (items : List Item) → Gathers self.now.numbers items → result ≡ min (length (distinct bytes_eq (handles_in items))) number_limit }
@@ -64,7 +73,7 @@ impl<S: BuildHasher + Drop> HandleTable<S> {
     }
 }
 
-#[tactic(auto, unfolding(xdr3::specs::Visit::Adds, xdr3::specs::Visit::Keeps))]
+#[tactic(auto, using(crate::proofs::Gathering::gathers_none), unfolding(xdr3::specs::Visit::Adds, xdr3::specs::Visit::Keeps))]
 impl<S: BuildHasher + Drop> Visit for HandleTable<S> {
     ghost use Rattle.canon3.specs.Gathering.{Gathers};
 
@@ -95,13 +104,13 @@ impl<S: BuildHasher + Drop> Visit for HandleTable<S> {
     }
 
     fn handle(&mut self, _name: &'static str, bytes: &[u8]) -> Result<(), AllocError> {
-        match Handle::new(bytes) {
-            Some(handle) if !handle.is_public() => {
-                self.numbers.number_of(handle)?;
-                Ok(())
-            }
-            _ => Ok(()),
+        if bytes.is_empty() {
+            return Ok(());
         }
+        let Some(handle) = Handle::new(bytes) else {
+            unreachable!()
+        };
+        self.add(handle)
     }
 
     fn rest(&mut self, _name: &'static str, _bytes: &[u8]) -> Result<(), AllocError> {
