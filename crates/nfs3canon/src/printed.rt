@@ -1,6 +1,7 @@
 // What the program prints of an outcome.
 
-ghost use Rattle.std.specs.Prelude.{◌≡◌, IfOk};
+ghost use Rattle.std.specs.Prelude.{◌≡◌, [], IfOk, string_bytes};
+ghost use Rattle.nfs3canon.specs.Printed.{Prints, PrintsError, PrintsOutcome, counts_of, ended_of, fault_of, side_of, unopened_of};
 
 use crate::outcome::{LineFault, Outcome, Report};
 use canon3::Summary;
@@ -9,11 +10,13 @@ use std::alloc::{AllocError, Global};
 
 /// The lines and the exit status of an outcome: 0 for counts, 2 for a refused capture, 3 for a file, a
 /// device or memory that failed, and 4 for a refused command line.
-pub fn report(alloc: Global, outcome: &Outcome) -> Result<Report, AllocError> {
+pub fn report(alloc: Global, outcome: &Outcome) -> Result<Report, AllocError>
+    ensures { IfOk result (PrintsOutcome outcome.now) }
+{
     match outcome {
         Outcome::Counted(Ok(summary)) => printed(alloc, counts(alloc, summary)?),
         Outcome::Counted(Err(error)) => failed(alloc, error),
-        Outcome::Unopened(name) => refused(alloc, 3, format!(in alloc; "open failed: {name}\n")?),
+        Outcome::Unopened(name) => refused(alloc, 3, unopened(alloc, name)?),
         Outcome::Line(LineFault::Usage(text)) => refused(alloc, 4, ended(text)?),
         Outcome::Line(LineFault::Memory) => failed(alloc, &Error::Memory),
     }
@@ -21,7 +24,7 @@ pub fn report(alloc: Global, outcome: &Outcome) -> Result<Report, AllocError> {
 
 /// A report of status 0.
 fn printed(alloc: Global, out: String) -> Result<Report, AllocError>
-    ensures { IfOk result (λ report. report.status ≡ 0) }
+    ensures { IfOk result (Prints 0 (string_bytes out) []) }
 {
     Ok(Report {
         status: 0,
@@ -32,7 +35,7 @@ fn printed(alloc: Global, out: String) -> Result<Report, AllocError>
 
 /// A report with a text on standard error.
 fn refused(alloc: Global, status: u8, err: String) -> Result<Report, AllocError>
-    ensures { IfOk result (λ report. report.status ≡ status) }
+    ensures { IfOk result (Prints status [] (string_bytes err)) }
 {
     Ok(Report {
         status,
@@ -41,7 +44,9 @@ fn refused(alloc: Global, status: u8, err: String) -> Result<Report, AllocError>
     })
 }
 
-fn failed(alloc: Global, error: &Error) -> Result<Report, AllocError> {
+fn failed(alloc: Global, error: &Error) -> Result<Report, AllocError>
+    ensures { IfOk result (PrintsError error.now) }
+{
     match error {
         Error::Refused(fault) => refused(alloc, 2, line_of(alloc, fault)?),
         Error::Read => refused(alloc, 3, String::from_str(alloc, "read failed\n")?),
@@ -50,7 +55,15 @@ fn failed(alloc: Global, error: &Error) -> Result<Report, AllocError> {
     }
 }
 
-fn counts(alloc: Global, summary: &Summary) -> Result<String, AllocError> {
+fn unopened(alloc: Global, name: &str) -> Result<String, AllocError>
+    ensures { IfOk result (λ line. string_bytes line ≡ unopened_of name.now) }
+{
+    format!(in alloc; "open failed: {name}\n")
+}
+
+fn counts(alloc: Global, summary: &Summary) -> Result<String, AllocError>
+    ensures { IfOk result (λ line. string_bytes line ≡ counts_of summary.now) }
+{
     let connections = summary.connections;
     let calls = summary.calls;
     let replies = summary.replies;
@@ -60,7 +73,9 @@ fn counts(alloc: Global, summary: &Summary) -> Result<String, AllocError> {
     )
 }
 
-fn line_of(alloc: Global, fault: &Fault) -> Result<String, AllocError> {
+fn line_of(alloc: Global, fault: &Fault) -> Result<String, AllocError>
+    ensures { IfOk result (λ line. string_bytes line ≡ fault_of fault.now) }
+{
     let reason = fault.reason.name();
     match fault.place {
         Place::File { at } => format!(in alloc; "file {at}: {reason}\n"),
@@ -76,7 +91,9 @@ fn line_of(alloc: Global, fault: &Fault) -> Result<String, AllocError> {
     }
 }
 
-fn side_name(side: Side) -> &'static str {
+fn side_name(side: Side) -> &'static str
+    ensures { result.now ≡ side_of side }
+{
     match side {
         Side::Client => "client",
         Side::Server => "server",
@@ -84,7 +101,9 @@ fn side_name(side: Side) -> &'static str {
 }
 
 /// The text with one newline at its end.
-fn ended(text: &String) -> Result<String, AllocError> {
+fn ended(text: &String) -> Result<String, AllocError>
+    ensures { IfOk result (λ line. string_bytes line ≡ ended_of (string_bytes text.now)) }
+{
     let mut line = text.clone()?;
     if !line.as_str().ends_with('\n') {
         line.push('\n')?;

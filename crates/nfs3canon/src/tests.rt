@@ -3,6 +3,8 @@
 ghost use Rattle.std.specs.Prelude.{◌<◌};
 
 mod build;
+mod mount_rows;
+mod nfs_rows;
 mod rows;
 
 use crate::command::job;
@@ -11,7 +13,9 @@ use crate::printed::report;
 use build::{append_hex, append_word, capture_of, capture_of_hex};
 use canon3::check;
 use capture3::{Error, Fault, MemSource, Place};
-use rows::{CREDENTIALS, HEADS, PAIRING};
+use mount_rows::MOUNTING;
+use nfs_rows::{ATTRIBUTES, CONTENT, CREATION, DIRECTORIES, FILE_SYSTEM, NAMES, SETTING};
+use rows::{CREDENTIALS, HEADS, LONG, PAIRING};
 use std::alloc::Global;
 use std::process::Abort;
 use std::test::Fail;
@@ -55,6 +59,55 @@ fn credentials(rt: HostRuntime) -> Result<(), Fail> {
 #[test]
 fn pairing(rt: HostRuntime) -> Result<(), Fail> {
     each_has_its_line(&rt, rt.alloc(), &PAIRING)
+}
+
+#[test]
+fn attributes(rt: HostRuntime) -> Result<(), Fail> {
+    each_has_its_line(&rt, rt.alloc(), &ATTRIBUTES)
+}
+
+#[test]
+fn setting(rt: HostRuntime) -> Result<(), Fail> {
+    each_has_its_line(&rt, rt.alloc(), &SETTING)
+}
+
+#[test]
+fn content(rt: HostRuntime) -> Result<(), Fail> {
+    each_has_its_line(&rt, rt.alloc(), &CONTENT)
+}
+
+#[test]
+fn creation(rt: HostRuntime) -> Result<(), Fail> {
+    each_has_its_line(&rt, rt.alloc(), &CREATION)
+}
+
+#[test]
+fn names(rt: HostRuntime) -> Result<(), Fail> {
+    each_has_its_line(&rt, rt.alloc(), &NAMES)
+}
+
+#[test]
+fn directories(rt: HostRuntime) -> Result<(), Fail> {
+    each_has_its_line(&rt, rt.alloc(), &DIRECTORIES)
+}
+
+#[test]
+fn file_system(rt: HostRuntime) -> Result<(), Fail> {
+    each_has_its_line(&rt, rt.alloc(), &FILE_SYSTEM)
+}
+
+#[test]
+fn mounting(rt: HostRuntime) -> Result<(), Fail> {
+    each_has_its_line(&rt, rt.alloc(), &MOUNTING)
+}
+
+#[test]
+fn long_messages(rt: HostRuntime) -> Result<(), Fail> {
+    for (text, line) in &LONG {
+        let file = capture_of(rt.alloc(), text)?;
+        assert_eq!(rt; printed(rt.alloc(), &file, 65_536)?.as_str(), *line);
+    }
+    Ok(())
 }
 
 /// Whole files in hexadecimal. `MAGIC` stands for the eight bytes `NFS3CAP1`.
@@ -164,7 +217,7 @@ fn fragments_in_chunks_of_a_byte(rt: HostRuntime) -> Result<(), Fail> {
 }
 
 const GETATTR: &str =
-    "> 00000007 CALL NFS 00000001 NONE NONE 00000005 61626364 65ffffff < 00000007 SUCCESS 00000000 00000002 000001ed 00000002 00000000 00000000 00000000 00001000 00000000 00001000 00000000 00000000 00000000 00000001 00000000 00000002 00000001 00000000 00000001 00000000 00000001 00000000";
+    "> 00000007 CALL NFS 00000001 NONE NONE 00000005 61626364 65ffffff < 00000007 SUCCESS 00000000 ATTRIBUTES";
 
 /// Every prefix of a well-formed capture is cut at its own length.
 #[test]
@@ -194,7 +247,7 @@ fn cut_at(at: u64) -> Error {
 }
 
 const MTYPE_2: &str =
-    "> 00000007 00000002 00000002 NFS 00000001 NONE NONE 00000005 61626364 65ffffff < 00000007 SUCCESS 00000000 00000002 000001ed 00000002 00000000 00000000 00000000 00001000 00000000 00001000 00000000 00000000 00000000 00000001 00000000 00000002 00000001 00000000 00000001 00000000 00000001 00000000";
+    "> 00000007 00000002 00000002 NFS 00000001 NONE NONE 00000005 61626364 65ffffff < 00000007 SUCCESS 00000000 ATTRIBUTES";
 
 /// A bad mtype is known at its record's last byte, byte 72 of the file, and not before.
 #[test]

@@ -1,4 +1,9 @@
 // Captures from text.
+//
+// A text has the bodies of its records in hexadecimal, behind `>` from the client and behind `<` from the
+// server; `|` begins a further connection. Of its words `CALL` stands for mtype 0 and rpcvers 2, `NFS` and
+// `MOUNT` for the program and its version 3, `NONE` for AUTH_NONE without a body, `SUCCESS` for an accepted
+// success, and `ATTRIBUTES` for a folder's attributes. `61*1024` stands for 1,024 times its bytes.
 
 use std::alloc::Global;
 use std::str::Split;
@@ -7,19 +12,37 @@ use std::test::Fail;
 /// Appends bytes that are written in hexadecimal, with words that stand for others.
 pub(crate) fn append_hex(alloc: Global, out: &mut Vec<u8>, text: &str) -> Result<(), Fail> {
     for word in text.split_whitespace() {
-        let digits = match word {
-            "MAGIC" => "4e46533343415031",
-            "CALL" => "0000000000000002",
-            "NFS" => "000186a300000003",
-            "MOUNT" => "000186a500000003",
-            "NONE" => "0000000000000000",
-            "SUCCESS" => "0000000100000000000000000000000000000000",
-            digits => digits,
-        };
-        let bytes = hex::decode(alloc, digits)?;
+        match word.split_once('*') {
+            Some((digits, times)) => append_times(alloc, out, digits, times.parse()?)?,
+            None => append_times(alloc, out, word, 1)?,
+        }
+    }
+    Ok(())
+}
+
+fn append_times(alloc: Global, out: &mut Vec<u8>, word: &str, times: u32) -> Result<(), Fail> {
+    let bytes = hex::decode(alloc, digits_of(word))?;
+    for _ in 0..times {
         out.extend_from_slice(&bytes)?;
     }
     Ok(())
+}
+
+/// The digits that a word stands for.
+fn digits_of<'a>(word: &'a str) -> &'a str {
+    match word {
+        "MAGIC" => "4e46533343415031",
+        "CALL" => "0000000000000002",
+        "NFS" => "000186a300000003",
+        "MOUNT" => "000186a500000003",
+        "NONE" => "0000000000000000",
+        "SUCCESS" => "0000000100000000000000000000000000000000",
+        // fattr3 (RFC 1813, section 2.5): a folder, mode 755, two links, 4,096 bytes, file system 1, file 2
+        "ATTRIBUTES" => {
+            "00000002000001ed00000002000000000000000000000000000010000000000000001000000000000000000000000000000000010000000000000002000000010000000000000001000000000000000100000000"
+        }
+        digits => digits,
+    }
 }
 
 pub(crate) fn append_word(out: &mut Vec<u8>, n: u32) -> Result<(), Fail> {
@@ -33,18 +56,24 @@ pub(crate) fn capture_of_hex(alloc: Global, text: &str) -> Result<Vec<u8>, Fail>
     Ok(file)
 }
 
-/// A capture of one connection, with a chunk and a fragment for each record. Behind each `>` stands a
-/// body of the client stream, behind each `<` one of the server stream.
+/// A capture with a chunk and a fragment for each record.
 pub(crate) fn capture_of(alloc: Global, text: &str) -> Result<Vec<u8>, Fail> {
+    let mut file = capture_of_hex(alloc, "MAGIC")?;
+    for connection in text.split('|') {
+        append_connection(alloc, &mut file, connection)?;
+    }
+    append_word(&mut file, 0)?;
+    Ok(file)
+}
+
+fn append_connection(alloc: Global, file: &mut Vec<u8>, text: &str) -> Result<(), Fail> {
     let (calls, replies) = match text.find('<') {
         Some(i) => text.split_at(i),
         None => (text, ""),
     };
-    let mut file = capture_of_hex(alloc, "MAGIC 00000001")?;
-    append_stream(alloc, &mut file, calls.split('>'))?;
-    append_stream(alloc, &mut file, replies.split('<'))?;
-    append_word(&mut file, 0)?;
-    Ok(file)
+    append_word(file, 1)?;
+    append_stream(alloc, file, calls.split('>'))?;
+    append_stream(alloc, file, replies.split('<'))
 }
 
 fn append_stream<'a>(

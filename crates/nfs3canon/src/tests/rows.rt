@@ -1,11 +1,7 @@
-// Captures of one connection, and the line that `check` prints of each.
-//
-// A text has the bodies of its records in hexadecimal, behind `>` from the client and behind `<` from the
-// server. Of its words `CALL` stands for mtype 0 and rpcvers 2, `NFS` and `MOUNT` for the program and its
-// version 3, `NONE` for AUTH_NONE without a body, and `SUCCESS` for an accepted success.
+// Captures, and the line that `check` prints of each. `build` tells how the texts are read.
 
 /// Heads, and what stands behind them.
-pub(crate) static HEADS: [(&str, &str); 19] = [
+pub(crate) static HEADS: [(&str, &str); 18] = [
     // NULL
     (
         "> deadbeef CALL NFS 00000000 NONE NONE < deadbeef SUCCESS",
@@ -15,11 +11,6 @@ pub(crate) static HEADS: [(&str, &str); 19] = [
     (
         "> 00000001 CALL NFS 00000000 NONE NONE 00000000",
         "connection 1 client record 1 byte 40: Trailing\n",
-    ),
-    // GETATTR, raw
-    (
-        "> 00000007 CALL NFS 00000001 NONE NONE 00000005 61626364 65ffffff < 00000007 SUCCESS 00000000 00000002 000001ed 00000002 00000000 00000000 00000000 00001000 00000000 00001000 00000000 00000000 00000000 00000001 00000000 00000002 00000001 00000000 00000001 00000000 00000001 00000000",
-        "ok connections=1 calls=1 replies=1 handles=0\n",
     ),
     // rpcvers 3
     (
@@ -95,7 +86,7 @@ pub(crate) static HEADS: [(&str, &str); 19] = [
 ];
 
 /// Credentials and verifiers.
-pub(crate) static CREDENTIALS: [(&str, &str); 16] = [
+pub(crate) static CREDENTIALS: [(&str, &str); 18] = [
     // AUTH_SYS without groups
     (
         "> 00000001 CALL NFS 00000000 00000001 0000001c 00000001 00000006 636c6965 6e740000 00000000 00000000 00000000 NONE",
@@ -161,6 +152,11 @@ pub(crate) static CREDENTIALS: [(&str, &str); 16] = [
         "> 00000001 CALL NFS 00000000 00000000 00000003 010203ff NONE",
         "ok connections=1 calls=1 replies=0 handles=0\n",
     ),
+    // a body of 400 bytes under AUTH_NONE
+    (
+        "> 00000001 CALL NFS 00000000 00000000 00000190 00*400 NONE",
+        "ok connections=1 calls=1 replies=0 handles=0\n",
+    ),
     // a body of 401 bytes under AUTH_NONE
     (
         "> 00000001 CALL NFS 00000000 00000000 00000191 NONE",
@@ -171,6 +167,11 @@ pub(crate) static CREDENTIALS: [(&str, &str); 16] = [
         "> 00000001 CALL NFS 00000000 NONE 00000001 00000000",
         "connection 1 client record 1 byte 32: Flavor\n",
     ),
+    // a verifier of 400 bytes
+    (
+        "> 00000001 CALL NFS 00000000 NONE 00000000 00000190 00*400",
+        "ok connections=1 calls=1 replies=0 handles=0\n",
+    ),
     // a verifier of 401 bytes
     (
         "> 00000001 CALL NFS 00000000 NONE 00000000 00000191",
@@ -179,18 +180,23 @@ pub(crate) static CREDENTIALS: [(&str, &str); 16] = [
 ];
 
 /// Sides, xids and the calls that replies answer.
-pub(crate) static PAIRING: [(&str, &str); 9] = [
+pub(crate) static PAIRING: [(&str, &str); 24] = [
     // empty streams
     ("", "ok connections=1 calls=0 replies=0 handles=0\n"),
     // LOOKUP twice, two replies
     (
         "> 00000009 CALL NFS 00000003 NONE NONE 00000001 aa000000 00000001 61000000 > 00000009 CALL NFS 00000003 NONE NONE 00000001 aa000000 00000001 61000000 < 00000009 SUCCESS 00000002 00000000 < 00000009 SUCCESS 00000002 00000000",
-        "ok connections=1 calls=2 replies=2 handles=0\n",
+        "ok connections=1 calls=2 replies=2 handles=1\n",
     ),
     // LOOKUP and READ with one xid
     (
         "> 00000009 CALL NFS 00000003 NONE NONE 00000001 aa000000 00000001 61000000 > 00000009 CALL NFS 00000006 NONE NONE 00000001 aa000000 00000000 00000000 00000010",
         "connection 1 client record 2 byte 0: XidConflict\n",
+    ),
+    // LOOKUP and READ with one xid, and a word more
+    (
+        "> 00000009 CALL NFS 00000003 NONE NONE 00000001 aa000000 00000001 61000000 > 00000009 CALL NFS 00000006 NONE NONE 00000001 aa000000 00000000 00000000 00000010 00000000",
+        "connection 1 client record 2 byte 60: Trailing\n",
     ),
     // NULL with the xid of another call, and a word more
     (
@@ -221,5 +227,94 @@ pub(crate) static PAIRING: [(&str, &str); 9] = [
     (
         "< 00000001 00000002",
         "connection 1 server record 1 byte 4: BadEnum\n",
+    ),
+    // replies in another order than their calls
+    (
+        "> 00000001 CALL NFS 00000001 NONE NONE 00000001 aa000000 > 00000002 CALL NFS 00000000 NONE NONE < 00000002 SUCCESS < 00000001 SUCCESS 00000000 ATTRIBUTES",
+        "ok connections=1 calls=2 replies=2 handles=1\n",
+    ),
+    // the reply to the second call, and a word more
+    (
+        "> 00000001 CALL NFS 00000001 NONE NONE 00000001 aa000000 > 00000002 CALL NFS 00000000 NONE NONE < 00000002 SUCCESS 00000000 < 00000001 SUCCESS 00000000 ATTRIBUTES",
+        "connection 1 server record 1 byte 24: Trailing\n",
+    ),
+    // a reply that is read as that of the other call
+    (
+        "> 00000001 CALL NFS 00000001 NONE NONE 00000001 aa000000 > 00000002 CALL NFS 00000000 NONE NONE < 00000001 SUCCESS",
+        "connection 1 server record 1 byte 24: Short\n",
+    ),
+    // two handles
+    (
+        "> 00000005 CALL NFS 00000001 NONE NONE 00000001 aa000000 > 00000006 CALL NFS 00000001 NONE NONE 00000001 bb000000",
+        "ok connections=1 calls=2 replies=0 handles=2\n",
+    ),
+    // one handle twice
+    (
+        "> 00000005 CALL NFS 00000001 NONE NONE 00000001 cc000000 > 00000006 CALL NFS 00000001 NONE NONE 00000001 ccffffff",
+        "ok connections=1 calls=2 replies=0 handles=1\n",
+    ),
+    // handles of one byte more
+    (
+        "> 00000005 CALL NFS 00000001 NONE NONE 00000001 cc000000 > 00000006 CALL NFS 00000001 NONE NONE 00000002 cc000000",
+        "ok connections=1 calls=2 replies=0 handles=2\n",
+    ),
+    // one handle in two connections
+    (
+        "> 00000001 CALL NFS 00000001 NONE NONE 00000001 aa000000 | > 00000001 CALL NFS 00000001 NONE NONE 00000001 aa000000",
+        "ok connections=2 calls=2 replies=0 handles=1\n",
+    ),
+    // two handles in two connections
+    (
+        "> 00000001 CALL NFS 00000001 NONE NONE 00000001 aa000000 | > 00000001 CALL NFS 00000001 NONE NONE 00000001 bb000000",
+        "ok connections=2 calls=2 replies=0 handles=2\n",
+    ),
+    // an xid of the connection before, with another procedure
+    (
+        "> 00000001 CALL NFS 00000001 NONE NONE 00000001 aa000000 < 00000001 SUCCESS 00000046 | > 00000001 CALL NFS 00000000 NONE NONE < 00000001 SUCCESS",
+        "ok connections=2 calls=2 replies=2 handles=1\n",
+    ),
+    // a reply to a call of the connection before
+    (
+        "> 00000001 CALL NFS 00000001 NONE NONE 00000001 aa000000 | < 00000001 SUCCESS 00000046",
+        "connection 2 server record 1 byte 0: NoCall\n",
+    ),
+    // a second connection's second call
+    (
+        "> 00000001 CALL NFS 00000001 NONE NONE 00000001 aa000000 | > 00000001 CALL NFS 00000001 NONE NONE 00000001 aa000000 > 00000002 CALL NFS 00000000 NONE NONE 00000000",
+        "connection 2 client record 2 byte 40: Trailing\n",
+    ),
+    // a denied reply to GETATTR
+    (
+        "> 00000001 CALL NFS 00000001 NONE NONE 00000001 aa000000 < 00000001 00000001 00000001 00000001 00000005",
+        "ok connections=1 calls=1 replies=1 handles=1\n",
+    ),
+    // an accepted reply without results to GETATTR
+    (
+        "> 00000001 CALL NFS 00000001 NONE NONE 00000001 aa000000 < 00000001 00000001 00000000 00000000 00000000 00000005",
+        "ok connections=1 calls=1 replies=1 handles=1\n",
+    ),
+    // results behind SYSTEM_ERR
+    (
+        "> 00000001 CALL NFS 00000001 NONE NONE 00000001 aa000000 < 00000001 00000001 00000000 00000000 00000000 00000005 00000046",
+        "connection 1 server record 1 byte 24: Trailing\n",
+    ),
+];
+
+/// Messages of many entries, and of the most bytes that a record may have.
+pub(crate) static LONG: [(&str, &str); 3] = [
+    // a READDIR reply of 100,000 entries
+    (
+        "> 00000001 CALL NFS 00000010 NONE NONE 00000001 aa000000 00000000 00000000 00000000 00000000 00001000 < 00000001 SUCCESS 00000000 00000000 01020304 05060708 00000001000000000000000200000001610000000000000000000001*100000 00000000 00000001",
+        "ok connections=1 calls=1 replies=1 handles=1\n",
+    ),
+    // a call of 16,777,216 bytes
+    (
+        "> 00000001 CALL 00018783 00000003 00000001 NONE NONE 000000000000000000000000000000000000000000000000*699049",
+        "ok connections=1 calls=1 replies=0 handles=0\n",
+    ),
+    // a call of a byte more
+    (
+        "> 00000001 CALL 00018783 00000003 00000001 NONE NONE 000000000000000000000000000000000000000000000000*699049 00",
+        "connection 1 client record 1 byte 0: RecordTooLong\n",
     ),
 ];

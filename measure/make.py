@@ -1,0 +1,200 @@
+#!/usr/bin/env python3
+"""Writes big captures on which the program is measured.
+
+    make.py readdir OUT         a READDIR reply of 100,000 entries, and its call
+    make.py long OUT            a raw call with the longest body that a record may have
+    make.py mixed MEGABYTES OUT what a file server sees: attributes, names, folders, and data of 32 to 64 KiB
+    make.py small MEGABYTES OUT GETATTR, LOOKUP and ACCESS alone
+
+All are well formed, and the same at each run. Messages are written as they are made, so memory stays small.
+"""
+import argparse
+import collections
+import pathlib
+import random
+import sys
+
+sys.path.insert(0, str(pathlib.Path(__file__).resolve().parent.parent / 'examples'))
+from messages import (  # noqa: E402
+    DIR, MAGIC, NFS, NFSACL, NFS_PROCEDURES, REG, UNSTABLE, auth_sys, call, dirop, entries, entry, entryplus, fattr, fh,
+    hyper, ok, opaque, post_op_attr, record, success, wcc, word)
+
+LONGEST_BODY = 16_777_216
+CALLS = 2_000               # in a connection
+FILES = 10_000
+FOLDERS = 100               # the first of the files
+MOST_MEGABYTES = 1_000      # a capture's streams may have 1,073,741,824 bytes
+
+KIB = 1_024
+CREDENTIAL = auth_sys(0x1d2c, b'client.example', 1000, 1000, [4, 24, 1000])
+WRITE_VERIFIER = bytes.fromhex('6553f100000a1b2c')
+COOKIE_VERIFIER = bytes.fromhex('00000000000000c7')
+
+
+def handle(file):
+    """A handle of 28 bytes, as servers make them: a file system's number, the file's, and a generation."""
+    return bytes.fromhex('01000701') + bytes(7) + b'\x42' + hyper(file) + hyper(0x5dee1f00)
+
+
+def attributes(file):
+    if file < FOLDERS:
+        return fattr(DIR, file, size=4096, mode=0o755, nlink=2)
+    return fattr(REG, file, size=file * 977)
+
+
+def name(file):
+    return b'file%05d.dat' % file
+
+
+class Server:
+    """What a server would answer, with what many messages share made once."""
+
+    def __init__(self, chance):
+        self.handles = [handle(file) for file in range(FILES)]
+        self.attributes = [attributes(file) for file in range(FILES)]
+        self.changes = [wcc(4096, known) for known in self.attributes]
+        self.data = chance.randbytes(128 * KIB)
+
+    def content(self, exchange):
+        """The data that are read or written: other bytes for each file."""
+        return self.data[exchange.file:exchange.file + exchange.size]
+
+    def arguments(self, exchange):
+        this = fh(self.handles[exchange.file])
+        match exchange.procedure:
+            case 'GETATTR':
+                return this
+            case 'LOOKUP':
+                return dirop(self.handles[exchange.file % FOLDERS], name(exchange.file))
+            case 'ACCESS':
+                return this + word(0x1f)
+            case 'READ':
+                return this + hyper(0) + word(exchange.size)
+            case 'WRITE':
+                return this + hyper(0) + word(exchange.size) + word(UNSTABLE) + opaque(self.content(exchange))
+            case 'COMMIT':
+                return this + hyper(0) + word(0)
+            case 'READDIRPLUS':
+                return fh(self.handles[exchange.file % FOLDERS]) + hyper(0) + bytes(8) + word(8 * KIB) + word(32 * KIB)
+
+    def results(self, exchange):
+        file = exchange.file
+        known = post_op_attr(self.attributes[file])
+        match exchange.procedure:
+            case 'GETATTR':
+                return ok(self.attributes[file])
+            case 'LOOKUP':
+                return ok(fh(self.handles[file]), known, post_op_attr(self.attributes[file % FOLDERS]))
+            case 'ACCESS':
+                return ok(known, word(0x1f))
+            case 'READ':
+                return ok(known, word(exchange.size), word(0), opaque(self.content(exchange)))
+            case 'WRITE':
+                return ok(self.changes[file], word(exchange.size), word(UNSTABLE), WRITE_VERIFIER)
+            case 'COMMIT':
+                return ok(self.changes[file], WRITE_VERIFIER)
+            case 'READDIRPLUS':
+                return ok(self.listing(file % FOLDERS))
+
+    def listing(self, folder):
+        """The first 50 files of a folder."""
+        files = range(FOLDERS + folder, FILES, FOLDERS)[:50]
+        items = [entryplus(file, name(file), cookie, self.attributes[file], self.handles[file])
+                 for cookie, file in enumerate(files, 1)]
+        return entries(self.attributes[folder], COOKIE_VERIFIER, items, is_end=False)
+
+
+# How many of a hundred calls are of a procedure.
+MIXED = {'GETATTR': 26, 'LOOKUP': 20, 'ACCESS': 20, 'READ': 18, 'WRITE': 9, 'COMMIT': 4, 'READDIRPLUS': 3}
+SMALL = {'GETATTR': 40, 'LOOKUP': 35, 'ACCESS': 25}
+
+# About how many bytes a call and its reply have, without data.
+BYTES = {'GETATTR': 260, 'LOOKUP': 390, 'ACCESS': 260, 'READ': 280, 'WRITE': 310, 'COMMIT': 300, 'READDIRPLUS': 8_000}
+
+Exchange = collections.namedtuple('Exchange', 'xid procedure file size')
+
+
+def exchanges(chance, mix, room):
+    """A connection's exchanges, and about how many bytes they have. They end where the room is used up."""
+    first_xid = chance.getrandbits(31)
+    taken, used = [], 0
+    for procedure in chance.choices(list(mix), list(mix.values()), k=CALLS):
+        size = chance.randrange(32 * KIB, 64 * KIB + 1) if procedure in ('READ', 'WRITE') else 0
+        taken.append(Exchange(first_xid + len(taken), procedure, chance.randrange(FOLDERS, FILES), size))
+        used += BYTES[procedure] + size
+        if used >= room:
+            break
+    return taken, used
+
+
+def reordered(chance, items):
+    """The items, each at most some places from its own: a server answers what is done first."""
+    places = [i + chance.uniform(0, 16) for i in range(len(items))]
+    return [items[i] for i in sorted(range(len(items)), key=places.__getitem__)]
+
+
+def write_connections(out, mix, megabytes):
+    chance = random.Random(1)
+    server = Server(chance)
+    room = megabytes * 1_000_000
+    out.write(MAGIC)
+    while room > 0:
+        taken, used = exchanges(chance, mix, room)
+        room -= used
+        out.write(word(1))
+        for exchange in taken:
+            number = NFS_PROCEDURES.index(exchange.procedure)
+            out.write(record(call(exchange.xid, NFS, 3, number, server.arguments(exchange), credential=CREDENTIAL)))
+        out.write(word(0))
+        for exchange in reordered(chance, taken):
+            out.write(record(success(exchange.xid, server.results(exchange))))
+        out.write(word(0))
+    out.write(word(0))
+
+
+def write_readdir(out):
+    """A READDIR call and its reply, whose body has 2,800,048 bytes."""
+    arguments = fh(b'\xaa') + hyper(0) + bytes(8) + word(4 << 20)
+    items = (entry(cookie, b'a', cookie) for cookie in range(1, 100_001))
+    reply = success(1, ok(entries(None, COOKIE_VERIFIER, items, is_end=True)))
+    out.write(MAGIC + word(1) + record(call(1, NFS, 3, NFS_PROCEDURES.index('READDIR'), arguments)) + word(0))
+    out.write(record(reply) + word(0) + word(0))
+
+
+def write_long(out):
+    """A raw call whose body is as long as a record may be."""
+    head = len(call(1, NFSACL, 3, 1))
+    out.write(MAGIC + word(1) + record(call(1, NFSACL, 3, 1, bytes(LONGEST_BODY - head))) + word(0))
+    out.write(word(0) + word(0))
+
+
+def megabytes(text):
+    number = int(text)
+    if not 1 <= number <= MOST_MEGABYTES:
+        raise argparse.ArgumentTypeError(f'1 to {MOST_MEGABYTES}')
+    return number
+
+
+def main():
+    parser = argparse.ArgumentParser(description=__doc__, formatter_class=argparse.RawDescriptionHelpFormatter)
+    kinds = parser.add_subparsers(dest='kind', required=True)
+    for kind in ('readdir', 'long', 'mixed', 'small'):
+        arguments = kinds.add_parser(kind)
+        if kind in ('mixed', 'small'):
+            arguments.add_argument('megabytes', type=megabytes)
+        arguments.add_argument('out')
+    chosen = parser.parse_args()
+    with open(chosen.out, 'wb') as out:
+        match chosen.kind:
+            case 'readdir':
+                write_readdir(out)
+            case 'long':
+                write_long(out)
+            case 'mixed':
+                write_connections(out, MIXED, chosen.megabytes)
+            case 'small':
+                write_connections(out, SMALL, chosen.megabytes)
+
+
+if __name__ == '__main__':
+    main()
