@@ -29,3 +29,4 @@ pub mod SideRules
 pub mod FileRules
 pub mod Loosened
 pub mod Parsed
+pub mod Histories

@@ -138,7 +138,7 @@ inside_within One before bytes more (inr r) = (
   ),
 )
 
-whole_within : (bytes : List ℕ) (entries : List Entry) → AreWhole bytes entries → AreWithinLimits entries
+pub whole_within : (bytes : List ℕ) (entries : List Entry) → AreWhole bytes entries → AreWithinLimits entries
 whole_within bytes entries (InMagic version more e none) = record { few = omega (arith, ap begins none); small = omega (arith, ap spelled none) }
 whole_within bytes entries (BetweenConnections version front part connections split opens ends) =
     record { few = omega (arith, have_begins connections entries opens.messages, opens.few); small = omega (arith, have_spelled connections entries opens.messages, opens.small) }

@@ -1,5 +1,5 @@
 -- How long a capture file can be.
-use Rattle.std.proofs.Common.{◌≡◌, inl, inr, ℕ, suc, ◌+◌, ◌*◌, ◌≤◌, List, [], ◌∷◌, ◌++◌, length, refl, sym, ap, ◌∙◌, append-nil, arith, length-append}
+use Rattle.std.proofs.Common.{◌≡◌, inl, inr, ℕ, ◌+◌, ◌*◌, ◌≤◌, List, [], ◌∷◌, ◌++◌, length, refl, sym, ap, append-nil, arith, length-append}
 use Rattle.std.specs.List.{concat}
 use Rattle.record_mark.specs.Machine.{Run, Runs, Stops, Stopped}
 use Rattle.record_mark.specs.Word.{Joins}

@@ -104,6 +104,13 @@ abbrev pub error_at : Position → Side → GetError → Error
 error_at position side (gets.Stop stop) = errors.Refused (record { place = places.Record position.connections side position.records stop.at; reason = stop.reason })
 error_at position side gets.Memory = errors.Memory
 
+-- the bytes are refused, or memory ran out: no device failed
+abbrev pub IsOfBytes : Error → Type 0
+IsOfBytes (errors.Refused fault) = Unit {0}
+IsOfBytes errors.Read = ⊥
+IsOfBytes errors.Write = ⊥
+IsOfBytes errors.Memory = Unit {0}
+
 abbrev pub entry_cost : Option kept.Entry → ℕ
 entry_cost None = 0
 entry_cost (Some entry) = 1

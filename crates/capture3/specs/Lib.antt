@@ -26,3 +26,4 @@ pub mod Examples
 pub mod Kept
 pub mod Spelled
 pub mod Judges
+pub mod Entries

@@ -7,7 +7,7 @@ ghost use Rattle.xdr3.specs.Item.{Item};
 ghost use Rattle.capture3.specs.Connections.{Refusal};
 ghost use Rattle.capture3.specs.Container.{Leaves};
 ghost use Rattle.capture3.specs.Entry as spec;
-ghost use Rattle.capture3.specs.Judges.{EndsWith, entry_cost, error_at, FailsAt, GoesTo, HasMet, KeepsCall, KeepsReply, RefusesBody, StandsAt};
+ghost use Rattle.capture3.specs.Judges.{EndsWith, entry_cost, error_at, FailsAt, GoesTo, HasMet, IsOfBytes, KeepsCall, KeepsReply, RefusesBody, StandsAt};
 ghost use Rattle.capture3.specs.Judging.{judge_call, judge_reply};
 ghost use Rattle.capture3.specs.Messages.{IsTableOf};
 ghost use Rattle.capture3.specs.Parsing.{Parsing, file_next, file_start};
@@ -58,6 +58,7 @@ impl Capture {
         ensures room { IfOk result (λ r. room_of self.new.container.position + entry_cost r.1 ≤ room_of self.old.container.position) }
         ensures machine { (run : Run Parsing Refusal) (entries : List spec.Entry) → StandsAt self.old.container.position self.old.container.joiner self.old.calls run entries → IfOk result (λ r. GoesTo r.1 self.new.container.position self.new.container.joiner self.new.calls (after file_next run (take r.0 piece.now)) entries) }
         ensures fault { (run : Run Parsing Refusal) (entries : List spec.Entry) → StandsAt self.old.container.position self.old.container.joiner self.old.calls run entries → IfErr result (FailsAt run piece.now) }
+        ensures device { IfErr result IsOfBytes }
     {
         match self.container.advance(piece) {
             Ok((count, Some(event))) => match self.entry(alloc, event) {
@@ -84,6 +85,7 @@ impl Capture {
         ensures position { self.new.container.position ≡ self.old.container.position }
         ensures machine { (run : Run Parsing Refusal) (entries : List spec.Entry) → HasMet self.old.container.position self.old.container.joiner self.old.calls event run entries → IfOk result (λ one. GoesTo (Some one) self.new.container.position self.new.container.joiner self.new.calls run entries) }
         ensures fault { (run : Run Parsing Refusal) (entries : List spec.Entry) → HasMet self.old.container.position self.old.container.joiner self.old.calls event run entries → IfErr result (EndsWith run) }
+        ensures device { IfErr result IsOfBytes }
     {
         match event {
             Event::Begin => {
@@ -103,6 +105,7 @@ impl Capture {
         ensures position { self.new.container.position ≡ self.old.container.position }
         ensures machine { (run : Run Parsing Refusal) (entries : List spec.Entry) → HasMet self.old.container.position self.old.container.joiner self.old.calls (Event.Record side) run entries → IfOk result (λ one. GoesTo (Some one) self.new.container.position self.new.container.joiner self.new.calls run entries) }
         ensures fault { (run : Run Parsing Refusal) (entries : List spec.Entry) → HasMet self.old.container.position self.old.container.joiner self.old.calls (Event.Record side) run entries → IfErr result (EndsWith run) }
+        ensures device { IfErr result IsOfBytes }
     {
         match side {
             Side::Client => match self.call(alloc) {
@@ -123,6 +126,7 @@ impl Capture {
         ensures position { self.new.container.position ≡ self.old.container.position }
         ensures ok { (calls : List (List Item)) → IsTableOf self.old.calls calls → IfOk result (KeepsCall calls (body_of self.old.container.joiner) self.new.calls) }
         ensures err { (calls : List (List Item)) → IsTableOf self.old.calls calls → IfErr result (RefusesBody self.old.container.position Side.Client (judge_call calls (body_of self.old.container.joiner))) }
+        ensures device { IfErr result IsOfBytes }
     {
         let body = self.container.body();
         let (xid, id) = match judge_call(alloc, self.calls.as_slice(), body) {
@@ -143,6 +147,7 @@ impl Capture {
         ensures calls { self.new.calls ≡ self.old.calls }
         ensures ok { (calls : List (List Item)) → IsTableOf self.old.calls calls → IfOk result (KeepsReply calls (body_of self.old.container.joiner)) }
         ensures err { (calls : List (List Item)) → IsTableOf self.old.calls calls → IfErr result (RefusesBody self.old.container.position Side.Server (judge_reply calls (body_of self.old.container.joiner))) }
+        ensures device { IfErr result IsOfBytes }
     {
         let body = self.container.body();
         let id = match judge_reply(alloc, self.calls.as_slice(), body) {
@@ -155,7 +160,8 @@ impl Capture {
     }
 
     fn record_error(&self, side: Side, error: GetError) -> Error
-        ensures { result ≡ error_at self.now.container.position side error }
+        ensures error { result ≡ error_at self.now.container.position side error }
+        ensures device { IsOfBytes result }
     {
         match error {
             GetError::Stop(stop) => self.container.record_fault(side, stop.at, stop.reason),

@@ -4,6 +4,7 @@
 mod calls;
 mod container;
 mod device;
+mod entries;
 mod entry;
 mod fault;
 mod hashers;
@@ -20,6 +21,7 @@ mod whole;
 mod word_part;
 
 pub use device::DeviceFailed;
+pub use entries::Entries;
 pub use entry::{Entry, KeptCall, KeptReply};
 pub use fault::{Error, Fault, Place, Side};
 pub use hashers::Hashers;

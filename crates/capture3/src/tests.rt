@@ -1,5 +1,8 @@
-use super::{DeviceFailed, Entry, Error, Fault, FromRead, MemSource, Place, Source, parse};
+use super::{
+    DeviceFailed, Entries, Entry, Error, Fault, FromRead, MemSource, Place, Source, parse,
+};
 use rpc_head::ProcId;
+use std::alloc::Global;
 use std::process::Abort;
 use std::test::Fail;
 use xdr3::Reason;
@@ -85,4 +88,115 @@ fn sources(rt: HostRuntime) {
     let blocks = [Ok(7), Err(DeviceFailed), Ok(7), Ok(6), Ok(0), Ok(0)];
     read_all(&rt, &mut MemSource::new(bytes, 7, 2), &blocks);
     read_all(&rt, &mut FromRead::new(bytes), &[Ok(16), Ok(4), Ok(0)]);
+}
+
+// The entries of the capture above, and how many of its bytes each needs.
+const NAMES: [&str; 6] = ["begin", "call", "turn", "reply", "close", "end"];
+
+const NEEDED: [usize; 5] = [12, 60, 64, 96, 100];
+
+fn file_fault(at: usize, reason: Reason) -> Error {
+    Error::Refused(Fault {
+        place: Place::File { at: at as u64 },
+        reason,
+    })
+}
+
+/// The names of the entries up to the end or to an error. Each is answered again.
+fn read_names<S: Source>(
+    rt: &impl Abort,
+    alloc: Global,
+    source: &mut S,
+) -> Result<(Vec<&'static str>, Option<Error>), Fail> {
+    let mut entries = Entries::new(alloc, source)?;
+    let mut names = Vec::new(alloc);
+    for _ in 0..10 {
+        match entries.next() {
+            Ok(Some(entry)) => names.push(name(&entry))?,
+            Ok(None) => {
+                assert!(rt; matches!(entries.next(), Ok(None)));
+                return Ok((names, None));
+            }
+            Err(error) => {
+                match entries.next() {
+                    Ok(_) => panic!(rt; "goes on behind {error:?}"),
+                    Err(again) => assert_eq!(rt; again, error),
+                }
+                return Ok((names, Some(error)));
+            }
+        }
+    }
+    panic!(rt; "ten entries")
+}
+
+#[test]
+fn entries_in_blocks(rt: HostRuntime) -> Result<(), Fail> {
+    for block in [1, 2, 3, 7, 60, 104, 65_536] {
+        let (names, error) = read_names(&rt, rt.alloc(), &mut MemSource::new(&NULL, block, 0))?;
+        assert_eq!(rt; names.as_slice(), NAMES.as_slice(), "in blocks of {block}");
+        assert_eq!(rt; error, None);
+    }
+    let (names, error) = read_names(&rt, rt.alloc(), &mut FromRead::new(NULL.as_slice()))?;
+    assert_eq!(rt; names.as_slice(), NAMES.as_slice());
+    assert_eq!(rt; error, None);
+    Ok(())
+}
+
+#[test]
+fn kept_messages_one_by_one(rt: HostRuntime) -> Result<(), Fail> {
+    let mut source = MemSource::new(&NULL, 5, 0);
+    let mut entries = Entries::new(rt.alloc(), &mut source)?;
+    for _ in 0..NAMES.len() {
+        match entries.next()? {
+            Some(Entry::Call(kept)) => {
+                let call = kept.read(rt.alloc())?;
+                assert_eq!(rt; call.xid, 0xdead_beef);
+                assert!(rt; call.head.id == NULL_PROCEDURE);
+            }
+            Some(Entry::Reply(kept)) => {
+                let reply = kept.read(rt.alloc())?;
+                assert_eq!(rt; reply.xid, 0xdead_beef);
+                assert!(rt; reply.id == NULL_PROCEDURE);
+            }
+            Some(_) => {}
+            None => panic!(rt; "too few entries"),
+        }
+    }
+    Ok(())
+}
+
+#[test]
+fn a_read_fails_at_each_call(rt: HostRuntime) -> Result<(), Fail> {
+    for fail in 1..15usize {
+        let mut source = MemSource::new(&NULL, 8, fail as u64);
+        let (names, error) = read_names(&rt, rt.alloc(), &mut source)?;
+        let given = 8 * (fail - 1);
+        let count = NEEDED.iter().filter(|&&needed| needed <= given).count();
+        assert_eq!(rt; names.as_slice(), &NAMES[..count], "call {fail} fails");
+        assert_eq!(rt; error, Some(Error::Read));
+    }
+    Ok(())
+}
+
+#[test]
+fn entries_of_a_shorter_prefix(rt: HostRuntime) -> Result<(), Fail> {
+    for size in 0..NULL.len() {
+        let (names, error) = read_names(&rt, rt.alloc(), &mut MemSource::new(&NULL[..size], 5, 0))?;
+        let count = NEEDED.iter().filter(|&&needed| needed <= size).count();
+        assert_eq!(rt; names.as_slice(), &NAMES[..count], "of {size} bytes");
+        assert_eq!(rt; error, Some(file_fault(size, Reason::CaptureCut)));
+    }
+    Ok(())
+}
+
+#[test]
+fn a_byte_behind_the_end(rt: HostRuntime) -> Result<(), Fail> {
+    let mut bytes = Vec::from_slice(rt.alloc(), &NULL)?;
+    bytes.push(0)?;
+    for block in [1, 104, 105] {
+        let (names, error) = read_names(&rt, rt.alloc(), &mut MemSource::new(&bytes, block, 0))?;
+        assert_eq!(rt; names.as_slice(), &NAMES[..5]);
+        assert_eq!(rt; error, Some(file_fault(104, Reason::AfterEnd)));
+    }
+    Ok(())
 }

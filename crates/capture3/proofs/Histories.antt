@@ -1,0 +1,422 @@
+-- What a reader of entries makes of its histories, step by step.
+use Rattle.std.proofs.Common.{◌≡◌, ◌≢◌, inl, inr, ℕ, ◌+◌, ◌-◌, ◌≤◌, ◌<◌, Option, Some, None, Result, Ok, Err, IfOk, IfErr, IsSome, List, [], ◌∷◌, ◌++◌, length, take, drop, slice_range, refl, sym, ap, subst, ◌∙◌, append_assoc, append-nil, length-append, arith, take-append-drop, length-take, length-drop}
+use Rattle.std.proofs.lemmas.Grind.{common_steps}
+use Rattle.std.proofs.lemmas.List.{drop-take}
+use Rattle.std.proofs.Math.Logic.{∥∥₁_elim}
+use Rattle.std.proofs.Props.{props}
+use Rattle.std.specs.Io.KnownBytes.{Consumes, Keeps, IsAtEnd}
+use Rattle.xdr3.specs.declared.reason.Reason.TheVariants.{CaptureCut}
+use Rattle.xdr3.specs.Item.{AreBytes}
+use Rattle.record_mark.specs.Joining.{Joining}
+use Rattle.record_mark.specs.Machine.{Run, Runs, Stops, Stopped, after}
+use Rattle.record_mark.specs.Taking.{Taking, Led, OutOfMemory, IsRunning}
+use Rattle.record_mark.proofs.Machines.{after-append}
+use Rattle.capture3.specs.declared.calls.NumberedCall.{NumberedCall}
+use Rattle.capture3.specs.declared.entries.Entries.{Entries}
+use Rattle.capture3.specs.declared.entries.Stage.{Stage}
+use Rattle.capture3.specs.declared.entries.Stage.TheVariants.{Reading, Over, Failed}
+use Rattle.capture3.specs.declared.entry.Entry as kept
+use Rattle.capture3.specs.declared.fault.Error.{Error}
+use Rattle.capture3.specs.declared.fault.Error.TheVariants as errors
+use Rattle.capture3.specs.declared.fault.Fault.{Fault}
+use Rattle.capture3.specs.declared.judging.Capture.{Capture}
+use Rattle.capture3.specs.declared.fault.Side.TheVariants.{Client, Server}
+use Rattle.capture3.specs.declared.position.Position.{Position}
+use Rattle.capture3.specs.declared.position.Spot.{Spot}
+use Rattle.capture3.specs.declared.position.Spot.TheVariants as spots
+use Rattle.capture3.specs.Connections.{Refusal}
+use Rattle.capture3.specs.Container.{unpacking_of}
+use Rattle.capture3.specs.Entries.{AreAllBeforeEnd, IsMetBy, left_in, entries_left, unjudged, IsReading, StandsIn, StandsFor, HasRead, GoesOn, Turns, HandsOut, Answers}
+use Rattle.capture3.specs.Entry.{Entry, End}
+use Rattle.capture3.specs.FirstFault.{FirstFault, IsClean}
+use Rattle.capture3.specs.Judges.{StandsAt, GoesTo, FailsAt, IsOfBytes, entry_cost}
+use Rattle.capture3.specs.Laws.{AreWithinLimits, most_bytes}
+use Rattle.capture3.specs.Parsing.{Parsing, file_next, file_start, parsed, emitted}
+use Rattle.capture3.specs.Position.{IsSound, IsSoundAt, opened_at, most_entries, room_of}
+use Rattle.capture3.specs.Reached.{AreWhole}
+use Rattle.capture3.specs.Resumed.{Judged, resumed_at, parsing_at, emitted_at}
+use Rattle.capture3.specs.Sides.{file_fault}
+use Rattle.capture3.specs.Typed.{Typed}
+use Rattle.capture3.specs.Unpacking.{Opened, Magic, Mark, Length, Chunk, Ended}
+use Rattle.capture3.proofs.BytesOf.{AreBytes-append, split_bytes}
+use Rattle.capture3.proofs.Limits.{typed_within, whole_within}
+use Rattle.capture3.proofs.Parsed.{cut_at, typed_at}
+use Rattle.capture3.proofs.Reaches.{stands_whole}
+use Rattle.capture3.proofs.Sizes.{clean_size}
+use Rattle.capture3.proofs.Verdicts.{clean_from_runs, shows_from_stops, told, verdict_from_fault, verdict_from_typed}
+
+-- ---- what is kept truncated
+
+sound_at-prop : (spot : Spot) (at total connections records : ℕ) → IsProp (IsSoundAt spot at total connections records)
+sound_at-prop spots.Magic at total connections records = hlevel props
+sound_at-prop (spots.Mark part) at total connections records = hlevel props
+sound_at-prop (spots.Length side part) at total connections records = hlevel props
+sound_at-prop (spots.Chunk side left) at total connections records = hlevel props
+sound_at-prop spots.Ended at total connections records = hlevel props
+
+sound-prop : (p : Position) → IsProp (IsSound p)
+sound-prop p = hlevel (props, sound_at-prop)
+
+pub sound_position : (p : Position) → ∥ IsSound p ∥₁ → IsSound p
+sound_position p h = ∥∥₁_elim h (sound-prop p) (λ s. s)
+
+running-prop : (t : Taking) → IsProp (IsRunning t)
+running-prop (Led (Runs s)) = hlevel props
+running-prop (Led (Stops end)) = hlevel props
+running-prop (Led (Stopped end)) = hlevel props
+running-prop OutOfMemory = hlevel props
+
+pub running_joiner : (t : Taking) → ∥ IsRunning t ∥₁ → IsRunning t
+running_joiner t h = ∥∥₁_elim h (running-prop t) (λ s. s)
+
+-- ---- behind bytes that the machine has taken
+
+emitted_is : (at total connections : ℕ) (joining : Joining) (o : Opened) (j : Judged) → emitted (resumed_at at total connections joining o j) ≡ emitted_at o j
+emitted_is at total connections joining (Magic []) j = append-nil j.entries
+emitted_is at total connections joining (Magic (due ∷ [])) j = append-nil j.entries
+emitted_is at total connections joining (Magic (due ∷ next ∷ more)) j = append-nil j.entries
+emitted_is at total connections joining (Mark part) j = append-nil j.entries
+emitted_is at total connections joining (Length Client part) j = refl
+emitted_is at total connections joining (Length Server part) j = refl
+emitted_is at total connections joining (Chunk Client left) j = refl
+emitted_is at total connections joining (Chunk Server left) j = refl
+emitted_is at total connections joining Ended j = append-nil j.entries
+
+module _ (bytes : List ℕ) (p : Position) (t : Taking) (table : List NumberedCall) (model : List Entry) (are : AreBytes bytes) (s : StandsAt p t table (parsed bytes) model) where
+  state : Parsing
+  state = parsing_at (unpacking_of p t) s.so_far
+
+  model_is : emitted state ≡ model
+  unfolding state
+  model_is = emitted_is p.at p.total p.connections (unpacking_of p t).joining (opened_at p.spot p.at) s.so_far ∙ sym s.emitted
+
+  runs_is : parsed bytes ≡ Runs state
+  unfolding state
+  runs_is = s.stands
+
+  pub whole_here : AreWhole bytes model
+  whole_here = subst (λ (entries : List Entry). AreWhole bytes entries) model_is (stands_whole bytes state (told bytes (Runs state) are runs_is))
+
+  pub within_here : AreWithinLimits model
+  within_here = whole_within bytes model whole_here
+
+  pub clean_here : IsClean bytes
+  clean_here = clean_from_runs bytes state runs_is
+
+  pub size_here : length bytes ≤ most_bytes
+  size_here = clean_size bytes are clean_here
+
+-- the piece leads on
+pub stands_behind : (front piece : List ℕ) (p : Position) (t : Taking) (table : List NumberedCall) (model : List Entry)
+    → StandsAt p t table (after file_next (parsed front) piece) model → StandsAt p t table (parsed (front ++ piece)) model
+stands_behind front piece p t table model s = subst (λ (r : Run Parsing Refusal). StandsAt p t table r model) (sym (after-append file_next (Runs file_start) front piece)) s
+
+-- ---- the block
+
+pub empty_range : {X : Type 0} (xs : List X) (start end : ℕ) → start ≡ end → slice_range xs start end ≡ []
+empty_range {X} xs start end same =
+    let none : end - start ≡ 0 = omega (arith, same) in
+    ap (λ (n : ℕ). take n (drop start xs)) none
+
+pub front_range : {X : Type 0} (xs : List X) (n : ℕ) → slice_range xs 0 n ≡ take n xs
+front_range {X} xs n =
+    let same : n - 0 ≡ n = omega arith in
+    ap (λ (m : ℕ). take m xs) same
+
+pub split_range : (block : List ℕ) (start end count : ℕ) → start + count ≤ end
+    → take count (slice_range block start end) ++ slice_range block (start + count) end ≡ slice_range block start end
+split_range block start end count fits =
+    let whole : end - start ≡ count + (end - (start + count)) = omega arith in
+    let rest : drop count (take (end - start) (drop start block)) ≡ take (end - (start + count)) (drop (start + count) block) =
+    rw whole (drop-take count (end - (start + count)) (drop start block) ∙ ap (take (end - (start + count))) (grind (arith, common_steps))) in
+    rw (← rest) (take-append-drop count (slice_range block start end))
+
+-- ---- the end, and a fault
+
+pub typed_here : (bytes : List ℕ) (p : Position) (t : Taking) (table : List NumberedCall) (model : List Entry) → AreBytes bytes → StandsAt p t table (parsed bytes) model → p.spot ≡ spots.Ended → Typed bytes (model ++ End ∷ [])
+typed_here bytes p t table model are s ended = typed_at bytes p t table (parsed bytes) model are s refl ended
+
+pub cut_here : (bytes : List ℕ) (p : Position) (t : Taking) (table : List NumberedCall) (model : List Entry) → AreBytes bytes → StandsAt p t table (parsed bytes) model → p.spot ≢ spots.Ended → FirstFault bytes (file_fault (length bytes) CaptureCut)
+cut_here bytes p t table model are s not = cut_at bytes p t table (parsed bytes) model are s refl not
+
+-- what was emitted is what the bytes reach
+pub all_before_end : (bytes : List ℕ) (p : Position) (t : Taking) (table : List NumberedCall) (model : List Entry) → AreBytes bytes → StandsAt p t table (parsed bytes) model → AreAllBeforeEnd bytes model
+all_before_end bytes p t table model are s = by_spot p.spot refl
+  where
+    not_ended : p.spot ≢ spots.Ended → AreAllBeforeEnd bytes model
+    not_ended not =
+        let cut = verdict_from_fault bytes (file_fault (length bytes) CaptureCut) are (cut_here bytes p t table model are s not) in
+        inr (
+          (λ w. let typed = verdict_from_typed bytes w.0 w.1 in cc),
+          inr (
+            (λ w. let typed = verdict_from_typed bytes w.0 w.1 in cc),
+            bytes,
+            model,
+            [],
+            record { rest = []; split = sym (append-nil bytes); clean = clean_here bytes p t table model are s; longest = inl (refl, refl) },
+            whole_here bytes p t table model are s,
+            sym (append-nil model),
+          ),
+        )
+
+    by_spot : (spot : Spot) → p.spot ≡ spot → AreAllBeforeEnd bytes model
+    by_spot spots.Magic is = not_ended (λ e. cc)
+    by_spot (spots.Mark part) is = not_ended (λ e. cc)
+    by_spot (spots.Length side part) is = not_ended (λ e. cc)
+    by_spot (spots.Chunk side left) is = not_ended (λ e. cc)
+    by_spot spots.Ended is = inl (typed_here bytes p t table model are s is)
+
+-- a fault along the bytes is the first, whatever comes behind them
+pub fault_within : (front piece rest : List ℕ) (fault : Fault) → AreBytes (front ++ piece) → FailsAt (parsed front) piece (errors.Refused fault) → FirstFault ((front ++ piece) ++ rest) fault
+fault_within front piece rest fault are (n, fits, (shown, stops, is)) =
+    let begun : List ℕ = front ++ take n piece in
+    let back : List ℕ = drop n piece in
+    let split : front ++ piece ≡ begun ++ back = ap (λ (b : List ℕ). front ++ b) (sym (take-append-drop n piece)) ∙ sym (append_assoc front (take n piece) back) in
+    let shows = shows_from_stops begun shown (split_bytes (front ++ piece) begun back split are).0 (after-append file_next (Runs file_start) front (take n piece) ∙ stops) in
+    inl (begun, back ++ rest, shown, ap (λ (b : List ℕ). b ++ rest) split ∙ append_assoc begun back rest, shows, sym is)
+
+-- ---- the reader
+
+module _ {R : Type 0} (left : R → Option (List ℕ)) where
+  pub reading_of : (e : Entries R) (given : List ℕ) (handed : List Entry) → e.stage ≡ Reading → StandsFor left e given handed → IsReading e given handed
+  reading_of e given handed is s = by_stage e.stage is s.here
+    where
+      by_stage : (stage : Stage) → stage ≡ Reading → StandsIn stage (left e.source.now) e given handed → IsReading e given handed
+      by_stage Reading is h = h
+      by_stage Over is h = absurd (cc)
+      by_stage (Failed error) is h = absurd (cc)
+
+  room_in : (e : Entries R) → e.stage ≡ Reading → entries_left e ≡ room_of e.capture.container.position + 1
+  room_in e is = ap (λ (stage : Stage). left_in stage e.capture.container.position) is
+
+  -- it reads on
+  pub stands_reading : (e : Entries R) (given : List ℕ) (handed : List Entry) → e.stage ≡ Reading → AreBytes given → length handed + (room_of e.capture.container.position + 1) ≤ most_entries → IsReading e given handed → StandsFor left e given handed
+  stands_reading e given handed is are few r = record {
+    bytes = are;
+    few = omega (arith, few, room_in e is);
+    connections = (within_here r.judged _ _ _ handed (split_bytes given r.judged (unjudged e) r.split are).0 r.machine).few;
+    here = subst (λ (stage : Stage). StandsIn stage (left e.source.now) e given handed) (sym is) r;
+  }
+
+  -- it has failed
+  pub stands_failed : (old new : Entries R) (error : Error) (given : List ℕ) (handed : List Entry) → new.stage ≡ Failed error → StandsFor left old given handed → IsMetBy error (left new.source.now) given handed → StandsFor left new given handed
+  stands_failed old new error given handed is s met = record {
+    bytes = s.bytes;
+    few = omega (arith, s.few, ap (λ (stage : Stage). left_in stage new.capture.container.position) is);
+    connections = s.connections;
+    here = subst (λ (stage : Stage). StandsIn stage (left new.source.now) new given handed) (sym is) met;
+  }
+
+  room_before : (e : Entries R) (given : List ℕ) (handed : List Entry) → e.stage ≡ Reading → StandsFor left e given handed → length handed + (room_of e.capture.container.position + 1) ≤ most_entries
+  room_before e given handed is s = omega (arith, s.few, room_in e is)
+
+  -- ---- a read
+
+  all_judged : (e : Entries R) (given : List ℕ) (handed : List Entry) → e.start ≡ e.end → (r : IsReading e given handed) → given ≡ r.judged
+  all_judged e given handed empty r = r.split ∙ ap (λ (b : List ℕ). r.judged ++ b) (empty_range e.block.items e.start e.end empty) ∙ append-nil r.judged
+
+  machine_at : (e : Entries R) (given : List ℕ) (handed : List Entry) → e.start ≡ e.end → IsReading e given handed → StandsAt e.capture.container.position e.capture.container.joiner e.capture.calls (parsed given) handed
+  machine_at e given handed empty r =
+      subst (λ (b : List ℕ). StandsAt e.capture.container.position e.capture.container.joiner e.capture.calls (parsed b) handed) (sym (all_judged e given handed empty r)) r.machine
+
+  pub has_read : (old new : Entries R) (given more : List ℕ) (handed : List Entry) → old.stage ≡ Reading → new.stage ≡ Reading → old.start ≡ old.end → new.capture ≡ old.capture → new.judged ≡ old.judged → unjudged new ≡ more → AreBytes more
+      → Consumes (left old.source.now) (left new.source.now) more → StandsFor left old given handed → HasRead left old new given handed
+  has_read old new given more handed is goes empty same count block are consumed s =
+      let r = reading_of old given handed is s in
+      let split : given ++ more ≡ r.judged ++ unjudged new = ap (λ (b : List ℕ). b ++ more) (all_judged old given handed empty r) ∙ ap (λ (b : List ℕ). r.judged ++ b) (sym block) in
+      record {
+        more = more;
+        consumed = consumed;
+        stands = stands_reading new (given ++ more) handed goes (AreBytes-append given more s.bytes are)
+            (omega (arith, room_before old given handed is s, ap (λ (c : Capture). room_of c.container.position) same))
+            (record { judged = r.judged; split = split; counted = count ∙ r.counted; machine = subst (λ (c : Capture). StandsAt c.container.position c.container.joiner c.calls (parsed r.judged) handed) (sym same) r.machine });
+      }
+
+  nothing_consumed : (old new : Option (List ℕ)) → Keeps old new → Consumes old new []
+  nothing_consumed None new kept = tt
+  nothing_consumed (Some xs) None kept = absurd kept
+  nothing_consumed (Some xs) (Some ys) kept = sym kept
+
+  pub has_failed : (old new : Entries R) (given : List ℕ) (handed : List Entry) → old.stage ≡ Reading → new.stage ≡ Failed errors.Read → old.start ≡ old.end
+      → Keeps (left old.source.now) (left new.source.now) → StandsFor left old given handed → HasRead left old new given handed
+  has_failed old new given handed is fails empty kept s =
+      record {
+        more = [];
+        consumed = nothing_consumed _ _ kept;
+        stands = subst (λ (b : List ℕ). StandsFor left new b handed) (sym (append-nil given))
+            (stands_failed old new errors.Read given handed fails s (all_before_end given _ _ _ handed s.bytes (machine_at old given handed empty (reading_of old given handed is s))));
+      }
+
+  -- ---- judging the block
+
+  pub moves_on : (old new : Entries R) (count : ℕ) (given : List ℕ) (handed all : List Entry) → new.judged ≡ old.judged + count → unjudged new ≡ slice_range old.block.items (old.start + count) old.end → old.start + count ≤ old.end → old.end ≤ length old.block.items
+      → (r : IsReading old given handed) → StandsAt new.capture.container.position new.capture.container.joiner new.capture.calls (after file_next (parsed r.judged) (take count (unjudged old))) all → IsReading new given all
+  moves_on old new count given handed all judged block fits within r machine =
+      let piece : List ℕ = take count (unjudged old) in
+      let inner = length-take (old.end - old.start) (drop old.start old.block.items) in
+      let outer = length-take count (unjudged old) in
+      let size = length-drop old.start old.block.items in
+      record {
+        judged = r.judged ++ piece;
+        split = r.split ∙ ap (λ (b : List ℕ). r.judged ++ b) (sym (split_range old.block.items old.start old.end count fits)) ∙ ap (λ (b : List ℕ). r.judged ++ (piece ++ b)) (sym block) ∙ sym (append_assoc r.judged piece (unjudged new));
+        counted = omega (arith, judged, r.counted, length-append r.judged piece, inner, outer, size, fits, within);
+        machine = stands_behind r.judged piece _ _ _ all machine;
+      }
+
+  -- with the entry that is whole, if one is
+  pub judged_on : (old new : Entries R) (count : ℕ) (given : List ℕ) (handed : List Entry) (came : Option kept.Entry) → old.stage ≡ Reading → new.stage ≡ Reading → new.judged ≡ old.judged + count
+      → unjudged new ≡ slice_range old.block.items (old.start + count) old.end → old.start + count ≤ old.end → old.end ≤ length old.block.items
+      → room_of new.capture.container.position + entry_cost came ≤ room_of old.capture.container.position → (s : StandsFor left old given handed)
+      → ((judged : List ℕ) → StandsAt old.capture.container.position old.capture.container.joiner old.capture.calls (parsed judged) handed
+      → GoesTo came new.capture.container.position new.capture.container.joiner new.capture.calls (after file_next (parsed judged) (take count (unjudged old))) handed) → GoesOn left new given handed (Ok came)
+  judged_on old new count given handed None is goes judged block fits within room s leads =
+      let r = reading_of old given handed is s in
+      stands_reading new given handed goes s.bytes (omega (arith, room_before old given handed is s, room)) (moves_on old new count given handed handed judged block fits within r (leads r.judged r.machine))
+  judged_on old new count given handed (Some one) is goes judged block fits within room s leads =
+      let r = reading_of old given handed is s in
+      let (entry, is_kept, machine) = leads r.judged r.machine in (
+        entry,
+        is_kept,
+        stands_reading new given (handed ++ entry ∷ []) goes s.bytes (omega (arith, room_before old given handed is s, room, length-append handed (entry ∷ []))) (moves_on old new count given handed (handed ++ entry ∷ []) judged block fits within r machine),
+      )
+
+  fails_by : (e : Entries R) (error : Error) (given : List ℕ) (handed : List Entry) (known : Option (List ℕ)) → AreBytes given → (r : IsReading e given handed) → FailsAt (parsed r.judged) (unjudged e) error → IsMetBy error known given handed
+  fails_by e (errors.Refused fault) given handed known are r f = λ rest is.
+      subst (λ (b : List ℕ). FirstFault (b ++ rest) fault) (sym r.split) (fault_within r.judged (unjudged e) rest fault (subst AreBytes r.split are) f)
+  fails_by e errors.Read given handed known are r f = absurd f
+  fails_by e errors.Write given handed known are r f = absurd f
+  fails_by e errors.Memory given handed known are r f = tt
+
+  pub judged_failed : (old new : Entries R) (error : Error) (given : List ℕ) (handed : List Entry) → old.stage ≡ Reading → new.stage ≡ Failed error → (s : StandsFor left old given handed)
+      → ((judged : List ℕ) → StandsAt old.capture.container.position old.capture.container.joiner old.capture.calls (parsed judged) handed → FailsAt (parsed judged) (unjudged old) error) → StandsFor left new given handed
+  judged_failed old new error given handed is fails s shows =
+      let r = reading_of old given handed is s in
+      stands_failed old new error given handed fails s (fails_by old error given handed (left new.source.now) s.bytes r (shows r.judged r.machine))
+
+  -- ---- the end
+
+  pub finished : (old new : Entries R) (given : List ℕ) (handed : List Entry) → old.stage ≡ Reading → new.stage ≡ Over → old.start ≡ old.end → old.capture.container.position.spot ≡ spots.Ended → IsAtEnd (left new.source.now)
+      → StandsFor left old given handed → StandsFor left new given (handed ++ End ∷ [])
+  finished old new given handed is over empty ended end s =
+      let typed = typed_here given _ _ _ handed s.bytes (machine_at old given handed empty (reading_of old given handed is s)) ended in
+      record {
+        bytes = s.bytes;
+        few = omega (arith, room_before old given handed is s, length-append handed (End ∷ []), ap (λ (stage : Stage). left_in stage new.capture.container.position) over);
+        connections = (typed_within given (handed ++ End ∷ []) typed).few;
+        here = subst (λ (stage : Stage). StandsIn stage (left new.source.now) new given (handed ++ End ∷ [])) (sym over) (typed, end);
+      }
+
+  nothing_behind : (given : List ℕ) (known : Option (List ℕ)) (rest : List ℕ) → IsAtEnd known → known ≡ Some rest → given ≡ given ++ rest
+  nothing_behind given None rest end is = absurd (cc)
+  nothing_behind given (Some xs) rest end is =
+      let same : xs ≡ rest = cc in
+      sym (ap (λ (b : List ℕ). given ++ b) (sym same ∙ end) ∙ append-nil given)
+
+  pub cut_short : (old new : Entries R) (error : Error) (given : List ℕ) (handed : List Entry) → old.stage ≡ Reading → new.stage ≡ Failed error → old.start ≡ old.end → old.capture.container.position.spot ≢ spots.Ended
+      → error ≡ errors.Refused (file_fault old.judged CaptureCut) → IsAtEnd (left new.source.now) → StandsFor left old given handed → StandsFor left new given handed
+  cut_short old new error given handed is fails empty not cut end s =
+      let r = reading_of old given handed is s in
+      let size : old.judged ≡ length given = r.counted ∙ ap length (sym (all_judged old given handed empty r)) in
+      let first : FirstFault given (file_fault old.judged CaptureCut) =
+      subst (λ (n : ℕ). FirstFault given (file_fault n CaptureCut)) (sym size) (cut_here given _ _ _ handed s.bytes (machine_at old given handed empty r) not) in
+      stands_failed old new error given handed fails s
+      (subst (λ (e : Error). IsMetBy e (left new.source.now) given handed) (sym cut) (λ rest known. subst (λ (b : List ℕ). FirstFault b (file_fault old.judged CaptureCut)) (nothing_behind given (left new.source.now) rest end known) first))
+
+  -- ---- one after another
+
+  consumes_both : (a b c : Option (List ℕ)) (xs ys : List ℕ) → Consumes a b xs → Consumes b c ys → Consumes a c (xs ++ ys)
+  consumes_both None b c xs ys p q = tt
+  consumes_both (Some us) None c xs ys p q = absurd p
+  consumes_both (Some us) (Some vs) None xs ys p q = absurd q
+  consumes_both (Some us) (Some vs) (Some ws) xs ys p q = p ∙ ap (λ (b : List ℕ). xs ++ b) q ∙ sym (append_assoc xs ys ws)
+
+  none_consumed : (known other : Option (List ℕ)) → other ≡ known → Consumes known other []
+  none_consumed None other is = tt
+  none_consumed (Some xs) None is = absurd (cc)
+  none_consumed (Some xs) (Some ys) is = let same : ys ≡ xs = cc in sym same
+
+  pub nothing_read : (e : Entries R) (given : List ℕ) (handed : List Entry) → StandsFor left e given handed → HasRead left e e given handed
+  nothing_read e given handed s = record {
+    more = [];
+    consumed = none_consumed (left e.source.now) (left e.source.now) refl;
+    stands = subst (λ (b : List ℕ). StandsFor left e b handed) (sym (append-nil given)) s;
+  }
+
+  abbrev pub Goes : Entries R → Entries R → Result (Option kept.Entry) Error → Type 0
+  Goes mid new result = (given : List ℕ) (handed : List Entry) → StandsFor left mid given handed → GoesOn left new given handed result
+
+  -- a read, and then the block is judged
+  pub turned : (old mid new : Entries R) (given : List ℕ) (handed : List Entry) (result : Result (Option kept.Entry) Error) → HasRead left old mid given handed → Goes mid new result → new.source.now ≡ mid.source.now → Turns left old new given handed result
+  turned old mid new given handed result read goes same = record {
+    more = read.more;
+    consumed = subst (λ (b : List ℕ). Consumes (left old.source.now) (left new.source.now) b) (append-nil read.more) (consumes_both _ _ _ read.more [] read.consumed (none_consumed _ _ (ap left same)));
+    goes_on = goes (given ++ read.more) handed read.stands;
+  }
+
+  pub turned_more : (old mid new : Entries R) (given : List ℕ) (handed : List Entry) (result : Result (Option kept.Entry) Error) → HasRead left old mid given handed
+      → ((given : List ℕ) (handed : List Entry) → StandsFor left mid given handed → Turns left mid new given handed result) → Turns left old new given handed result
+  turned_more old mid new given handed result read turns =
+      let t = turns (given ++ read.more) handed read.stands in
+      record {
+        more = read.more ++ t.more;
+        consumed = consumes_both _ _ _ read.more t.more read.consumed t.consumed;
+        goes_on = subst (λ (b : List ℕ). GoesOn left new b handed result) (append_assoc given read.more t.more) t.goes_on;
+      }
+
+  pub read_more : (old mid new : Entries R) (given : List ℕ) (handed : List Entry) (result : Result (Option kept.Entry) Error) → result ≡ Ok None → HasRead left old mid given handed
+      → ((given : List ℕ) (handed : List Entry) → StandsFor left mid given handed → Turns left mid new given handed result) → HasRead left old new given handed
+  read_more old mid new given handed result is read turns =
+      let t = subst (λ (r : Result (Option kept.Entry) Error). Turns left old new given handed r) is (turned_more old mid new given handed result read turns) in
+      record { more = t.more; consumed = t.consumed; stands = t.goes_on }
+
+  -- no capture is so long
+  pub too_long : (old mid new : Entries R) (given : List ℕ) (handed : List Entry) (result : Result (Option kept.Entry) Error) → HasRead left old mid given handed → mid.stage ≡ Reading → most_bytes < mid.judged → Turns left old new given handed result
+  too_long old mid new given handed result read is far =
+      let r = reading_of mid (given ++ read.more) handed is read.stands in
+      absurd (omega (arith, far, r.counted, size_here r.judged _ _ _ handed (split_bytes (given ++ read.more) r.judged (unjudged mid) r.split read.stands.bytes).0 r.machine))
+
+  -- ---- the answers
+
+  met_by : (e : Entries R) (error : Error) (given : List ℕ) (handed : List Entry) → e.stage ≡ Failed error → StandsFor left e given handed → IsMetBy error (left e.source.now) given handed
+  met_by e error given handed is s = subst (λ (stage : Stage). StandsIn stage (left e.source.now) e given handed) is s.here
+
+  hands_out : (e : Entries R) (given : List ℕ) (handed : List Entry) (result : Result (Option kept.Entry) Error) → IfOk result (λ next. IsSome next) → IfErr result (λ error. e.stage ≡ Failed error) → GoesOn left e given handed result → HandsOut left e given handed result
+  hands_out e given handed (Ok (Some one)) some fails h = h
+  hands_out e given handed (Ok None) some fails h = absurd (cc)
+  hands_out e given handed (Err error) some fails h = (met_by e error given handed fails h, h)
+
+  pub answers : (old new : Entries R) (given : List ℕ) (handed : List Entry) (result : Result (Option kept.Entry) Error) → IfOk result (λ next. IsSome next) → IfErr result (λ error. new.stage ≡ Failed error) → Turns left old new given handed result → Answers left old new given handed result
+  answers old new given handed result some fails t = record { more = t.more; consumed = t.consumed; hands_out = hands_out new (given ++ t.more) handed result some fails t.goes_on }
+
+  pub answers_none : (e : Entries R) (given : List ℕ) (handed : List Entry) → e.stage ≡ Over → StandsFor left e given handed → Answers left e e given handed (Ok None)
+  answers_none e given handed is s =
+      let here : StandsIn Over (left e.source.now) e given handed = subst (λ (stage : Stage). StandsIn stage (left e.source.now) e given handed) is s.here in
+      record {
+        more = [];
+        consumed = none_consumed (left e.source.now) (left e.source.now) refl;
+        hands_out = subst (λ (b : List ℕ). HandsOut left e b handed (Ok None)) (sym (append-nil given)) (here.0, here.1, s);
+      }
+
+  pub answers_again : (e : Entries R) (error : Error) (given : List ℕ) (handed : List Entry) → e.stage ≡ Failed error → StandsFor left e given handed → Answers left e e given handed (Err error)
+  answers_again e error given handed is s = record {
+    more = [];
+    consumed = none_consumed (left e.source.now) (left e.source.now) refl;
+    hands_out = subst (λ (b : List ℕ). HandsOut left e b handed (Err error)) (sym (append-nil given)) (met_by e error given handed is s, s);
+  }
+
+-- ---- no device failed
+
+pub not_read : (error : Error) → IsOfBytes error → error ≢ errors.Read
+not_read (errors.Refused fault) h = λ e. cc
+not_read errors.Read h = absurd h
+not_read errors.Write h = absurd h
+not_read errors.Memory h = λ e. cc
+
+pub not_write : (error : Error) → IsOfBytes error → error ≢ errors.Write
+not_write (errors.Refused fault) h = λ e. cc
+not_write errors.Read h = absurd h
+not_write errors.Write h = absurd h
+not_write errors.Memory h = λ e. cc
+
+pub failed_not_write : (error : Error) → IsOfBytes error → Failed error ≢ Failed errors.Write
+failed_not_write error h = λ e. not_write error h cc

@@ -1,0 +1,33 @@
+use Rattle.std.proofs.Common.{ap, arith, refl, subst, List, ℕ, ◌-◌, ◌+◌, ◌≤◌, take, drop, slice_range, length, length-take}
+use Rattle.record_mark.specs.Machine.{after}
+use Rattle.capture3.specs.Judges.{FailsAt, GoesTo}
+use Rattle.capture3.specs.Parsing.{file_next, parsed}
+use Rattle.capture3.proofs.Histories.{failed_not_write, judged_failed, judged_on, not_read, running_joiner, sound_position}
+use Rattle.capture3.proofs.entries.Entries.judge.Goals as goal
+
+pub next-requires-clause-sound : goal.next-requires-clause-sound
+next-requires-clause-sound g c = sound_position _ (c.args.self.now.sound c.requires.reading)
+
+pub next-requires-clause-running : goal.next-requires-clause-running
+next-requires-clause-running g c = running_joiner _ (c.args.self.now.running c.requires.reading)
+
+pub invariant_of-self-in-Err-clause-never_writes : goal.invariant_of-self-in-Err-clause-never_writes
+invariant_of-self-in-Err-clause-never_writes g c = failed_not_write c.in-Err.error c.in-Err.ensures.device
+
+pub returns-in-Ok-clause-goes_on : goal.returns-in-Ok-clause-goes_on
+returns-in-Ok-clause-goes_on g c given handed s =
+    let inner = length-take (c.args.self.now.end - c.args.self.now.start) (drop c.args.self.now.start c.deref.result.now) in
+    let fits : c.args.self.now.start + c.in-Ok.count ≤ c.args.self.now.end = omega (arith, c.in-Ok.ensures.within, inner, c.requires.some) in
+    let within : c.args.self.now.end ≤ length c.args.self.now.block.items = omega (arith, c.args.self.now.within, c.deref.ensures.len, ap length c.deref.ensures.value) in
+    judged_on g.R.Source.left c.args.self.now _ c.in-Ok.count given handed c.in-Ok.entry c.requires.reading c.requires.reading refl refl fits within c.in-Ok.ensures.room s
+    (λ judged at. subst
+    (λ (items : List ℕ). GoesTo c.in-Ok.entry c.next.new.self.container.position c.next.new.self.container.joiner c.next.new.self.calls (after file_next (parsed judged) (take c.in-Ok.count (slice_range items c.args.self.now.start c.args.self.now.end))) handed)
+    c.deref.ensures.value (c.in-Ok.ensures.machine (parsed judged) handed at))
+
+pub returns-in-Err-clause-goes_on : goal.returns-in-Err-clause-goes_on
+returns-in-Err-clause-goes_on g c given handed s =
+    judged_failed g.R.Source.left c.args.self.now _ c.in-Err.error given handed c.requires.reading refl s
+    (λ judged at. subst (λ (items : List ℕ). FailsAt (parsed judged) (slice_range items c.args.self.now.start c.args.self.now.end) c.in-Err.error) c.deref.ensures.value (c.in-Err.ensures.fault (parsed judged) handed at))
+
+pub returns-in-Err-clause-never_reads : goal.returns-in-Err-clause-never_reads
+returns-in-Err-clause-never_reads g c = not_read c.in-Err.error c.in-Err.ensures.device

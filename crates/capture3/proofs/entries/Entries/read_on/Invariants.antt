@@ -1,0 +1,18 @@
+use Rattle.std.proofs.Common.{◌≡◌, ◌≤◌, ◌+◌, ◌-◌, List, ℕ}
+use Rattle.capture3.specs.declared.entries.Stage.TheVariants.{Reading}
+use Rattle.capture3.specs.Entries.{entries_left, HasRead, StandsFor}
+use Rattle.capture3.specs.Entry.{Entry}
+use Rattle.capture3.specs.Laws.{most_bytes}
+use Rattle.capture3.proofs.entries.Entries.read_on.Given as goal
+
+abbrev pub invariant-loop-self : goal.invariant-loop-self
+invariant-loop-self g l = record {
+  reading : l.self.stage ≡ Reading;
+  has_read : (given : List ℕ) (handed : List Entry) → StandsFor g.R.Source.left l.initial.self given handed → HasRead g.R.Source.left l.initial.self l.self given handed;
+  fewer : entries_left l.self ≤ entries_left l.initial.self;
+  read : g.R.Source.failures l.self.source.now ≡ g.R.Source.failures l.initial.self.source.now;
+  same_reference : l.self.source.ghost_name ≡ l.initial.self.source.ghost_name;
+}
+
+abbrev pub decreases-loop-self : goal.decreases-loop-self
+decreases-loop-self g l = most_bytes + 1 - l.self.judged

@@ -1,0 +1,113 @@
+-- A reader of entries, and the histories for which it stands: what its source gave it, and what it handed out.
+use Rattle.std.specs.Prelude.{◌≡◌, ◌⊎◌, ℕ, ◌+◌, ◌-◌, ◌^◌, ◌≤◌, min, Option, Some, None, Result, Ok, Err, List, [], ◌∷◌, ◌++◌, length, slice_range, ⊤}
+use Rattle.std.specs.Io.KnownBytes.{Consumes, IsAtEnd}
+use Rattle.xdr3.specs.Item.{AreBytes}
+use Rattle.capture3.specs.declared.entries.Entries.{Entries}
+use Rattle.capture3.specs.declared.entries.Stage.{Stage}
+use Rattle.capture3.specs.declared.entries.Stage.TheVariants.{Reading, Over, Failed}
+use Rattle.capture3.specs.declared.entry.Entry as kept
+use Rattle.capture3.specs.declared.fault.Error.{Error}
+use Rattle.capture3.specs.declared.fault.Error.TheVariants as errors
+use Rattle.capture3.specs.declared.position.Position.{Position}
+use Rattle.capture3.specs.Capture.{max_connections}
+use Rattle.capture3.specs.Entry.{Entry, End}
+use Rattle.capture3.specs.FirstFault.{FirstFault}
+use Rattle.capture3.specs.Judges.{StandsAt}
+use Rattle.capture3.specs.Kept.{IsKept}
+use Rattle.capture3.specs.Laws.{begins}
+use Rattle.capture3.specs.Parsing.{parsed}
+use Rattle.capture3.specs.Position.{most_entries, room_of}
+use Rattle.capture3.specs.Reached.{Reached}
+use Rattle.capture3.specs.Typed.{Typed, IsWellFormed}
+
+-- A read that failed is the last, and counts once, up to the last value; without one, nothing counts.
+abbrev pub CountsReading : {X : Type 0} → ℕ → ℕ → Result X Error → Type 0
+CountsReading old new (Err errors.Read) = new ≡ min (old + 1) (2 ^ 64 - 1)
+CountsReading old new _ = new ≡ old
+
+-- all entries that the bytes reach, without the capture's end
+abbrev pub AreAllBeforeEnd : List ℕ → List Entry → Type 0
+AreAllBeforeEnd bytes entries = Typed bytes (entries ++ End ∷ []) ⊎ ((IsWellFormed bytes → ⊥) × Reached bytes entries)
+
+-- What an error says, behind the bytes given and the entries handed out, where so much is left: the fault is the first of all bytes; or a read
+-- failed, and what the bytes given reach was handed out; or memory ran out.
+abbrev pub IsMetBy : Error → Option (List ℕ) → List ℕ → List Entry → Type 0
+IsMetBy (errors.Refused fault) left given handed = (rest : List ℕ) → left ≡ Some rest → FirstFault (given ++ rest) fault
+IsMetBy errors.Read left given handed = AreAllBeforeEnd given handed
+IsMetBy errors.Write left given handed = ⊥
+IsMetBy errors.Memory left given handed = ⊤
+
+-- the error that is answered for good
+abbrev pub failure_in : Stage → Option Error
+failure_in Reading = None
+failure_in Over = None
+failure_in (Failed error) = Some error
+
+-- how many entries there can be from here on
+abbrev pub left_in : Stage → Position → ℕ
+left_in Reading position = room_of position + 1
+left_in Over position = 0
+left_in (Failed error) position = 0
+
+module _ {R : Type 0} where
+  abbrev pub failure_of : Entries R → Option Error
+  failure_of entries = failure_in entries.stage
+
+  abbrev pub entries_left : Entries R → ℕ
+  entries_left entries = left_in entries.stage entries.capture.container.position
+
+  -- the bytes of the block that are not judged yet
+  abbrev pub unjudged : Entries R → List ℕ
+  unjudged entries = slice_range entries.block.items entries.start entries.end
+
+  -- the machine for a capture file stands behind the bytes judged, and has emitted what was handed out
+  pub record IsReading (entries : Entries R) (given : List ℕ) (handed : List Entry) : Type 0 where
+    pub judged : List ℕ
+    pub split : given ≡ judged ++ unjudged entries
+    pub counted : entries.judged ≡ length judged
+    pub machine : StandsAt entries.capture.container.position entries.capture.container.joiner entries.capture.calls (parsed judged) handed
+
+  abbrev pub StandsIn : Stage → Option (List ℕ) → Entries R → List ℕ → List Entry → Type 0
+  StandsIn Reading left entries given handed = IsReading entries given handed
+  StandsIn Over left entries given handed = Typed given handed × IsAtEnd left
+  StandsIn (Failed error) left entries given handed = IsMetBy error left given handed
+
+  -- The source gave these bytes since the reader was new, and the reader handed out these entries.
+  pub record StandsFor (left : R → Option (List ℕ)) (entries : Entries R) (given : List ℕ) (handed : List Entry) : Type 0 where
+    pub bytes : AreBytes given
+    pub few : length handed + entries_left entries ≤ most_entries
+    pub connections : begins handed ≤ max_connections
+    pub here : StandsIn entries.stage (left entries.source.now) entries given handed
+
+  -- ---- what a call makes of a history
+
+  -- The next entry is handed out, and kept. None comes where no byte is left, behind all entries of a well-formed capture.
+  abbrev pub HandsOut : (R → Option (List ℕ)) → Entries R → List ℕ → List Entry → Result (Option kept.Entry) Error → Type 0
+  HandsOut left new given handed (Ok (Some one)) = (entry : Entry) × IsKept one entry × StandsFor left new given (handed ++ entry ∷ [])
+  HandsOut left new given handed (Ok None) = Typed given handed × IsAtEnd (left new.source.now) × StandsFor left new given handed
+  HandsOut left new given handed (Err error) = IsMetBy error (left new.source.now) given handed × StandsFor left new given handed
+
+  -- the same, behind the bytes that the source gave in the call
+  pub record Answers (left : R → Option (List ℕ)) (old new : Entries R) (given : List ℕ) (handed : List Entry) (result : Result (Option kept.Entry) Error) : Type 0 where
+    pub more : List ℕ
+    pub consumed : Consumes (left old.source.now) (left new.source.now) more
+    pub hands_out : HandsOut left new (given ++ more) handed result
+
+  -- ---- within the crate
+
+  -- the source gave more bytes
+  pub record HasRead (left : R → Option (List ℕ)) (old new : Entries R) (given : List ℕ) (handed : List Entry) : Type 0 where
+    pub more : List ℕ
+    pub consumed : Consumes (left old.source.now) (left new.source.now) more
+    pub stands : StandsFor left new (given ++ more) handed
+
+  -- an entry is handed out; or it goes on, or has failed
+  abbrev pub GoesOn : (R → Option (List ℕ)) → Entries R → List ℕ → List Entry → Result (Option kept.Entry) Error → Type 0
+  GoesOn left new given handed (Ok (Some one)) = (entry : Entry) × IsKept one entry × StandsFor left new given (handed ++ entry ∷ [])
+  GoesOn left new given handed (Ok None) = StandsFor left new given handed
+  GoesOn left new given handed (Err error) = StandsFor left new given handed
+
+  pub record Turns (left : R → Option (List ℕ)) (old new : Entries R) (given : List ℕ) (handed : List Entry) (result : Result (Option kept.Entry) Error) : Type 0 where
+    pub more : List ℕ
+    pub consumed : Consumes (left old.source.now) (left new.source.now) more
+    pub goes_on : GoesOn left new (given ++ more) handed result

@@ -1,0 +1,258 @@
+// The entries of a capture, read one by one.
+
+ghost use Rattle.std.specs.Prelude.{◌≡◌, ◌≢◌, ◌≤◌, ◌<◌, ℕ, List, [], length, vec_len, IsTrue, IsFalse, IsSome, IfErr, IfOk, OnOk, Err, None, Some};
+ghost use Rattle.std.specs.Io.KnownBytes.{IsAtEnd, ReadConsumes};
+ghost use Rattle.record_mark.specs.Taking.{IsRunning};
+ghost use Rattle.capture3.specs.declared.entries.Stage.TheVariants as stages;
+ghost use Rattle.capture3.specs.declared.fault.Error.TheVariants as errors;
+ghost use Rattle.xdr3.specs.Item.{AreBytes};
+ghost use Rattle.capture3.specs.Device.{Counts};
+ghost use Rattle.capture3.specs.Entry as spec;
+ghost use Rattle.capture3.specs.Laws.{most_bytes};
+ghost use Rattle.capture3.specs.Position.{IsSound};
+
+use crate::device::DeviceFailed;
+use crate::entry::Entry;
+use crate::fault::Error;
+use crate::judging::Capture;
+use crate::position::file_fault;
+use crate::source::Source;
+use std::alloc::{AllocError, Global};
+use xdr3::Reason;
+
+/// How many bytes a read asks for.
+const BLOCK: usize = 65_536;
+
+/// The longest capture has so many bytes: its magic, 65,535 connections of a word 1 and two words 0,
+/// the last word 0, and 1,073,741,824 stream bytes in chunks of one byte behind four of length.
+const MOST_BYTES: u64 = 5_369_495_552;
+
+/// What a reader answers from now on.
+#[derive(Clone, Copy)]
+enum Stage {
+    /// The entries that are left.
+    Reading,
+    /// None, behind the end.
+    Over,
+    /// This error, for good.
+    Failed(Error),
+}
+
+/// Reads the entries of a capture one by one. It holds one block of the source's bytes, one record, and
+/// the calls of the open connection.
+#[derive(Drop)]
+pub struct Entries<'r, R> {
+    source: &'r mut R,
+    alloc: Global,
+    // The bytes from `start` to `end` are not judged yet.
+    block: Vec<u8>,
+    start: usize,
+    end: usize,
+    // How many bytes were judged.
+    judged: u64,
+    capture: Capture,
+    stage: Stage,
+    ghost ordered: { start ≤ end },
+    ghost within: { end ≤ vec_len block },
+    ghost roomy: { 0 < vec_len block },
+    ghost sound: { stage ≡ stages.Reading → ∥ IsSound capture.container.position ∥₁ },
+    ghost running: { stage ≡ stages.Reading → ∥ IsRunning capture.container.joiner ∥₁ },
+    ghost never_writes: { stage ≢ stages.Failed errors.Write },
+}
+
+impl<'r, R: Source> Entries<'r, R> {
+    ghost use Rattle.capture3.specs.Entries.{Answers, CountsReading, entries_left, failure_of, GoesOn, HasRead, StandsFor, Turns};
+
+    /// Takes the block's memory, and reads nothing.
+    pub fn new(alloc: Global, source: &'r mut R) -> Result<Entries<'r, R>, AllocError>
+        ensures stands { IfOk result (λ entries. StandsFor R.left entries [] []) }
+        ensures unread { IfOk result (λ entries. entries.source.now ≡ source.old) }
+        ensures going { IfOk result (λ entries. failure_of entries ≡ None) }
+        ensures same_reference { IfOk result (λ entries. entries.source.ghost_name ≡ source.entry.ghost_name) }
+    {
+        let block = new_block(alloc)?;
+        Ok(Entries {
+            source,
+            alloc,
+            block,
+            start: 0,
+            end: 0,
+            judged: 0,
+            capture: Capture::new(alloc),
+            stage: Stage::Reading,
+        })
+    }
+
+    /// The next entry. None comes after the end, and again.
+    ///
+    /// # Errors
+    ///
+    /// `Refused` with the first fault of a capture that is not well formed, `Read` where a read failed, and
+    /// `Memory` where none was to be had; never `Write`. The same error is answered from then on, and
+    /// nothing is read.
+    pub fn next(&mut self) -> Result<Option<Entry>, Error>
+        ensures answers { (given : List ℕ) (handed : List spec.Entry) → StandsFor R.left self.old given handed → Answers R.left self.old self.new given handed result }
+        ensures fewer { IfOk result (λ next. IsSome next → entries_left self.new < entries_left self.old) }
+        ensures going { OnOk result (failure_of self.new ≡ None) }
+        ensures failed { IfErr result (λ error. failure_of self.new ≡ Some error) }
+        ensures again { (error : Error) → failure_of self.old ≡ Some error → result ≡ Err error }
+        ensures unread { (error : Error) → failure_of self.old ≡ Some error → self.new.source.now ≡ self.old.source.now }
+        ensures read { failure_of self.old ≡ None → CountsReading (R.failures self.old.source.now) (R.failures self.new.source.now) result }
+        ensures write { IfErr result (λ error. error ≢ Error.Write) }
+        ensures same_reference { self.new.source.ghost_name ≡ self.old.source.ghost_name }
+    {
+        match self.stage {
+            Stage::Reading => self.read_on(),
+            Stage::Over => Ok(None),
+            Stage::Failed(error) => Err(error),
+        }
+    }
+
+    /// The next entry of a capture whose end was not handed out.
+    fn read_on(&mut self) -> Result<Option<Entry>, Error>
+        requires reading { self.old.stage ≡ Stage.Reading }
+        ensures turns { (given : List ℕ) (handed : List spec.Entry) → StandsFor R.left self.old given handed → Turns R.left self.old self.new given handed result }
+        ensures fewer { OnOk result (entries_left self.new < entries_left self.old) }
+        ensures some { IfOk result (λ next. IsSome next) }
+        ensures going { OnOk result (failure_of self.new ≡ None) }
+        ensures failed { IfErr result (λ error. self.new.stage ≡ Stage.Failed error) }
+        ensures read { CountsReading (R.failures self.old.source.now) (R.failures self.new.source.now) result }
+        ensures same_reference { self.new.source.ghost_name ≡ self.old.source.ghost_name }
+    {
+        while self.judged <= MOST_BYTES {
+            match self.turn() {
+                Ok(None) => {}
+                Ok(Some(entry)) => return Ok(Some(entry)),
+                Err(error) => return Err(error),
+            }
+        }
+        let error = file_fault(self.judged, Reason::AfterEnd);
+        self.stage = Stage::Failed(error);
+        Err(error)
+    }
+
+    /// One read at most, and one piece judged: the entry that is whole with it, if one is.
+    fn turn(&mut self) -> Result<Option<Entry>, Error>
+        requires reading { self.old.stage ≡ Stage.Reading }
+        requires bounded { self.old.judged ≤ most_bytes }
+        ensures turns { (given : List ℕ) (handed : List spec.Entry) → StandsFor R.left self.old given handed → Turns R.left self.old self.new given handed result }
+        ensures fewer { IfOk result (λ next. IsSome next → entries_left self.new < entries_left self.old) }
+        ensures on { IfOk result (λ next. next ≡ None → self.old.judged < self.new.judged) }
+        ensures no_more { IfOk result (λ next. next ≡ None → entries_left self.new ≤ entries_left self.old) }
+        ensures reading { IfOk result (λ next. next ≡ None → self.new.stage ≡ Stage.Reading) }
+        ensures going { OnOk result (failure_of self.new ≡ None) }
+        ensures failed { IfErr result (λ error. self.new.stage ≡ Stage.Failed error) }
+        ensures read { CountsReading (R.failures self.old.source.now) (R.failures self.new.source.now) result }
+        ensures same_reference { self.new.source.ghost_name ≡ self.old.source.ghost_name }
+    {
+        if self.start == self.end {
+            match self.refill() {
+                Ok(true) => {}
+                Ok(false) => return self.finish(),
+                Err(error) => return Err(error),
+            }
+        }
+        self.judge()
+    }
+
+    /// Reads the next block. False stands for the end of the bytes.
+    fn refill(&mut self) -> Result<bool, Error>
+        requires reading { self.old.stage ≡ Stage.Reading }
+        requires judged { self.old.start ≡ self.old.end }
+        ensures has_read { (given : List ℕ) (handed : List spec.Entry) → StandsFor R.left self.old given handed → HasRead R.left self.old self.new given handed }
+        ensures some { IfOk result (λ more. IsTrue more → self.new.start < self.new.end) }
+        ensures none { IfOk result (λ more. IsFalse more → self.new.start ≡ self.new.end) }
+        ensures end { IfOk result (λ more. IsFalse more → IsAtEnd (R.left self.new.source.now)) }
+        ensures same_capture { self.new.capture ≡ self.old.capture }
+        ensures same_count { self.new.judged ≡ self.old.judged }
+        ensures reading { OnOk result (self.new.stage ≡ Stage.Reading) }
+        ensures failed { IfErr result (λ error. self.new.stage ≡ Stage.Failed error) }
+        ensures read { CountsReading (R.failures self.old.source.now) (R.failures self.new.source.now) result }
+        ensures same_reference { self.new.source.ghost_name ≡ self.old.source.ghost_name }
+    {
+        self.start = 0;
+        self.end = 0;
+        match read_block(self.source, &mut self.block) {
+            Ok(count) => {
+                self.end = count;
+                Ok(count > 0)
+            }
+            Err(_) => {
+                self.stage = Stage::Failed(Error::Read);
+                Err(Error::Read)
+            }
+        }
+    }
+
+    /// Judges the rest of the block, up to the next entry.
+    fn judge(&mut self) -> Result<Option<Entry>, Error>
+        requires reading { self.old.stage ≡ Stage.Reading }
+        requires bounded { self.old.judged ≤ most_bytes }
+        requires some { self.old.start < self.old.end }
+        ensures goes_on { (given : List ℕ) (handed : List spec.Entry) → StandsFor R.left self.old given handed → GoesOn R.left self.new given handed result }
+        ensures fewer { IfOk result (λ next. IsSome next → entries_left self.new < entries_left self.old) }
+        ensures no_more { IfOk result (λ next. next ≡ None → entries_left self.new ≤ entries_left self.old) }
+        ensures on { OnOk result (self.old.judged < self.new.judged) }
+        ensures reading { OnOk result (self.new.stage ≡ Stage.Reading) }
+        ensures failed { IfErr result (λ error. self.new.stage ≡ Stage.Failed error) }
+        ensures never_reads { IfErr result (λ error. error ≢ Error.Read) }
+        ensures unread { self.new.source.now ≡ self.old.source.now }
+        ensures same_reference { self.new.source.ghost_name ≡ self.old.source.ghost_name }
+    {
+        let piece = &self.block[self.start..self.end];
+        match self.capture.next(self.alloc, piece) {
+            Ok((count, entry)) => {
+                self.start += count;
+                self.judged += count as u64;
+                Ok(entry)
+            }
+            Err(error) => {
+                self.stage = Stage::Failed(error);
+                Err(error)
+            }
+        }
+    }
+
+    /// The capture's end, where no byte is left.
+    fn finish(&mut self) -> Result<Option<Entry>, Error>
+        requires reading { self.old.stage ≡ Stage.Reading }
+        requires judged { self.old.start ≡ self.old.end }
+        requires end { IsAtEnd (R.left self.old.source.now) }
+        ensures goes_on { (given : List ℕ) (handed : List spec.Entry) → StandsFor R.left self.old given handed → GoesOn R.left self.new given handed result }
+        ensures some { IfOk result (λ next. IsSome next) }
+        ensures over { OnOk result (self.new.stage ≡ Stage.Over) }
+        ensures failed { IfErr result (λ error. self.new.stage ≡ Stage.Failed error) }
+        ensures never_reads { IfErr result (λ error. error ≢ Error.Read) }
+        ensures unread { self.new.source.now ≡ self.old.source.now }
+        ensures same_reference { self.new.source.ghost_name ≡ self.old.source.ghost_name }
+    {
+        match self.capture.end(self.judged) {
+            Ok(()) => {
+                self.stage = Stage::Over;
+                Ok(Some(Entry::End))
+            }
+            Err(error) => {
+                self.stage = Stage::Failed(error);
+                Err(error)
+            }
+        }
+    }
+}
+
+// The clause gives no more than that the block has room, since a goal with so many zeros is slow.
+fn new_block(alloc: Global) -> Result<Vec<u8>, AllocError>
+    ensures { IfOk result (λ block. 0 < vec_len block) }
+{
+    vec![in alloc; 0; BLOCK]
+}
+
+/// Reads into the front of a block.
+fn read_block<R: Source>(source: &mut R, block: &mut [u8]) -> Result<usize, DeviceFailed>
+    requires room { 0 < length block.old }
+    ensures within { IfOk result (λ n. n ≤ length block.new) }
+    ensures bytes { ReadConsumes (R.left source.old) (R.left source.new) result block.new }
+    ensures count { Counts (R.failures source.old) (R.failures source.new) result }
+    ensures fit { AreBytes block.new }
+{
+    source.read_some(block)
+}
