@@ -76,24 +76,6 @@ handles_of_all [] = refl
 handles_of_all (entry ∷ entries) =
     flat_map-append handle_in (items_of entry) (all_items entries) ∙ ap (λ (l : List (List ℕ)). handles_in (items_of entry) ++ l) (handles_of_all entries)
 
--- a kept entry more
-kept_front : (items : List kept.Entry) (one : kept.Entry) (model : List Entry) → AreKept (items ++ one ∷ []) model
-    → (front : List Entry) × (last : Entry) × AreKept items front × IsKept one last × (model ≡ front ++ last ∷ [])
-kept_front [] one model (entry, rest, split, is, none) = ([], entry, refl, is, split ∙ ap (λ (l : List Entry). entry ∷ l) none)
-kept_front (x ∷ items) one model (entry, rest, split, is, are) =
-    let f = kept_front items one rest are in
-    (entry ∷ f.0, f.1, (entry, f.0, refl, is, f.2), f.3, split ∙ ap (λ (l : List Entry). entry ∷ l) f.4)
-
-items_behind : (front : List Entry) (last : Entry) → all_items (front ++ last ∷ []) ≡ all_items front ++ items_of last
-items_behind front last = flat_map-append items_of front (last ∷ []) ∙ ap (λ (l : List Item). all_items front ++ l) (append-nil (items_of last))
-
-pub gathers_kept : (old new : List handles.Handle) (items : List kept.Entry) (one : kept.Entry) → ((front : List Entry) → AreKept items front → Gathers old (all_items front))
-    → ((last : Entry) (before : List Item) → IsKept one last → Gathers old before → Gathers new (before ++ items_of last))
-    → (model : List Entry) → AreKept (items ++ one ∷ []) model → Gathers new (all_items model)
-gathers_kept old new items one all step model are =
-    let f = kept_front items one model are in
-    subst (λ (l : List Item). Gathers new l) (sym (ap all_items f.4 ∙ items_behind f.0 f.1)) (step f.1 (all_items f.0) f.3 (all f.0 f.2))
-
 -- ---- of one message
 
 pub still_ok : {T E : Type 0} {P Q : Type 0} (r : Result T E) → (P → Q) → OnOk r P → OnOk r Q

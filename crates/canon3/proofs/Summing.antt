@@ -1,70 +1,30 @@
--- From what was read and kept to what a capture has.
-use Rattle.std.proofs.Common.{◌≡◌, ◌⊎◌, ◌<◌, ◌≤◌, inl, inr, ℕ, ◌+◌, Bool, cond, Result, Ok, Err, IfOk, IfErr, List, [], ◌∷◌, ◌++◌, count_by, length, min, sym, ap, subst, ◌∙◌, append_assoc, append-nil, arith}
-use Rattle.std.proofs.lemmas.List.Sums.{sum_by-append, sum_by-cons}
+-- From what was handed out to what a capture has.
+use Rattle.std.proofs.Common.{◌≡◌, ◌≤◌, ℕ, ◌+◌, Bool, cond, min, Option, None, Some, Result, Ok, Err, IfOk, IfErr, List, [], ◌∷◌, ◌++◌, count_by, length, refl, sym, ap, subst, ◌∙◌, append-nil, arith}
 use Rattle.std.specs.Prelude.{bytes_eq}
-use Rattle.xdr3.specs.Item.{AreBytes}
+use Rattle.std.specs.Cmp.Lexicographic.{nat_list_eq_equiv}
+use Rattle.std.specs.Io.KnownBytes.{Consumes, IsAtEnd}
+use Rattle.std.proofs.KnownBytes.{Consumes-all}
+use Rattle.std.proofs.lemmas.Grind.{flat_map-append}
+use Rattle.std.proofs.lemmas.List.Sums.{sum_by-append, sum_by-cons}
+use Rattle.xdr3.specs.Item.{Item}
+use Rattle.nfs3_types.specs.declared.handle.Handle.{Handle}
 use Rattle.capture3.specs.declared.entry.Entry as kept
 use Rattle.capture3.specs.declared.entry.Entry.TheVariants as variants
 use Rattle.capture3.specs.declared.fault.Error.{Error}
 use Rattle.capture3.specs.declared.fault.Error.TheVariants as errors
 use Rattle.capture3.specs.declared.fault.Fault.{Fault}
-use Rattle.capture3.specs.Entry.{Entry}
+use Rattle.capture3.specs.Entry.{Entry, Begin, Call, Turn, Reply, Close, End}
 use Rattle.capture3.specs.FirstFault.{FirstFault}
-use Rattle.capture3.specs.Kept.{IsKept, AreKept}
-use Rattle.capture3.specs.Laws.{most_bytes}
+use Rattle.capture3.specs.Kept.{IsKept}
 use Rattle.capture3.specs.Typed.{Typed}
-use Rattle.capture3.proofs.Sizes.{clean_size, typed_size}
 use Rattle.canon3.specs.declared.summary.Summary.{Summary}
+use Rattle.canon3.specs.declared.summary.Tally.{Tally}
 use Rattle.canon3.specs.Rank.{distinct, number_limit}
-use Rattle.canon3.specs.Values.{handles, handles_in}
-use Rattle.std.specs.Cmp.Lexicographic.{nat_list_eq_equiv}
-use Rattle.canon3.proofs.Ranks.{length-with_keys}
+use Rattle.canon3.specs.Summing.{all_items, Concludes, is_begin, is_call, is_reply, IsSummary, Sums, Tallies}
+use Rattle.canon3.specs.Values.{handles, handles_in, items_of}
 use Rattle.canon3.proofs.Gathering.{handles_of_all}
 use Rattle.canon3.proofs.InOrder.{typed_in_order}
-use Rattle.canon3.specs.Summing.{all_items, IsSummary, IsReadFrom, is_begin, is_call, is_reply, keeps_begin, keeps_call, keeps_reply}
-
--- a count of kept entries is one of the entries that they are
-kept_count : (p : kept.Entry → Bool) (q : Entry → Bool) → ((one : kept.Entry) (entry : Entry) → IsKept one entry → p one ≡ q entry) → (items : List kept.Entry) (model : List Entry) → AreKept items model → count_by p items ≡ count_by q model
-kept_count p q same [] model are = sym (ap (count_by q) are)
-kept_count p q same (one ∷ items) model (entry, rest, split, is, are) =
-    let first : cond (p one) 1 0 ≡ cond (q entry) 1 0 = ap {B = ℕ} (λ (b : Bool). cond b 1 0) (same one entry is) in
-    let more = kept_count p q same items rest are in
-    let whole = ap (count_by q) split in
-    let one_more : count_by p (one ∷ items) ≡ cond (p one) 1 0 + count_by p items = sum_by-cons (λ x. cond (p x) 1 0) one items in
-    let of_model : count_by q (entry ∷ rest) ≡ cond (q entry) 1 0 + count_by q rest = sum_by-cons (λ x. cond (q x) 1 0) entry rest in
-    omega (arith, first, more, whole, one_more, of_model)
-
-begin_same : (one : kept.Entry) (entry : Entry) → IsKept one entry → keeps_begin one ≡ is_begin entry
-begin_same variants.Begin entry is = sym (ap is_begin is)
-begin_same (variants.Call call) entry is = sym (ap is_begin is.3)
-begin_same variants.Turn entry is = sym (ap is_begin is)
-begin_same (variants.Reply reply) entry is = sym (ap is_begin is.2)
-begin_same variants.Close entry is = sym (ap is_begin is)
-begin_same variants.End entry is = sym (ap is_begin is)
-
-call_same : (one : kept.Entry) (entry : Entry) → IsKept one entry → keeps_call one ≡ is_call entry
-call_same variants.Begin entry is = sym (ap is_call is)
-call_same (variants.Call call) entry is = sym (ap is_call is.3)
-call_same variants.Turn entry is = sym (ap is_call is)
-call_same (variants.Reply reply) entry is = sym (ap is_call is.2)
-call_same variants.Close entry is = sym (ap is_call is)
-call_same variants.End entry is = sym (ap is_call is)
-
-reply_same : (one : kept.Entry) (entry : Entry) → IsKept one entry → keeps_reply one ≡ is_reply entry
-reply_same variants.Begin entry is = sym (ap is_reply is)
-reply_same (variants.Call call) entry is = sym (ap is_reply is.3)
-reply_same variants.Turn entry is = sym (ap is_reply is)
-reply_same (variants.Reply reply) entry is = sym (ap is_reply is.2)
-reply_same variants.Close entry is = sym (ap is_reply is)
-reply_same variants.End entry is = sym (ap is_reply is)
-
--- what was read is all, where it is well formed
-all_read : (bytes all : List ℕ) (entries : List Entry) → IsReadFrom bytes all → Typed bytes entries → bytes ≡ all
-all_read bytes all entries read typed = by_end read.far
-  where
-    by_end : (read.rest ≡ []) ⊎ (most_bytes < length bytes) → bytes ≡ all
-    by_end (inl none) = sym (read.split ∙ ap (λ (rest : List ℕ). bytes ++ rest) none ∙ append-nil bytes)
-    by_end (inr far) = absurd (omega (arith, typed_size bytes entries typed))
+use Rattle.canon3.proofs.Ranks.{length-with_keys}
 
 -- one more is counted where it is one of them
 pub counts_behind : {X : Type 0} (p : X → Bool) (n m : ℕ) (items : List X) (one : X) → m ≡ n + cond (p one) 1 0 → n ≡ count_by p items → m ≡ count_by p (items ++ one ∷ [])
@@ -73,49 +33,67 @@ counts_behind p n m items one more is =
     let last : count_by p (one ∷ []) ≡ cond (p one) 1 0 + count_by p [] = sum_by-cons (λ x. cond (p x) 1 0) one [] in
     omega (arith, more, is, whole, last)
 
--- an entry is one of these at most
-pub counts_once : (one : kept.Entry) → cond (keeps_begin one) 1 0 + cond (keeps_call one) 1 0 + cond (keeps_reply one) 1 0 ≤ 1
-counts_once variants.Begin = omega arith
-counts_once (variants.Call call) = omega arith
-counts_once variants.Turn = omega arith
-counts_once (variants.Reply reply) = omega arith
-counts_once variants.Close = omega arith
-counts_once variants.End = omega arith
+pub items_behind : (front : List Entry) (last : Entry) → all_items (front ++ last ∷ []) ≡ all_items front ++ items_of last
+items_behind front last = flat_map-append items_of front (last ∷ []) ∙ ap (λ (l : List Item). all_items front ++ l) (append-nil (items_of last))
 
--- there are few enough to be counted
+-- an entry is one of these at most
+counts_once : (one : Entry) → cond (is_begin one) 1 0 + cond (is_call one) 1 0 + cond (is_reply one) 1 0 ≤ 1
+counts_once Begin = omega arith
+counts_once (Call items) = omega arith
+counts_once Turn = omega arith
+counts_once (Reply id items) = omega arith
+counts_once Close = omega arith
+counts_once End = omega arith
+
+few_counted : (entries : List Entry) → count_by is_begin entries + count_by is_call entries + count_by is_reply entries ≤ length entries
+few_counted [] = omega arith
+few_counted (one ∷ entries) =
+    let begins : count_by is_begin (one ∷ entries) ≡ cond (is_begin one) 1 0 + count_by is_begin entries = sum_by-cons (λ x. cond (is_begin x) 1 0) one entries in
+    let calls : count_by is_call (one ∷ entries) ≡ cond (is_call one) 1 0 + count_by is_call entries = sum_by-cons (λ x. cond (is_call x) 1 0) one entries in
+    let replies : count_by is_reply (one ∷ entries) ≡ cond (is_reply one) 1 0 + count_by is_reply entries = sum_by-cons (λ x. cond (is_reply x) 1 0) one entries in
+    omega (arith, begins, calls, replies, counts_once one, few_counted entries)
+
+pub few_tallied : {S : Type 0} (tally : Tally S) (entries : List Entry) → Tallies tally entries → tally.connections + tally.calls + tally.replies ≤ length entries
+few_tallied tally entries t = omega (arith, t.connections, t.calls, t.replies, few_counted entries)
+
+-- there are few enough handles to be counted
 few_distinct : (bytes : List ℕ) (entries : List Entry) → Typed bytes entries → min (length (distinct bytes_eq (handles_in (all_items entries)))) number_limit ≡ length (distinct bytes_eq (handles entries))
 few_distinct bytes entries typed =
     let few = (typed_in_order bytes entries typed).few_handles in
     let all = ap (λ (l : List (List ℕ)). length (distinct bytes_eq l)) (handles_of_all entries) in
     omega (arith, few, all, length-with_keys bytes_eq nat_list_eq_equiv (handles entries) [])
 
-pub summary_is : (bytes : List ℕ) (items : List kept.Entry) (summary : Summary) → (entries : List Entry) × Typed bytes entries × AreKept items entries
-    → summary.connections ≡ count_by keeps_begin items → summary.calls ≡ count_by keeps_call items → summary.replies ≡ count_by keeps_reply items
-    → ((model : List Entry) → AreKept items model → summary.handles ≡ min (length (distinct bytes_eq (handles_in (all_items model)))) number_limit) → IsSummary bytes summary
-summary_is bytes items summary (entries, typed, are) begins calls replies gathered = record {
+summary_is : (bytes : List ℕ) (summary : Summary) (entries : List Entry) → Typed bytes entries → Sums summary entries → IsSummary bytes summary
+summary_is bytes summary entries typed sums = record {
   entries = entries;
   typed = typed;
-  connections = begins ∙ kept_count keeps_begin is_begin begin_same items entries are;
-  calls = calls ∙ kept_count keeps_call is_call call_same items entries are;
-  replies = replies ∙ kept_count keeps_reply is_reply reply_same items entries are;
-  handles = gathered entries are ∙ few_distinct bytes entries typed;
+  connections = sums.connections;
+  calls = sums.calls;
+  replies = sums.replies;
+  handles = sums.handles ∙ few_distinct bytes entries typed;
 }
 
-pub summary_of : (bytes all : List ℕ) (result : Result Summary Error) → IsReadFrom bytes all → IfOk result (IsSummary bytes) → IfOk result (IsSummary all)
-summary_of bytes all (Ok summary) read is = subst (λ (b : List ℕ). IsSummary b summary) (all_read bytes all is.entries read is.typed) is
-summary_of bytes all (Err error) read is = tt
+-- where all bytes are told
+pub summary_of : (bytes : List ℕ) (old new : Option (List ℕ)) (result : Result Summary Error) → old ≡ Some bytes → Concludes old new result → IfOk result (IsSummary bytes)
+summary_of bytes old new (Ok summary) tells (given, entries, consumed, ended, typed, sums) =
+    let all : given ≡ bytes = Consumes-all (Some bytes) new given [] given (subst (λ (o : Option (List ℕ)). Consumes o new given) tells consumed) ended refl in
+    subst (λ (b : List ℕ). IsSummary b summary) all (summary_is given summary entries typed sums)
+summary_of bytes old new (Err error) tells c = tt
 
--- the first fault of what was read is that of all
-fault_of : (bytes all : List ℕ) (fault : Fault) → IsReadFrom bytes all → AreBytes bytes → FirstFault bytes fault → FirstFault all fault
-fault_of bytes all fault read are (inl (front, back, shown, split, shows, is)) =
-    inl (front, back ++ read.rest, shown, read.split ∙ ap (λ (b : List ℕ). b ++ read.rest) split ∙ append_assoc front back read.rest, shows, is)
-fault_of bytes all fault read are (inr cut) = by_end read.far
+rest_of : (bytes given : List ℕ) (new : Option (List ℕ)) → Consumes (Some bytes) new given → (rest : List ℕ) × (new ≡ Some rest) × (bytes ≡ given ++ rest)
+rest_of bytes given None consumed = absurd consumed
+rest_of bytes given (Some rest) consumed = (rest, refl, consumed)
+
+-- the fault that is met is the first of all bytes
+pub faults_of : (bytes : List ℕ) (old new : Option (List ℕ)) (result : Result Summary Error) → old ≡ Some bytes → Concludes old new result
+    → IfErr result (λ error. (fault : Fault) → error ≡ errors.Refused fault → FirstFault bytes fault)
+faults_of bytes old new (Ok summary) tells c = tt
+faults_of bytes old new (Err (errors.Refused met)) tells (given, entries, consumed, is) =
+    let r = rest_of bytes given new (subst (λ (o : Option (List ℕ)). Consumes o new given) tells consumed) in
+    λ fault e. subst (λ (f : Fault). FirstFault bytes f) (refused_is met fault e) (subst (λ (b : List ℕ). FirstFault b met) (sym r.2) (is r.0 r.1))
   where
-    by_end : (read.rest ≡ []) ⊎ (most_bytes < length bytes) → FirstFault all fault
-    by_end (inl none) = subst (λ (b : List ℕ). FirstFault b fault) (sym (read.split ∙ ap (λ (rest : List ℕ). bytes ++ rest) none ∙ append-nil bytes)) (inr cut)
-    by_end (inr far) = absurd (omega (arith, clean_size bytes are cut.0))
-
-pub faults_of : (bytes all : List ℕ) (result : Result Summary Error) → IsReadFrom bytes all → AreBytes bytes
-    → IfErr result (λ error. (fault : Fault) → error ≡ errors.Refused fault → FirstFault bytes fault) → IfErr result (λ error. (fault : Fault) → error ≡ errors.Refused fault → FirstFault all fault)
-faults_of bytes all (Ok summary) read are h = tt
-faults_of bytes all (Err error) read are h = λ fault is. fault_of bytes all fault read are (h fault is)
+    refused_is : (met fault : Fault) → errors.Refused met ≡ errors.Refused fault → met ≡ fault
+    refused_is met fault e = cc
+faults_of bytes old new (Err errors.Read) tells c = λ fault e. absurd (cc)
+faults_of bytes old new (Err errors.Write) tells c = λ fault e. absurd (cc)
+faults_of bytes old new (Err errors.Memory) tells c = λ fault e. absurd (cc)

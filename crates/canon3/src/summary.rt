@@ -1,18 +1,15 @@
-// Whether a capture is well formed.
+// Whether a capture is well formed, and what it has.
 
-ghost use Rattle.std.specs.Prelude.{◌≡◌, ◌≢◌, ◌⊎◌, ◌<◌, ◌+◌, ◌^◌, ◌++◌, ℕ, List, Some, bytes_eq, cond, count_by, length, min, IfErr, IfOk, OnOk, vec_len};
-ghost use Rattle.xdr3.specs.Item.{AreBytes, Item};
+ghost use Rattle.std.specs.Prelude.{◌≡◌, ◌≢◌, ◌<◌, ◌+◌, ◌^◌, ◌++◌, ◌∷◌, ℕ, List, [], None, Some, IfErr, IfOk, OnOk};
 ghost use Rattle.capture3.specs.declared.fault.Fault.{Fault};
+ghost use Rattle.capture3.specs.Entries.{CountsReading, failure_of, StandsFor};
 ghost use Rattle.capture3.specs.Entry as spec;
 ghost use Rattle.capture3.specs.FirstFault.{FirstFault};
-ghost use Rattle.capture3.specs.Kept.{AreKept, IsKept};
-ghost use Rattle.canon3.specs.Gathering.{Gathers};
-ghost use Rattle.canon3.specs.Rank.{distinct, number_limit};
-ghost use Rattle.canon3.specs.Summing.{CountsReading, IsReadFrom, IsSummary, all_items, keeps_begin, keeps_call, keeps_reply};
-ghost use Rattle.canon3.specs.Values.{handles_in, items_of};
+ghost use Rattle.capture3.specs.Kept.{IsKept};
+ghost use Rattle.canon3.specs.Summing.{Concludes, IsSummary, Sums, Tallies};
 
 use crate::handles::HandleTable;
-use capture3::{Entry, Error, Hashers, Source, parse};
+use capture3::{Entries, Entry, Error, Hashers, Source};
 use std::alloc::{AllocError, Global};
 use std::hash::BuildHasher;
 
@@ -25,14 +22,6 @@ pub struct Summary {
     /// Distinct file handles that are not empty (RFC 1813, section 2.5).
     pub handles: u32,
 }
-
-/// The longest capture has so many bytes: its magic, 65,535 connections of a word 1 and two words 0,
-/// the last word 0, and 1,073,741,824 stream bytes in chunks of one byte behind four of length. A byte
-/// more is read, which shows that a longer file is none.
-const MOST_BYTES: usize = 5_369_495_553;
-
-/// How many bytes a read asks for.
-const BLOCK: usize = 65_536;
 
 /// Reads a capture to its end, and counts what it has where it is well formed.
 ///
@@ -50,67 +39,26 @@ pub fn check<R: Source, S: BuildHasher + Drop>(
     ensures read { CountsReading (R.failures source.old) (R.failures source.new) result }
     ensures write { IfErr result (λ error. error ≢ Error.Write) }
 {
-    let bytes = whole(alloc, source)?;
-    summed(alloc, hashers.handles, &bytes)
+    let mut entries = Entries::new(alloc, source)?;
+    summed(alloc, hashers.handles, &mut entries)
 }
 
-/// All bytes of a source, at most one more than the longest capture has.
-fn whole<R: Source>(alloc: Global, source: &mut R) -> Result<Vec<u8>, Error>
-    ensures bytes { (all : List ℕ) → R.left source.old ≡ Some all → IfOk result (λ bytes. IsReadFrom bytes.items all) }
-    ensures read { CountsReading (R.failures source.old) (R.failures source.new) result }
-    ensures errors { IfErr result (λ error. (error ≡ Error.Read) ⊎ (error ≡ Error.Memory)) }
-{
-    let mut bytes = Vec::new(alloc);
-    let mut block = new_block(alloc)?;
-    while bytes.len() < MOST_BYTES {
-        match source.read_some(&mut block) {
-            Ok(0) => return Ok(bytes),
-            Ok(count) => bytes.extend_from_slice(&block[..count])?,
-            Err(_) => return Err(Error::Read),
-        }
-    }
-    Ok(bytes)
-}
-
-// The clause gives no more than the block's length, since a goal with so many zeros is slow.
-fn new_block(alloc: Global) -> Result<Vec<u8>, AllocError>
-    ensures { IfOk result (λ block. vec_len block ≡ BLOCK) }
-{
-    vec![in alloc; 0; BLOCK]
-}
-
-/// What the capture in these bytes has, where it is well formed.
-fn summed<S: BuildHasher + Drop>(alloc: Global, hasher: S, bytes: &[u8]) -> Result<Summary, Error>
-    ensures fit { AreBytes bytes.now }
-    ensures ok { IfOk result (IsSummary bytes.now) }
-    ensures refused { IfErr result (λ error. (fault : Fault) → error ≡ Error.Refused fault → FirstFault bytes.now fault) }
-    ensures device { IfErr result (λ error. (error ≢ Error.Read) × (error ≢ Error.Write)) }
-{
-    match parse(alloc, bytes) {
-        Ok(entries) => Ok(counted(alloc, hasher, &entries)?),
-        Err(error) => Err(error),
-    }
-}
-
-fn counted<S: BuildHasher + Drop>(
+/// What a reader hands out, up to its end.
+fn summed<R: Source, S: BuildHasher + Drop>(
     alloc: Global,
     hasher: S,
-    entries: &[Entry],
-) -> Result<Summary, AllocError>
-    requires { length entries.now < 2 ^ 32 }
-    ensures connections { IfOk result (λ summary. summary.connections ≡ count_by keeps_begin entries.now) }
-    ensures calls { IfOk result (λ summary. summary.calls ≡ count_by keeps_call entries.now) }
-    ensures replies { IfOk result (λ summary. summary.replies ≡ count_by keeps_reply entries.now) }
-    ensures handles { IfOk result (λ summary. (model : List spec.Entry) → AreKept entries.now model → summary.handles ≡ min (length (distinct bytes_eq (handles_in (all_items model)))) number_limit) }
+    entries: &mut Entries<'_, R>,
+) -> Result<Summary, Error>
+    requires fresh { StandsFor R.left entries.old [] [] }
+    requires going { failure_of entries.old ≡ None }
+    ensures concludes { Concludes (R.left entries.old.source.now) (R.left entries.new.source.now) result }
+    ensures read { CountsReading (R.failures entries.old.source.now) (R.failures entries.new.source.now) result }
+    ensures write { IfErr result (λ error. error ≢ Error.Write) }
+    ensures same_reference { entries.new.source.ghost_name ≡ entries.old.source.ghost_name }
 {
-    let mut tally = Tally {
-        connections: 0,
-        calls: 0,
-        replies: 0,
-        handles: HandleTable::new(alloc, hasher),
-    };
-    for entry in entries {
-        tally.add(alloc, entry)?;
+    let mut tally = Tally::new(alloc, hasher);
+    while let Some(entry) = entries.next()? {
+        tally.add(alloc, &entry)?;
     }
     Ok(tally.summary())
 }
@@ -125,12 +73,20 @@ struct Tally<S: BuildHasher + Drop> {
 }
 
 impl<S: BuildHasher + Drop> Tally<S> {
+    fn new(alloc: Global, hasher: S) -> Tally<S>
+        ensures { Tallies result [] }
+    {
+        Tally {
+            connections: 0,
+            calls: 0,
+            replies: 0,
+            handles: HandleTable::new(alloc, hasher),
+        }
+    }
+
     fn add(&mut self, alloc: Global, entry: &Entry) -> Result<(), AllocError>
         requires { self.old.connections + self.old.calls + self.old.replies + 1 < 2 ^ 32 }
-        ensures connections { self.new.connections ≡ self.old.connections + cond (keeps_begin entry.now) 1 0 }
-        ensures calls { self.new.calls ≡ self.old.calls + cond (keeps_call entry.now) 1 0 }
-        ensures replies { self.new.replies ≡ self.old.replies + cond (keeps_reply entry.now) 1 0 }
-        ensures handles { (one : spec.Entry) (before : List Item) → IsKept entry.now one → Gathers self.old.handles.numbers before → OnOk result (Gathers self.new.handles.numbers (before ++ items_of one)) }
+        ensures { (one : spec.Entry) (entries : List spec.Entry) → IsKept entry.now one → Tallies self.old entries → OnOk result (Tallies self.new (entries ++ one ∷ [])) }
     {
         match entry {
             Entry::Begin => self.connections += 1,
@@ -142,10 +98,7 @@ impl<S: BuildHasher + Drop> Tally<S> {
     }
 
     fn summary(&self) -> Summary
-        ensures connections { result.connections ≡ self.now.connections }
-        ensures calls { result.calls ≡ self.now.calls }
-        ensures replies { result.replies ≡ self.now.replies }
-        ensures handles { (items : List Item) → Gathers self.now.handles.numbers items → result.handles ≡ min (length (distinct bytes_eq (handles_in items))) number_limit }
+        ensures { (entries : List spec.Entry) → Tallies self.now entries → Sums result entries }
     {
         Summary {
             connections: self.connections,
