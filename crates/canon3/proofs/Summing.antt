@@ -1,6 +1,6 @@
 -- From what was handed out to what a capture has.
-use Rattle.std.proofs.Common.{◌≡◌, ◌≤◌, ℕ, ◌+◌, Bool, cond, min, Option, None, Some, Result, Ok, Err, IfOk, IfErr, List, [], ◌∷◌, ◌++◌, count_by, length, refl, sym, ap, subst, ◌∙◌, append-nil, arith}
-use Rattle.std.specs.Prelude.{bytes_eq}
+use Rattle.std.proofs.Common.{◌≡◌, ◌≤◌, ℕ, ◌+◌, Bool, true, false, cond, min, Option, None, Some, Result, Ok, Err, IfOk, IfErr, List, [], ◌∷◌, ◌++◌, count_by, length, refl, sym, ap, subst, ◌∙◌, append-nil, arith}
+use Rattle.std.specs.Prelude.{bytes_eq, IsTrue, OnOk}
 use Rattle.std.specs.Cmp.Lexicographic.{nat_list_eq_equiv}
 use Rattle.std.specs.Io.KnownBytes.{Consumes, IsAtEnd}
 use Rattle.std.proofs.KnownBytes.{Consumes-all}
@@ -8,11 +8,13 @@ use Rattle.std.proofs.lemmas.Grind.{flat_map-append}
 use Rattle.std.proofs.lemmas.List.Sums.{sum_by-append, sum_by-cons}
 use Rattle.xdr3.specs.Item.{Item}
 use Rattle.nfs3_types.specs.declared.handle.Handle.{Handle}
+use Rattle.capture3.specs.declared.entries.Entries.{Entries}
 use Rattle.capture3.specs.declared.entry.Entry as kept
 use Rattle.capture3.specs.declared.entry.Entry.TheVariants as variants
 use Rattle.capture3.specs.declared.fault.Error.{Error}
 use Rattle.capture3.specs.declared.fault.Error.TheVariants as errors
 use Rattle.capture3.specs.declared.fault.Fault.{Fault}
+use Rattle.capture3.specs.Entries.{StandsFor}
 use Rattle.capture3.specs.Entry.{Entry, Begin, Call, Turn, Reply, Close, End}
 use Rattle.capture3.specs.FirstFault.{FirstFault}
 use Rattle.capture3.specs.Kept.{IsKept}
@@ -20,7 +22,8 @@ use Rattle.capture3.specs.Typed.{Typed}
 use Rattle.canon3.specs.declared.summary.Summary.{Summary}
 use Rattle.canon3.specs.declared.summary.Tally.{Tally}
 use Rattle.canon3.specs.Rank.{distinct, number_limit}
-use Rattle.canon3.specs.Summing.{all_items, Concludes, is_begin, is_call, is_reply, IsSummary, Sums, Tallies}
+use Rattle.canon3.specs.Gathering.{Gathers}
+use Rattle.canon3.specs.Summing.{all_items, Concludes, GoesOn, IsDone, is_begin, is_call, is_reply, IsSummary, keeps_begin, keeps_call, keeps_reply, Sums, Tallies}
 use Rattle.canon3.specs.Values.{handles, handles_in, items_of}
 use Rattle.canon3.proofs.Gathering.{handles_of_all}
 use Rattle.canon3.proofs.InOrder.{typed_in_order}
@@ -37,24 +40,65 @@ pub items_behind : (front : List Entry) (last : Entry) → all_items (front ++ l
 items_behind front last = flat_map-append items_of front (last ∷ []) ∙ ap (λ (l : List Item). all_items front ++ l) (append-nil (items_of last))
 
 -- an entry is one of these at most
-counts_once : (one : Entry) → cond (is_begin one) 1 0 + cond (is_call one) 1 0 + cond (is_reply one) 1 0 ≤ 1
-counts_once Begin = omega arith
-counts_once (Call items) = omega arith
-counts_once Turn = omega arith
-counts_once (Reply id items) = omega arith
-counts_once Close = omega arith
-counts_once End = omega arith
+pub counts_once : (one : kept.Entry) → cond (keeps_begin one) 1 0 + cond (keeps_call one) 1 0 + cond (keeps_reply one) 1 0 ≤ 1
+counts_once variants.Begin = omega arith
+counts_once (variants.Call call) = omega arith
+counts_once variants.Turn = omega arith
+counts_once (variants.Reply reply) = omega arith
+counts_once variants.Close = omega arith
+counts_once variants.End = omega arith
 
-few_counted : (entries : List Entry) → count_by is_begin entries + count_by is_call entries + count_by is_reply entries ≤ length entries
-few_counted [] = omega arith
-few_counted (one ∷ entries) =
-    let begins : count_by is_begin (one ∷ entries) ≡ cond (is_begin one) 1 0 + count_by is_begin entries = sum_by-cons (λ x. cond (is_begin x) 1 0) one entries in
-    let calls : count_by is_call (one ∷ entries) ≡ cond (is_call one) 1 0 + count_by is_call entries = sum_by-cons (λ x. cond (is_call x) 1 0) one entries in
-    let replies : count_by is_reply (one ∷ entries) ≡ cond (is_reply one) 1 0 + count_by is_reply entries = sum_by-cons (λ x. cond (is_reply x) 1 0) one entries in
-    omega (arith, begins, calls, replies, counts_once one, few_counted entries)
+begin_same : (one : kept.Entry) (entry : Entry) → IsKept one entry → keeps_begin one ≡ is_begin entry
+begin_same variants.Begin entry is = sym (ap is_begin is)
+begin_same (variants.Call call) entry is = sym (ap is_begin is.3)
+begin_same variants.Turn entry is = sym (ap is_begin is)
+begin_same (variants.Reply reply) entry is = sym (ap is_begin is.2)
+begin_same variants.Close entry is = sym (ap is_begin is)
+begin_same variants.End entry is = sym (ap is_begin is)
 
-pub few_tallied : {S : Type 0} (tally : Tally S) (entries : List Entry) → Tallies tally entries → tally.connections + tally.calls + tally.replies ≤ length entries
-few_tallied tally entries t = omega (arith, t.connections, t.calls, t.replies, few_counted entries)
+call_same : (one : kept.Entry) (entry : Entry) → IsKept one entry → keeps_call one ≡ is_call entry
+call_same variants.Begin entry is = sym (ap is_call is)
+call_same (variants.Call call) entry is = sym (ap is_call is.3)
+call_same variants.Turn entry is = sym (ap is_call is)
+call_same (variants.Reply reply) entry is = sym (ap is_call is.2)
+call_same variants.Close entry is = sym (ap is_call is)
+call_same variants.End entry is = sym (ap is_call is)
+
+reply_same : (one : kept.Entry) (entry : Entry) → IsKept one entry → keeps_reply one ≡ is_reply entry
+reply_same variants.Begin entry is = sym (ap is_reply is)
+reply_same (variants.Call call) entry is = sym (ap is_reply is.3)
+reply_same variants.Turn entry is = sym (ap is_reply is)
+reply_same (variants.Reply reply) entry is = sym (ap is_reply is.2)
+reply_same variants.Close entry is = sym (ap is_reply is)
+reply_same variants.End entry is = sym (ap is_reply is)
+
+module _ {S H : Type 0} (old new : Tally S H) (one : kept.Entry) where
+  -- a kept entry is added
+  pub tallied_more : (entry : Entry) (entries : List Entry) → IsKept one entry → new.connections ≡ old.connections + cond (keeps_begin one) 1 0 → new.calls ≡ old.calls + cond (keeps_call one) 1 0
+      → new.replies ≡ old.replies + cond (keeps_reply one) 1 0 → Gathers new.handles.numbers (all_items entries ++ items_of entry) → Tallies old entries → Tallies new (entries ++ entry ∷ [])
+  tallied_more entry entries is begins calls replies gathers t = record {
+    connections = counts_behind is_begin old.connections new.connections entries entry (begins ∙ ap (λ b. old.connections + cond b 1 0) (begin_same one entry is)) t.connections;
+    calls = counts_behind is_call old.calls new.calls entries entry (calls ∙ ap (λ b. old.calls + cond b 1 0) (call_same one entry is)) t.calls;
+    replies = counts_behind is_reply old.replies new.replies entries entry (replies ∙ ap (λ b. old.replies + cond b 1 0) (reply_same one entry is)) t.replies;
+    handles = subst (λ (l : List Item). Gathers new.handles.numbers l) (sym (items_behind entries entry)) gathers;
+  }
+
+-- ---- along a reader
+
+module _ {R S H : Type 0} (left : R → Option (List ℕ)) (first : Option (List ℕ)) (reader : Entries R) (tally : Tally S H) where
+  -- an entry was handed out and added, unless memory ran out
+  pub added_goes_on : (given : List ℕ) (handed : List Entry) (one : Entry) (result : Result Bool Error) → IfOk result IsTrue → IfErr result (λ error. error ≡ errors.Memory)
+      → Consumes first (left reader.source.now) given → StandsFor left reader given (handed ++ one ∷ []) → OnOk result (Tallies tally (handed ++ one ∷ [])) → GoesOn left first reader tally result
+  added_goes_on given handed one (Ok true) more memory consumed stands tallied = record { given = given; handed = handed ++ one ∷ []; consumed = consumed; stands = stands; tallied = tallied }
+  added_goes_on given handed one (Ok false) more memory consumed stands tallied = absurd (cc)
+  added_goes_on given handed one (Err errors.Memory) more memory consumed stands tallied = record { given = given; handed = handed; consumed = consumed; met = tt }
+  added_goes_on given handed one (Err errors.Read) more memory consumed stands tallied = absurd (cc)
+  added_goes_on given handed one (Err errors.Write) more memory consumed stands tallied = absurd (cc)
+  added_goes_on given handed one (Err (errors.Refused fault)) more memory consumed stands tallied = absurd (cc)
+
+  pub is_done : (more : Bool) → more ≡ false → GoesOn left first reader tally (Ok more) → IsDone left first reader tally
+  is_done false ends done = done
+  is_done true ends done = absurd (cc)
 
 -- there are few enough handles to be counted
 few_distinct : (bytes : List ℕ) (entries : List Entry) → Typed bytes entries → min (length (distinct bytes_eq (handles_in (all_items entries)))) number_limit ≡ length (distinct bytes_eq (handles entries))

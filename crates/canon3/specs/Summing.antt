@@ -3,8 +3,11 @@ use Rattle.std.specs.Prelude.{◌≡◌, ℕ, Bool, true, false, Option, List, b
 use Rattle.std.specs.Io.KnownBytes.{Consumes, IsAtEnd}
 use Rattle.std.specs.List.{flat_map}
 use Rattle.xdr3.specs.Item.{Item}
+use Rattle.capture3.specs.declared.entry.Entry as kept
+use Rattle.capture3.specs.declared.entry.Entry.TheVariants as variants
 use Rattle.capture3.specs.declared.fault.Error.{Error}
-use Rattle.capture3.specs.Entries.{IsMetBy}
+use Rattle.capture3.specs.declared.entries.Entries.{Entries}
+use Rattle.capture3.specs.Entries.{IsMetBy, StandsFor}
 use Rattle.capture3.specs.Entry.{Entry, Begin, Call, Reply}
 use Rattle.capture3.specs.Typed.{Typed}
 use Rattle.canon3.specs.declared.summary.Summary.{Summary}
@@ -40,8 +43,20 @@ pub record IsSummary (bytes : List ℕ) (summary : Summary) : Type 0 where
 abbrev pub all_items : List Entry → List Item
 all_items entries = flat_map items_of entries
 
+abbrev pub keeps_begin : kept.Entry → Bool
+keeps_begin variants.Begin = true
+keeps_begin _ = false
+
+abbrev pub keeps_call : kept.Entry → Bool
+keeps_call (variants.Call call) = true
+keeps_call _ = false
+
+abbrev pub keeps_reply : kept.Entry → Bool
+keeps_reply (variants.Reply reply) = true
+keeps_reply _ = false
+
 -- what was counted and gathered along these entries
-pub record Tallies {S : Type 0} (tally : Tally S) (entries : List Entry) : Type 0 where
+pub record Tallies {S H : Type 0} (tally : Tally S H) (entries : List Entry) : Type 0 where
   pub connections : tally.connections ≡ count_by is_begin entries
   pub calls : tally.calls ≡ count_by is_call entries
   pub replies : tally.replies ≡ count_by is_reply entries
@@ -53,6 +68,41 @@ pub record Sums (summary : Summary) (entries : List Entry) : Type 0 where
   pub calls : summary.calls ≡ count_by is_call entries
   pub replies : summary.replies ≡ count_by is_reply entries
   pub handles : summary.handles ≡ min (length (distinct bytes_eq (handles_in (all_items entries)))) number_limit
+
+-- the bytes met an error
+pub record HasFailed {R : Type 0} (left : R → Option (List ℕ)) (first : Option (List ℕ)) (reader : Entries R) (error : Error) : Type 0 where
+  pub given : List ℕ
+  pub handed : List Entry
+  pub consumed : Consumes first (left reader.source.now) given
+  pub met : IsMetBy error (left reader.source.now) given handed
+
+-- a reader that hands out entries, from when so much was left first, and what is tallied of them
+module _ {R S H : Type 0} (left : R → Option (List ℕ)) (first : Option (List ℕ)) where
+  -- what it handed out is in the tally
+  pub record IsUnderWay (reader : Entries R) (tally : Tally S H) : Type 0 where
+    pub given : List ℕ
+    pub handed : List Entry
+    pub consumed : Consumes first (left reader.source.now) given
+    pub stands : StandsFor left reader given handed
+    pub tallied : Tallies tally handed
+
+  -- all bytes were a capture's, and all its entries are in the tally
+  pub record IsDone (reader : Entries R) (tally : Tally S H) : Type 0 where
+    pub given : List ℕ
+    pub handed : List Entry
+    pub consumed : Consumes first (left reader.source.now) given
+    pub ended : IsAtEnd (left reader.source.now)
+    pub typed : Typed given handed
+    pub tallied : Tallies tally handed
+
+  abbrev pub GoesOn : Entries R → Tally S H → Result Bool Error → Type 0
+  GoesOn reader tally (Ok true) = IsUnderWay reader tally
+  GoesOn reader tally (Ok false) = IsDone reader tally
+  GoesOn reader tally (Err error) = HasFailed left first reader error
+
+  abbrev pub IsOver : {X : Type 0} → Entries R → Tally S H → Result X Error → Type 0
+  IsOver reader tally (Ok x) = IsDone reader tally
+  IsOver reader tally (Err error) = HasFailed left first reader error
 
 -- What is told of bytes of which so much was left, and so much is left now: all were a capture's, and this is its summary; or those given met
 -- an error.

@@ -1,12 +1,13 @@
 // Whether a capture is well formed, and what it has.
 
-ghost use Rattle.std.specs.Prelude.{◌≡◌, ◌≢◌, ◌<◌, ◌+◌, ◌^◌, ◌++◌, ◌∷◌, ℕ, List, [], None, Some, IfErr, IfOk, OnOk};
+ghost use Rattle.std.specs.Prelude.{◌≡◌, ◌≢◌, ◌<◌, ◌≤◌, ◌+◌, ◌^◌, ◌++◌, ◌∷◌, ℕ, List, [], Option, None, Some, cond, IfErr, IfOk, IsTrue, OnOk};
 ghost use Rattle.capture3.specs.declared.fault.Fault.{Fault};
-ghost use Rattle.capture3.specs.Entries.{CountsReading, failure_of, StandsFor};
+ghost use Rattle.capture3.specs.Entries.{CountsReading, entries_left, failure_of, StandsFor};
 ghost use Rattle.capture3.specs.Entry as spec;
 ghost use Rattle.capture3.specs.FirstFault.{FirstFault};
 ghost use Rattle.capture3.specs.Kept.{IsKept};
-ghost use Rattle.canon3.specs.Summing.{Concludes, IsSummary, Sums, Tallies};
+ghost use Rattle.capture3.specs.Position.{most_entries};
+ghost use Rattle.canon3.specs.Summing.{Concludes, GoesOn, IsOver, IsSummary, IsUnderWay, keeps_begin, keeps_call, keeps_reply, Sums, Tallies};
 
 use crate::handles::HandleTable;
 use capture3::{Entries, Entry, Error, Hashers, Source};
@@ -43,7 +44,7 @@ pub fn check<R: Source, S: BuildHasher + Drop>(
     summed(alloc, hashers.handles, &mut entries)
 }
 
-/// What a reader hands out, up to its end.
+/// What a new reader hands out, up to its end.
 fn summed<R: Source, S: BuildHasher + Drop>(
     alloc: Global,
     hasher: S,
@@ -57,10 +58,10 @@ fn summed<R: Source, S: BuildHasher + Drop>(
     ensures same_reference { entries.new.source.ghost_name ≡ entries.old.source.ghost_name }
 {
     let mut tally = Tally::new(alloc, hasher);
-    while let Some(entry) = entries.next()? {
-        tally.add(alloc, &entry)?;
+    match tally.add_all(alloc, entries) {
+        Ok(()) => Ok(tally.summary()),
+        Err(error) => Err(error),
     }
-    Ok(tally.summary())
 }
 
 /// What was met so far.
@@ -84,9 +85,73 @@ impl<S: BuildHasher + Drop> Tally<S> {
         }
     }
 
+    /// Adds all entries that are left.
+    fn add_all<R: Source>(
+        &mut self,
+        alloc: Global,
+        entries: &mut Entries<'_, R>,
+    ) -> Result<(), Error>
+        requires going { failure_of entries.old ≡ None }
+        requires room { self.old.connections + self.old.calls + self.old.replies + entries_left entries.old ≤ most_entries }
+        ensures over { (first : Option (List ℕ)) → IsUnderWay R.left first entries.old self.old → IsOver R.left first entries.new self.new result }
+        ensures read { CountsReading (R.failures entries.old.source.now) (R.failures entries.new.source.now) result }
+        ensures write { IfErr result (λ error. error ≢ Error.Write) }
+        ensures same_reference { entries.new.source.ghost_name ≡ entries.old.source.ghost_name }
+    {
+        while self.add_next(alloc, entries)? {}
+        Ok(())
+    }
+
+    /// Adds the next entry. False stands for the end.
+    fn add_next<R: Source>(
+        &mut self,
+        alloc: Global,
+        entries: &mut Entries<'_, R>,
+    ) -> Result<bool, Error>
+        requires going { failure_of entries.old ≡ None }
+        requires room { self.old.connections + self.old.calls + self.old.replies + entries_left entries.old ≤ most_entries }
+        ensures goes_on { (first : Option (List ℕ)) → IsUnderWay R.left first entries.old self.old → GoesOn R.left first entries.new self.new result }
+        ensures fewer { IfOk result (λ more. IsTrue more → entries_left entries.new < entries_left entries.old) }
+        ensures going { OnOk result (failure_of entries.new ≡ None) }
+        ensures room { IfOk result (λ more. IsTrue more → self.new.connections + self.new.calls + self.new.replies + entries_left entries.new ≤ most_entries) }
+        ensures read { CountsReading (R.failures entries.old.source.now) (R.failures entries.new.source.now) result }
+        ensures write { IfErr result (λ error. error ≢ Error.Write) }
+        ensures same_reference { entries.new.source.ghost_name ≡ entries.old.source.ghost_name }
+    {
+        match entries.next() {
+            Ok(Some(entry)) => self.added(alloc, &entry),
+            Ok(None) => Ok(false),
+            Err(error) => Err(error),
+        }
+    }
+
+    /// Adds the entry, and says that it came.
+    fn added(&mut self, alloc: Global, entry: &Entry) -> Result<bool, Error>
+        requires { self.old.connections + self.old.calls + self.old.replies + 1 < 2 ^ 32 }
+        ensures more { IfOk result IsTrue }
+        ensures few { self.new.connections + self.new.calls + self.new.replies ≤ self.old.connections + self.old.calls + self.old.replies + 1 }
+        ensures tallies { (one : spec.Entry) (entries : List spec.Entry) → IsKept entry.now one → Tallies self.old entries → OnOk result (Tallies self.new (entries ++ one ∷ [])) }
+        ensures memory { IfErr result (λ error. error ≡ Error.Memory) }
+    {
+        self.add(alloc, entry)?;
+        Ok(true)
+    }
+
     fn add(&mut self, alloc: Global, entry: &Entry) -> Result<(), AllocError>
         requires { self.old.connections + self.old.calls + self.old.replies + 1 < 2 ^ 32 }
-        ensures { (one : spec.Entry) (entries : List spec.Entry) → IsKept entry.now one → Tallies self.old entries → OnOk result (Tallies self.new (entries ++ one ∷ [])) }
+        ensures few { self.new.connections + self.new.calls + self.new.replies ≤ self.old.connections + self.old.calls + self.old.replies + 1 }
+        ensures tallies { (one : spec.Entry) (entries : List spec.Entry) → IsKept entry.now one → Tallies self.old entries → OnOk result (Tallies self.new (entries ++ one ∷ [])) }
+    {
+        self.count(entry);
+        self.handles.gather(alloc, entry)
+    }
+
+    fn count(&mut self, entry: &Entry)
+        requires { self.old.connections + self.old.calls + self.old.replies + 1 < 2 ^ 32 }
+        ensures connections { self.new.connections ≡ self.old.connections + cond (keeps_begin entry.now) 1 0 }
+        ensures calls { self.new.calls ≡ self.old.calls + cond (keeps_call entry.now) 1 0 }
+        ensures replies { self.new.replies ≡ self.old.replies + cond (keeps_reply entry.now) 1 0 }
+        ensures handles { self.new.handles ≡ self.old.handles }
     {
         match entry {
             Entry::Begin => self.connections += 1,
@@ -94,7 +159,6 @@ impl<S: BuildHasher + Drop> Tally<S> {
             Entry::Reply(_) => self.replies += 1,
             Entry::Turn | Entry::Close | Entry::End => {}
         }
-        self.handles.gather(alloc, entry)
     }
 
     fn summary(&self) -> Summary
