@@ -41,7 +41,9 @@ pub fn check<R: Source, S: BuildHasher + Drop>(
     ensures write { IfErr result (λ error. error ≢ Error.Write) }
 {
     let mut entries = Entries::new(alloc, source)?;
-    summed(alloc, hashers.handles, &mut entries)
+    let result = summed(alloc, hashers.handles, &mut entries);
+    entries.into_source();
+    result
 }
 
 /// What a new reader hands out, up to its end.

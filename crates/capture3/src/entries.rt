@@ -83,6 +83,15 @@ impl<'r, R: Source> Entries<'r, R> {
         })
     }
 
+    /// The source, as the reads left it.
+    pub fn into_source(self) -> &'r mut R
+        ensures value { result.now ≡ self.entry.source.now }
+        ensures same_reference { result.ghost_name ≡ self.entry.source.ghost_name }
+    {
+        let Entries { source, .. } = self;
+        source
+    }
+
     /// The next entry. None comes after the end, and again.
     ///
     /// # Errors
