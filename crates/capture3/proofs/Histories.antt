@@ -175,6 +175,24 @@ fault_within front piece rest fault are (n, fits, (shown, stops, is)) =
     let shows = shows_from_stops begun shown (split_bytes (front ++ piece) begun back split are).0 (after-append file_next (Runs file_start) front (take n piece) ∙ stops) in
     inl (begun, back ++ rest, shown, ap (λ (b : List ℕ). b ++ rest) split ∙ append_assoc begun back rest, shows, sym is)
 
+-- ---- what was consumed
+
+nothing_consumed : (old new : Option (List ℕ)) → Keeps old new → Consumes old new []
+nothing_consumed None new kept = tt
+nothing_consumed (Some xs) None kept = absurd kept
+nothing_consumed (Some xs) (Some ys) kept = sym kept
+
+pub consumes_both : (a b c : Option (List ℕ)) (xs ys : List ℕ) → Consumes a b xs → Consumes b c ys → Consumes a c (xs ++ ys)
+consumes_both None b c xs ys p q = tt
+consumes_both (Some us) None c xs ys p q = absurd p
+consumes_both (Some us) (Some vs) None xs ys p q = absurd q
+consumes_both (Some us) (Some vs) (Some ws) xs ys p q = p ∙ ap (λ (b : List ℕ). xs ++ b) q ∙ sym (append_assoc xs ys ws)
+
+pub none_consumed : (known other : Option (List ℕ)) → other ≡ known → Consumes known other []
+none_consumed None other is = tt
+none_consumed (Some xs) None is = absurd (cc)
+none_consumed (Some xs) (Some ys) is = let same : ys ≡ xs = cc in sym same
+
 -- ---- the reader
 
 module _ {R : Type 0} (left : R → Option (List ℕ)) where
@@ -231,11 +249,6 @@ module _ {R : Type 0} (left : R → Option (List ℕ)) where
             (omega (arith, room_before old given handed is s, ap (λ (c : Capture). room_of c.container.position) same))
             (record { judged = r.judged; split = split; counted = count ∙ r.counted; machine = subst (λ (c : Capture). StandsAt c.container.position c.container.joiner c.calls (parsed r.judged) handed) (sym same) r.machine });
       }
-
-  nothing_consumed : (old new : Option (List ℕ)) → Keeps old new → Consumes old new []
-  nothing_consumed None new kept = tt
-  nothing_consumed (Some xs) None kept = absurd kept
-  nothing_consumed (Some xs) (Some ys) kept = sym kept
 
   pub has_failed : (old new : Entries R) (given : List ℕ) (handed : List Entry) → old.stage ≡ Reading → new.stage ≡ Failed errors.Read → old.start ≡ old.end
       → Keeps (left old.source.now) (left new.source.now) → StandsFor left old given handed → HasRead left old new given handed
@@ -323,17 +336,6 @@ module _ {R : Type 0} (left : R → Option (List ℕ)) where
       (subst (λ (e : Error). IsMetBy e (left new.source.now) given handed) (sym cut) (λ rest known. subst (λ (b : List ℕ). FirstFault b (file_fault old.judged CaptureCut)) (nothing_behind given (left new.source.now) rest end known) first))
 
   -- ---- one after another
-
-  consumes_both : (a b c : Option (List ℕ)) (xs ys : List ℕ) → Consumes a b xs → Consumes b c ys → Consumes a c (xs ++ ys)
-  consumes_both None b c xs ys p q = tt
-  consumes_both (Some us) None c xs ys p q = absurd p
-  consumes_both (Some us) (Some vs) None xs ys p q = absurd q
-  consumes_both (Some us) (Some vs) (Some ws) xs ys p q = p ∙ ap (λ (b : List ℕ). xs ++ b) q ∙ sym (append_assoc xs ys ws)
-
-  none_consumed : (known other : Option (List ℕ)) → other ≡ known → Consumes known other []
-  none_consumed None other is = tt
-  none_consumed (Some xs) None is = absurd (cc)
-  none_consumed (Some xs) (Some ys) is = let same : ys ≡ xs = cc in sym same
 
   pub nothing_read : (e : Entries R) (given : List ℕ) (handed : List Entry) → StandsFor left e given handed → HasRead left e e given handed
   nothing_read e given handed s = record {

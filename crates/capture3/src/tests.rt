@@ -129,6 +129,15 @@ fn read_names<S: Source>(
     panic!(rt; "ten entries")
 }
 
+/// The names are those of the entries that so many bytes of the capture reach, without its end.
+fn assert_names_within(rt: &impl Abort, names: &[&'static str], size: usize) {
+    let count = NEEDED.iter().filter(|needed| **needed <= size).count();
+    assert_eq!(rt; names.len(), count, "within {size} bytes");
+    for (got, wanted) in names.iter().zip(NAMES.iter()) {
+        assert_eq!(rt; *got, *wanted, "within {size} bytes");
+    }
+}
+
 #[test]
 fn entries_in_blocks(rt: HostRuntime) -> Result<(), Fail> {
     for block in [1, 2, 3, 7, 60, 104, 65_536] {
@@ -171,8 +180,7 @@ fn a_read_fails_at_each_call(rt: HostRuntime) -> Result<(), Fail> {
         let mut source = MemSource::new(&NULL, 8, fail as u64);
         let (names, error) = read_names(&rt, rt.alloc(), &mut source)?;
         let given = 8 * (fail - 1);
-        let count = NEEDED.iter().filter(|&&needed| needed <= given).count();
-        assert_eq!(rt; names.as_slice(), &NAMES[..count], "call {fail} fails");
+        assert_names_within(&rt, &names, given);
         assert_eq!(rt; error, Some(Error::Read));
     }
     Ok(())
@@ -182,8 +190,7 @@ fn a_read_fails_at_each_call(rt: HostRuntime) -> Result<(), Fail> {
 fn entries_of_a_shorter_prefix(rt: HostRuntime) -> Result<(), Fail> {
     for size in 0..NULL.len() {
         let (names, error) = read_names(&rt, rt.alloc(), &mut MemSource::new(&NULL[..size], 5, 0))?;
-        let count = NEEDED.iter().filter(|&&needed| needed <= size).count();
-        assert_eq!(rt; names.as_slice(), &NAMES[..count], "of {size} bytes");
+        assert_names_within(&rt, &names, size);
         assert_eq!(rt; error, Some(file_fault(size, Reason::CaptureCut)));
     }
     Ok(())
