@@ -318,3 +318,22 @@ pub(crate) static LONG: [(&str, &str); 3] = [
         "connection 1 client record 1 byte 0: RecordTooLong\n",
     ),
 ];
+
+/// Whole files, whose records have many or long fragments.
+pub(crate) static FRAGMENTS: [(&str, &str); 3] = [
+    // a million empty fragments
+    (
+        "MAGIC 00000001 003d092c 00000000*1000000 80000028 deadbeef CALL NFS 00000000 NONE NONE 00000000 0000001c 80000018 deadbeef SUCCESS 00000000 00000000",
+        "ok connections=1 calls=1 replies=1 handles=0\n",
+    ),
+    // 16,777,216 bytes in two fragments
+    (
+        "MAGIC 00000001 01000008 00ffffff 00000001 CALL 00018783 00000003 00000001 NONE NONE 000000000000000000000000000000000000000000000000*699048 0000000000000000000000000000000000000000000000 80000001 00 00000000 00000000 00000000",
+        "ok connections=1 calls=1 replies=0 handles=0\n",
+    ),
+    // a byte more in the second
+    (
+        "MAGIC 00000001 01000009 00ffffff 00000001 CALL 00018783 00000003 00000001 NONE NONE 000000000000000000000000000000000000000000000000*699048 0000000000000000000000000000000000000000000000 80000002 0000 00000000 00000000 00000000",
+        "connection 1 client record 1 byte 16777215: RecordTooLong\n",
+    ),
+];
