@@ -1,4 +1,5 @@
 -- Lemmas of canonical captures.
+pub mod Gathering
 pub mod Summing
 pub mod Order
 pub mod Ranks
@@ -14,6 +15,7 @@ pub mod Places
 pub mod Kept
 pub mod Rooms
 pub mod Items
+pub mod Procedures
 pub mod Messages
 pub mod Conversations
 pub mod Conversing

@@ -12,37 +12,14 @@ use Rattle.rpc_head.specs.declared.call.ProcId.{ProcId}
 use Rattle.rpc_head.specs.Names.{names}
 use Rattle.rpc_head.specs.Messages.{number_of_word, word_in, procedure_in, call_start, reply_start, call_layout, reply_layout, has_results}
 use Rattle.rpc_head.specs.Shapes.{◌then◌, call_head, reply_head, credential, auth_sys, parameters, gids, verifier, accept, deny, versions, auth_stats}
-use Rattle.procs3.specs.Table.{is_null, arguments_of, results_of}
+use Rattle.procs3.specs.Table.{arguments_of, results_of}
 use Rattle.canon3.specs.Rank.{rank}
 use Rattle.canon3.specs.Canonical.{numbered_item, numbered_message}
+use Rattle.canon3.proofs.Procedures.{arguments_have_room, layout_room_if, results_have_room, room_if}
 use Rattle.canon3.proofs.Rooms.{HasNoName, HasRoom, LayoutHasRoom}
 use Rattle.canon3.specs.Pairing.{Member}
 use Rattle.canon3.proofs.Ranks.{rank-le-length}
 use Rattle.canon3.proofs.Items.{spells_numbered, shorter_numbered, fits_numbered, layout_numbered, handles_short, layout_short, IsShort, all_append}
-
--- ---- rooms of choices
-
-pub no_name_if : (b : Bool) (s t : Shape) → HasNoName s → HasNoName t → HasNoName (if b then s else t)
-no_name_if true s t h k = h
-no_name_if false s t h k = k
-
-pub room_if : (b : Bool) (s t : Shape) → HasRoom s → HasRoom t → HasRoom (if b then s else t)
-room_if true s t h k = h
-room_if false s t h k = k
-
-pub layout_room_if : (b : Bool) (s t : Layout) → LayoutHasRoom s → LayoutHasRoom t → LayoutHasRoom (if b then s else t)
-layout_room_if true s t h k = h
-layout_room_if false s t h k = k
-
--- ---- the table of procedures
-
-pub arguments_have_room : (id : ProcId) → LayoutHasRoom (arguments_of id)
-unfolding arguments_of
-arguments_have_room id = layout_room_if (is_null id) (exactly nothing) (rest (codes "rest")) tt tt
-
-pub results_have_room : (id : ProcId) → LayoutHasRoom (results_of id)
-unfolding results_of
-results_have_room id = layout_room_if (is_null id) (exactly nothing) (rest (codes "rest")) tt tt
 
 -- ---- heads
 

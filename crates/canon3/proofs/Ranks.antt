@@ -161,7 +161,7 @@ module _ {K : Type 0} (same : K → K → Bool) (laws : IsEquivalence same) wher
   length-with_key : (y : K) (ks : List K) → length (with_key same ks y) ≤ length ks + 1
   length-with_key y ks = cond_either (λ ls. length ls ≤ length ks + 1) (list_any (same y) ks) (omega arith) (omega (arith, length-append ks (y ∷ [])))
 
-  length-with_keys : (l ks : List K) → length (with_keys same ks l) ≤ length ks + length l
+  pub length-with_keys : (l ks : List K) → length (with_keys same ks l) ≤ length ks + length l
   length-with_keys [] ks = omega arith
   length-with_keys (y ∷ l) ks = omega (arith, length-with_keys l (with_key same ks y), length-with_key y ks)
 

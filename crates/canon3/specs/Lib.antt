@@ -1,4 +1,5 @@
 -- What captures are up to renaming, their canonical form, and its bytes.
+pub mod Gathering
 pub mod Summing
 pub mod Values
 pub mod Pairing

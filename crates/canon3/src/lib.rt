@@ -2,6 +2,7 @@
 #![tactic(auto)]
 
 pub mod examples;
+mod handles;
 pub mod laws;
 mod numbers;
 mod plan;

@@ -1,13 +1,20 @@
 // Whether a capture is well formed.
 
-ghost use Rattle.std.specs.Prelude.{◌≡◌, ◌≢◌, ◌⊎◌, ◌<◌, ◌+◌, ◌^◌, ℕ, List, Some, cond, count_by, length, IfErr, IfOk, vec_len};
-ghost use Rattle.xdr3.specs.Item.{AreBytes};
+ghost use Rattle.std.specs.Prelude.{◌≡◌, ◌≢◌, ◌⊎◌, ◌<◌, ◌+◌, ◌^◌, ◌++◌, ℕ, List, Some, bytes_eq, cond, count_by, length, min, IfErr, IfOk, OnOk, vec_len};
+ghost use Rattle.xdr3.specs.Item.{AreBytes, Item};
 ghost use Rattle.capture3.specs.declared.fault.Fault.{Fault};
+ghost use Rattle.capture3.specs.Entry as spec;
 ghost use Rattle.capture3.specs.FirstFault.{FirstFault};
-ghost use Rattle.canon3.specs.Summing.{CountsReading, IsReadFrom, IsSummary, keeps_begin, keeps_call, keeps_reply};
+ghost use Rattle.capture3.specs.Kept.{AreKept, IsKept};
+ghost use Rattle.canon3.specs.Gathering.{Gathers};
+ghost use Rattle.canon3.specs.Rank.{distinct, number_limit};
+ghost use Rattle.canon3.specs.Summing.{CountsReading, IsReadFrom, IsSummary, all_items, keeps_begin, keeps_call, keeps_reply};
+ghost use Rattle.canon3.specs.Values.{handles_in, items_of};
 
-use capture3::{Entry, Error, Source, parse};
+use crate::handles::HandleTable;
+use capture3::{Entry, Error, Hashers, Source, parse};
 use std::alloc::{AllocError, Global};
+use std::hash::BuildHasher;
 
 /// What a capture has of each kind.
 #[derive(Clone, Copy, Debug, PartialEq, Eq)]
@@ -15,7 +22,7 @@ pub struct Summary {
     pub connections: u32,
     pub calls: u32,
     pub replies: u32,
-    /// Distinct file handles that are not empty. They are not counted yet: 0.
+    /// Distinct file handles that are not empty (RFC 1813, section 2.5).
     pub handles: u32,
 }
 
@@ -33,14 +40,18 @@ const BLOCK: usize = 65_536;
 ///
 /// `Refused` with the first fault of a capture that is not well formed, `Read` where a read failed, and
 /// `Memory` where none was to be had; never `Write`.
-pub fn check<R: Source>(alloc: Global, source: &mut R) -> Result<Summary, Error>
+pub fn check<R: Source, S: BuildHasher + Drop>(
+    alloc: Global,
+    hashers: Hashers<S>,
+    source: &mut R,
+) -> Result<Summary, Error>
     ensures ok { (bytes : List ℕ) → R.left source.old ≡ Some bytes → IfOk result (IsSummary bytes) }
     ensures refused { (bytes : List ℕ) → R.left source.old ≡ Some bytes → IfErr result (λ error. (fault : Fault) → error ≡ Error.Refused fault → FirstFault bytes fault) }
     ensures read { CountsReading (R.failures source.old) (R.failures source.new) result }
     ensures write { IfErr result (λ error. error ≢ Error.Write) }
 {
     let bytes = whole(alloc, source)?;
-    summed(alloc, &bytes)
+    summed(alloc, hashers.handles, &bytes)
 }
 
 /// All bytes of a source, at most one more than the longest capture has.
@@ -69,48 +80,78 @@ fn new_block(alloc: Global) -> Result<Vec<u8>, AllocError>
 }
 
 /// What the capture in these bytes has, where it is well formed.
-fn summed(alloc: Global, bytes: &[u8]) -> Result<Summary, Error>
+fn summed<S: BuildHasher + Drop>(alloc: Global, hasher: S, bytes: &[u8]) -> Result<Summary, Error>
     ensures fit { AreBytes bytes.now }
     ensures ok { IfOk result (IsSummary bytes.now) }
     ensures refused { IfErr result (λ error. (fault : Fault) → error ≡ Error.Refused fault → FirstFault bytes.now fault) }
     ensures device { IfErr result (λ error. (error ≢ Error.Read) × (error ≢ Error.Write)) }
 {
     match parse(alloc, bytes) {
-        Ok(entries) => Ok(counted(&entries)),
+        Ok(entries) => Ok(counted(alloc, hasher, &entries)?),
         Err(error) => Err(error),
     }
 }
 
-fn counted(entries: &[Entry]) -> Summary
+fn counted<S: BuildHasher + Drop>(
+    alloc: Global,
+    hasher: S,
+    entries: &[Entry],
+) -> Result<Summary, AllocError>
     requires { length entries.now < 2 ^ 32 }
-    ensures connections { result.connections ≡ count_by keeps_begin entries.now }
-    ensures calls { result.calls ≡ count_by keeps_call entries.now }
-    ensures replies { result.replies ≡ count_by keeps_reply entries.now }
+    ensures connections { IfOk result (λ summary. summary.connections ≡ count_by keeps_begin entries.now) }
+    ensures calls { IfOk result (λ summary. summary.calls ≡ count_by keeps_call entries.now) }
+    ensures replies { IfOk result (λ summary. summary.replies ≡ count_by keeps_reply entries.now) }
+    ensures handles { IfOk result (λ summary. (model : List spec.Entry) → AreKept entries.now model → summary.handles ≡ min (length (distinct bytes_eq (handles_in (all_items model)))) number_limit) }
 {
-    let mut summary = Summary {
+    let mut tally = Tally {
         connections: 0,
         calls: 0,
         replies: 0,
-        handles: 0,
+        handles: HandleTable::new(alloc, hasher),
     };
     for entry in entries {
-        summary.add(entry);
+        tally.add(alloc, entry)?;
     }
-    summary
+    Ok(tally.summary())
 }
 
-impl Summary {
-    fn add(&mut self, entry: &Entry)
+/// What was met so far.
+#[derive(Drop)]
+struct Tally<S: BuildHasher + Drop> {
+    connections: u32,
+    calls: u32,
+    replies: u32,
+    handles: HandleTable<S>,
+}
+
+impl<S: BuildHasher + Drop> Tally<S> {
+    fn add(&mut self, alloc: Global, entry: &Entry) -> Result<(), AllocError>
         requires { self.old.connections + self.old.calls + self.old.replies + 1 < 2 ^ 32 }
         ensures connections { self.new.connections ≡ self.old.connections + cond (keeps_begin entry.now) 1 0 }
         ensures calls { self.new.calls ≡ self.old.calls + cond (keeps_call entry.now) 1 0 }
         ensures replies { self.new.replies ≡ self.old.replies + cond (keeps_reply entry.now) 1 0 }
+        ensures handles { (one : spec.Entry) (before : List Item) → IsKept entry.now one → Gathers self.old.handles.numbers before → OnOk result (Gathers self.new.handles.numbers (before ++ items_of one)) }
     {
         match entry {
             Entry::Begin => self.connections += 1,
             Entry::Call(_) => self.calls += 1,
             Entry::Reply(_) => self.replies += 1,
             Entry::Turn | Entry::Close | Entry::End => {}
+        }
+        self.handles.gather(alloc, entry)
+    }
+
+    fn summary(&self) -> Summary
+        ensures connections { result.connections ≡ self.now.connections }
+        ensures calls { result.calls ≡ self.now.calls }
+        ensures replies { result.replies ≡ self.now.replies }
+        ensures handles { (items : List Item) → Gathers self.now.handles.numbers items → result.handles ≡ min (length (distinct bytes_eq (handles_in items))) number_limit }
+    {
+        Summary {
+            connections: self.connections,
+            calls: self.calls,
+            replies: self.replies,
+            handles: self.handles.len(),
         }
     }
 }

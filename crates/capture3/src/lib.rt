@@ -6,6 +6,7 @@ mod container;
 mod device;
 mod entry;
 mod fault;
+mod hashers;
 mod judging;
 pub mod laws;
 mod message;
@@ -14,12 +15,14 @@ mod position;
 mod source;
 #[cfg(test)]
 mod tests;
+mod walking;
 mod whole;
 mod word_part;
 
 pub use device::DeviceFailed;
 pub use entry::{Entry, KeptCall, KeptReply};
 pub use fault::{Error, Fault, Place, Side};
+pub use hashers::Hashers;
 pub use message::{CallMsg, ReplyMsg};
 pub use source::{FromRead, MemSource, Source};
 pub use whole::parse;

@@ -1,11 +1,15 @@
-use Rattle.std.proofs.Common.{◌≡◌, ◌≤◌, ◌+◌, count_by, take}
-use Rattle.canon3.specs.Summing.{keeps_begin, keeps_call, keeps_reply}
+use Rattle.std.proofs.Common.{◌≡◌, ◌≤◌, ◌+◌, List, count_by, take}
+use Rattle.capture3.specs.Entry.{Entry}
+use Rattle.capture3.specs.Kept.{AreKept}
+use Rattle.canon3.specs.Gathering.{Gathers}
+use Rattle.canon3.specs.Summing.{all_items, keeps_begin, keeps_call, keeps_reply}
 use Rattle.canon3.proofs.summary.counted.Given as goal
 
 abbrev pub invariant-loop-entry : goal.invariant-loop-entry
-invariant-loop-entry l = record {
-  few : l.summary.connections + l.summary.calls + l.summary.replies ≤ l.entry-index;
-  connections : l.summary.connections ≡ count_by keeps_begin (take l.entry-index l.entries);
-  calls : l.summary.calls ≡ count_by keeps_call (take l.entry-index l.entries);
-  replies : l.summary.replies ≡ count_by keeps_reply (take l.entry-index l.entries);
+invariant-loop-entry g l = record {
+  few : l.tally.connections + l.tally.calls + l.tally.replies ≤ l.entry-index;
+  connections : l.tally.connections ≡ count_by keeps_begin (take l.entry-index l.entries);
+  calls : l.tally.calls ≡ count_by keeps_call (take l.entry-index l.entries);
+  replies : l.tally.replies ≡ count_by keeps_reply (take l.entry-index l.entries);
+  handles : (model : List Entry) → AreKept (take l.entry-index l.entries) model → Gathers l.tally.handles.numbers (all_items model);
 }

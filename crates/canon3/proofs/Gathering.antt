@@ -1,0 +1,117 @@
+-- Tables that gather the handles of items.
+use Rattle.std.proofs.Common.{◌≡◌, ◌≢◌, ℕ, Bool, true, false, List, [], ◌∷◌, ◌++◌, length, map, refl, sym, ap, subst, ◌∙◌, append-nil, ◌≤◌, Result, Ok, Err, arith}
+use Rattle.std.specs.Prelude.{bytes_eq, if◌then◌else◌, ◌||◌, OnOk}
+use Rattle.std.specs.List.{list_any, flat_map}
+use Rattle.std.proofs.lemmas.List.{length-map, map-append}
+use Rattle.std.proofs.lemmas.Grind.{flat_map-append}
+use Rattle.xdr3.specs.declared.reason.Stop.{Stop}
+use Rattle.xdr3.specs.Item.{Item, Opaque, Handle, Spells}
+use Rattle.xdr3.specs.Visit.{AreWithinLimit}
+use Rattle.xdr3.proofs.Items.{length_of_spelling}
+use Rattle.record_mark.specs.RecordMark.{max_body}
+use Rattle.rpc_head.specs.declared.call.ProcId.{ProcId}
+use Rattle.rpc_head.specs.Messages.{call_layout, reply_layout}
+use Rattle.procs3.specs.Table.{arguments_of, results_of}
+use Rattle.nfs3_types.specs.declared.handle.Handle as handles
+use Rattle.nfs3_types.specs.Handle.{bytes_of}
+use Rattle.capture3.specs.Bodies.{IsCall, IsReply}
+use Rattle.capture3.specs.Judging.{read_whole}
+use Rattle.capture3.proofs.Layouts.{whole_read}
+use Rattle.capture3.specs.declared.entry.Entry as kept
+use Rattle.capture3.specs.Kept.{AreKept, IsKept}
+use Rattle.capture3.specs.Entry.{Entry, Begin, Call, Turn, Reply, Close, End}
+use Rattle.canon3.specs.Gathering.{Gathers, same_handle}
+use Rattle.canon3.specs.Rank.{distinct, with_key, with_keys, StandsFor}
+use Rattle.canon3.specs.Summing.{all_items}
+use Rattle.canon3.specs.Values.{handle_in, handles, handles_in, items_of}
+
+-- ---- distinct ones by what they hold
+
+module _ {K L : Type 0} (same : L → L → Bool) (f : K → L) where
+  abbrev same_by : K → K → Bool
+  same_by x y = same (f x) (f y)
+
+  any_mapped : (x : K) (keys : List K) → list_any (same (f x)) (map f keys) ≡ list_any (same_by x) keys
+  any_mapped x [] = refl
+  any_mapped x (key ∷ keys) = ap (λ b. same (f x) (f key) || b) (any_mapped x keys)
+
+  key_mapped : (keys : List K) (x : K) → map f (with_key same_by keys x) ≡ with_key same (map f keys) (f x)
+  key_mapped keys x = by_found (list_any (same_by x) keys) ∙ ap (λ (b : Bool). if b then map f keys else map f keys ++ f x ∷ []) (sym (any_mapped x keys))
+    where
+      by_found : (b : Bool) → map f (if b then keys else keys ++ x ∷ []) ≡ (if b then map f keys else map f keys ++ f x ∷ [])
+      by_found true = refl
+      by_found false = map-append f keys (x ∷ [])
+
+  keys_mapped : (keys l : List K) → map f (with_keys same_by keys l) ≡ with_keys same (map f keys) (map f l)
+  keys_mapped keys [] = refl
+  keys_mapped keys (x ∷ l) = keys_mapped (with_key same_by keys x) l ∙ ap (λ (ks : List L). with_keys same ks (map f l)) (key_mapped keys x)
+
+  pub distinct_mapped : (l : List K) → length (distinct same_by l) ≡ length (distinct same (map f l))
+  distinct_mapped l = sym (length-map (distinct same_by l) f) ∙ ap length (keys_mapped [] l)
+
+-- ---- along items
+
+pub gathers_none : (table : List handles.Handle) (items more : List Item) → handles_in more ≡ [] → Gathers table items → Gathers table (items ++ more)
+gathers_none table items more none (given, stands, are) =
+    (given, stands, are ∙ sym (flat_map-append handle_in items more ∙ ap (λ (l : List (List ℕ)). handles_in items ++ l) none ∙ append-nil (handles_in items)))
+
+pub gathers_one : (old new : List handles.Handle) (handle : handles.Handle) (name bytes : List ℕ) (items : List Item) → bytes_of handle ≡ bytes → bytes ≢ []
+    → ((given : List handles.Handle) → StandsFor same_handle old given → StandsFor same_handle new (given ++ handle ∷ []))
+    → Gathers old items → Gathers new (items ++ Opaque Handle name bytes ∷ [])
+gathers_one old new handle name [] items is some step g = absurd (some refl)
+gathers_one old new handle name (b ∷ bs) items is some step (given, stands, are) = (
+  given ++ handle ∷ [],
+  step given stands,
+  map-append bytes_of given (handle ∷ []) ∙ ap (λ (l : List (List ℕ)). l ++ bytes_of handle ∷ []) are ∙ ap (λ (x : List ℕ). handles_in items ++ x ∷ []) is
+  ∙ sym (flat_map-append handle_in items (Opaque Handle name (b ∷ bs) ∷ [])),
+)
+
+pub count_gathered : (table : List handles.Handle) (items : List Item) (g : Gathers table items) → length (distinct same_handle g.0) ≡ length (distinct bytes_eq (handles_in items))
+count_gathered table items (given, stands, are) = distinct_mapped bytes_eq bytes_of given ∙ ap (λ (l : List (List ℕ)). length (distinct bytes_eq l)) are
+
+-- ---- of all entries
+
+pub handles_of_all : (entries : List Entry) → handles_in (all_items entries) ≡ handles entries
+handles_of_all [] = refl
+handles_of_all (entry ∷ entries) =
+    flat_map-append handle_in (items_of entry) (all_items entries) ∙ ap (λ (l : List (List ℕ)). handles_in (items_of entry) ++ l) (handles_of_all entries)
+
+-- a kept entry more
+kept_front : (items : List kept.Entry) (one : kept.Entry) (model : List Entry) → AreKept (items ++ one ∷ []) model
+    → (front : List Entry) × (last : Entry) × AreKept items front × IsKept one last × (model ≡ front ++ last ∷ [])
+kept_front [] one model (entry, rest, split, is, none) = ([], entry, refl, is, split ∙ ap (λ (l : List Entry). entry ∷ l) none)
+kept_front (x ∷ items) one model (entry, rest, split, is, are) =
+    let f = kept_front items one rest are in
+    (entry ∷ f.0, f.1, (entry, f.0, refl, is, f.2), f.3, split ∙ ap (λ (l : List Entry). entry ∷ l) f.4)
+
+items_behind : (front : List Entry) (last : Entry) → all_items (front ++ last ∷ []) ≡ all_items front ++ items_of last
+items_behind front last = flat_map-append items_of front (last ∷ []) ∙ ap (λ (l : List Item). all_items front ++ l) (append-nil (items_of last))
+
+pub gathers_kept : (old new : List handles.Handle) (items : List kept.Entry) (one : kept.Entry) → ((front : List Entry) → AreKept items front → Gathers old (all_items front))
+    → ((last : Entry) (before : List Item) → IsKept one last → Gathers old before → Gathers new (before ++ items_of last))
+    → (model : List Entry) → AreKept (items ++ one ∷ []) model → Gathers new (all_items model)
+gathers_kept old new items one all step model are =
+    let f = kept_front items one model are in
+    subst (λ (l : List Item). Gathers new l) (sym (ap all_items f.4 ∙ items_behind f.0 f.1)) (step f.1 (all_items f.0) f.3 (all f.0 f.2))
+
+-- ---- of one message
+
+pub still_ok : {T E : Type 0} {P Q : Type 0} (r : Result T E) → (P → Q) → OnOk r P → OnOk r Q
+still_ok (Ok x) f p = f p
+still_ok (Err e) f p = p
+
+-- what was read can be walked
+pub within_limit : (items : List Item) (body : List ℕ) → Spells items body → length body ≤ max_body → AreWithinLimit items
+unfolding AreWithinLimit
+within_limit items body p few = omega (arith, length_of_spelling items body p, few)
+
+read_one : (r : Result (List Item) Stop) (a b : List Item) → r ≡ Ok a → r ≡ Ok b → a ≡ b
+read_one r a b p q = cc
+
+-- a body spells one call
+pub one_call : (body : List ℕ) (a b : List Item) → IsCall body a → IsCall body b → a ≡ b
+one_call body a b p q = read_one (read_whole (call_layout arguments_of) body) a b (whole_read (call_layout arguments_of) body a p.0 p.1) (whole_read (call_layout arguments_of) body b q.0 q.1)
+
+-- and one reply of each procedure
+pub one_reply : (id : ProcId) (body : List ℕ) (a b : List Item) → IsReply body (record { id = id; items = a }) → IsReply body (record { id = id; items = b }) → a ≡ b
+one_reply id body a b p q = read_one (read_whole (reply_layout (results_of id)) body) a b (whole_read (reply_layout (results_of id)) body a p.0 p.1) (whole_read (reply_layout (results_of id)) body b q.0 q.1)

@@ -1,0 +1,15 @@
+-- Which handles a table holds.
+use Rattle.std.specs.Prelude.{◌≡◌, Bool, List, map, bytes_eq}
+use Rattle.xdr3.specs.Item.{Item}
+use Rattle.nfs3_types.specs.declared.handle.Handle.{Handle}
+use Rattle.nfs3_types.specs.Handle.{bytes_of}
+use Rattle.canon3.specs.Rank.{StandsFor}
+use Rattle.canon3.specs.Values.{handles_in}
+
+-- the two have the same bytes (RFC 1813, section 2.5)
+abbrev pub same_handle : Handle → Handle → Bool
+same_handle a b = bytes_eq (bytes_of a) (bytes_of b)
+
+-- the table holds the distinct ones of the handles of the items that are not empty
+abbrev pub Gathers : List Handle → List Item → Type 0
+Gathers table items = (given : List Handle) × StandsFor same_handle table given × (map bytes_of given ≡ handles_in items)

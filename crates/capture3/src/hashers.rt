@@ -1,0 +1,13 @@
+// How the tables of a run hash their keys.
+
+use std::hash::BuildHasher;
+
+/// One hasher for each kind of table: the calls of a connection by their xids, and the numbers of xids,
+/// of file handles and of write verifiers. What is answered does not depend on them.
+#[derive(Drop)]
+pub struct Hashers<S: BuildHasher + Drop> {
+    pub calls: S,
+    pub xids: S,
+    pub handles: S,
+    pub verfs: S,
+}
