@@ -8,11 +8,12 @@ mod printed;
 mod tests;
 
 use canon3::check;
-use capture3::FromRead;
+use capture3::{Error, FromRead, Hashers};
 use command::job;
 use outcome::{Job, LineFault, Outcome, Report};
 use printed::report;
 use std::alloc::AllocError;
+use std::hash::RandomState;
 use std::io::Write;
 use std::process::ExitCode;
 use std::{env, fs, io};
@@ -38,9 +39,22 @@ fn run(rt: &HostRuntime) -> Result<Report, AllocError> {
     }
 }
 
+/// The hashers have keys that nobody who writes a capture can know.
+fn hashers(rt: &HostRuntime) -> io::Result<Hashers<RandomState>> {
+    Ok(Hashers {
+        calls: RandomState::new(rt)?,
+        xids: RandomState::new(rt)?,
+        handles: RandomState::new(rt)?,
+        verfs: RandomState::new(rt)?,
+    })
+}
+
 fn checked<'a>(rt: &HostRuntime, name: &'a str) -> Outcome<'a> {
+    let Ok(hashers) = hashers(rt) else {
+        return Outcome::Counted(Err(Error::Read));
+    };
     match fs::open(rt, name) {
-        Ok(file) => Outcome::Counted(check(rt.alloc(), &mut FromRead::new(file))),
+        Ok(file) => Outcome::Counted(check(rt.alloc(), hashers, &mut FromRead::new(file))),
         Err(_) => Outcome::Unopened(name),
     }
 }

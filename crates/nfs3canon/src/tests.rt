@@ -12,20 +12,30 @@ use crate::outcome::{Job, LineFault, Outcome};
 use crate::printed::report;
 use build::{append_hex, append_word, capture_of, capture_of_hex};
 use canon3::check;
-use capture3::{Error, Fault, MemSource, Place};
+use capture3::{Error, Fault, Hashers, MemSource, Place};
 use mount_rows::MOUNTING;
 use nfs_rows::{ATTRIBUTES, CONTENT, CREATION, DIRECTORIES, FILE_SYSTEM, NAMES, SETTING};
 use rows::{CREDENTIALS, FRAGMENTS, HEADS, LONG, PAIRING};
 use std::alloc::Global;
+use std::hash::{BuildHasherDefault, FoldHasher};
 use std::process::Abort;
 use std::test::Fail;
 use xdr3::Reason;
+
+fn hashers() -> Hashers<BuildHasherDefault<FoldHasher>> {
+    Hashers {
+        calls: BuildHasherDefault::default(),
+        xids: BuildHasherDefault::default(),
+        handles: BuildHasherDefault::default(),
+        verfs: BuildHasherDefault::default(),
+    }
+}
 
 /// What `check` prints of a capture that is read in blocks of so many bytes.
 fn printed(alloc: Global, file: &[u8], block: usize) -> Result<String, Fail>
     requires { 0 < block }
 {
-    let outcome = Outcome::Counted(check(alloc, &mut MemSource::new(file, block, 0)));
+    let outcome = Outcome::Counted(check(alloc, hashers(), &mut MemSource::new(file, block, 0)));
     let report = report(alloc, &outcome)?;
     let mut text = String::from_utf8(report.out)?;
     text.push_str(String::from_utf8(report.err)?.as_str())?;
@@ -247,7 +257,7 @@ fn prefixes_are_cut_short(rt: HostRuntime) -> Result<(), Fail> {
 
 fn each_prefix_is_cut(rt: &impl Abort, alloc: Global, file: &[u8]) {
     for n in 0..file.len() {
-        let answer = check(alloc, &mut MemSource::new(&file[..n], 65_536, 0));
+        let answer = check(alloc, hashers(), &mut MemSource::new(&file[..n], 65_536, 0));
         assert_eq!(rt; answer, Err(cut_at(n as u64)));
     }
 }
@@ -270,7 +280,7 @@ fn a_fault_is_known_at_the_records_end(rt: HostRuntime) -> Result<(), Fail> {
     let fault = "connection 1 client record 1 byte 4: BadEnum\n";
     for n in 0..=file.len() {
         if n < 72 {
-            let answer = check(alloc, &mut MemSource::new(&file[..n], 65_536, 0));
+            let answer = check(alloc, hashers(), &mut MemSource::new(&file[..n], 65_536, 0));
             assert_eq!(rt; answer, Err(cut_at(n as u64)));
         } else {
             assert_eq!(rt; printed(alloc, &file[..n], 65_536)?.as_str(), fault);
@@ -307,10 +317,10 @@ fn reads_that_fail(rt: HostRuntime) -> Result<(), Fail> {
     let alloc = rt.alloc();
     let file = capture_of(alloc, NULL)?;
     for k in 1..=105 {
-        let answer = check(alloc, &mut MemSource::new(&file, 1, k));
+        let answer = check(alloc, hashers(), &mut MemSource::new(&file, 1, k));
         assert_eq!(rt; answer, Err(Error::Read));
     }
-    assert!(rt; check(alloc, &mut MemSource::new(&file, 1, 106)).is_ok());
+    assert!(rt; check(alloc, hashers(), &mut MemSource::new(&file, 1, 106)).is_ok());
     Ok(())
 }
 

@@ -1,5 +1,5 @@
 use Rattle.std.proofs.Common.{rules}
-use Rattle.nfs3canon.proofs.Words.{three_words}
+use Rattle.nfs3canon.proofs.FileWords.{three_words}
 use Rattle.nfs3canon.proofs.command.job.Goals as goal
 
 -- src/command.rt:12:1
