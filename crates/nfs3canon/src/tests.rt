@@ -15,7 +15,7 @@ use canon3::check;
 use capture3::{Error, Fault, Hashers, MemSource, Place};
 use mount_rows::MOUNTING;
 use nfs_rows::{ATTRIBUTES, CONTENT, CREATION, DIRECTORIES, FILE_SYSTEM, NAMES, SETTING};
-use rows::{CREDENTIALS, HEADS, LONG, PAIRING};
+use rows::{CREDENTIALS, FRAGMENTS, HEADS, LONG, PAIRING};
 use std::alloc::Global;
 use std::hash::{BuildHasherDefault, FoldHasher};
 use std::process::Abort;
@@ -190,9 +190,22 @@ static FILES: [(&str, &str); 22] = [
 
 #[test]
 fn files_byte_for_byte(rt: HostRuntime) -> Result<(), Fail> {
-    for (file, line) in &FILES {
-        let bytes = capture_of_hex(rt.alloc(), file)?;
-        let text = printed(rt.alloc(), &bytes, 65_536)?;
+    each_file_has_its_line(&rt, rt.alloc(), &FILES)
+}
+
+#[test]
+fn fragments_of_long_records(rt: HostRuntime) -> Result<(), Fail> {
+    each_file_has_its_line(&rt, rt.alloc(), &FRAGMENTS)
+}
+
+fn each_file_has_its_line(
+    rt: &impl Abort,
+    alloc: Global,
+    rows: &[(&str, &str)],
+) -> Result<(), Fail> {
+    for (file, line) in rows {
+        let bytes = capture_of_hex(alloc, file)?;
+        let text = printed(alloc, &bytes, 65_536)?;
         assert_eq!(rt; text.as_str(), *line, "{file}");
     }
     Ok(())

@@ -3,7 +3,8 @@
 // A text has the bodies of its records in hexadecimal, behind `>` from the client and behind `<` from the
 // server; `|` begins a further connection. Of its words `CALL` stands for mtype 0 and rpcvers 2, `NFS` and
 // `MOUNT` for the program and its version 3, `NONE` for AUTH_NONE without a body, `SUCCESS` for an accepted
-// success, and `ATTRIBUTES` for a folder's attributes. `61*1024` stands for 1,024 times its bytes.
+// success, and `ATTRIBUTES` for a folder's attributes. `61*1024` stands for 1,024 times its bytes, as does
+// `61*32*32`.
 
 use std::alloc::Global;
 use std::str::Split;
@@ -13,19 +14,29 @@ use std::test::Fail;
 pub(crate) fn append_hex(alloc: Global, out: &mut Vec<u8>, text: &str) -> Result<(), Fail> {
     for word in text.split_whitespace() {
         match word.split_once('*') {
-            Some((digits, times)) => append_times(alloc, out, digits, times.parse()?)?,
-            None => append_times(alloc, out, word, 1)?,
+            Some((digits, counts)) => append_times(alloc, out, digits, counts)?,
+            None => out.extend_from_slice(&hex::decode(alloc, digits_of(word))?)?,
         }
     }
     Ok(())
 }
 
-fn append_times(alloc: Global, out: &mut Vec<u8>, word: &str, times: u32) -> Result<(), Fail> {
-    let bytes = hex::decode(alloc, digits_of(word))?;
-    for _ in 0..times {
-        out.extend_from_slice(&bytes)?;
+/// Appends the bytes of a word so many times as the product of the counts.
+fn append_times(alloc: Global, out: &mut Vec<u8>, word: &str, counts: &str) -> Result<(), Fail> {
+    let mut bytes = hex::decode(alloc, digits_of(word))?;
+    for count in counts.split('*') {
+        bytes = repeated(alloc, &bytes, count.parse()?)?;
     }
+    out.extend_from_slice(&bytes)?;
     Ok(())
+}
+
+fn repeated(alloc: Global, bytes: &[u8], times: u32) -> Result<Vec<u8>, Fail> {
+    let mut all = Vec::new(alloc);
+    for _ in 0..times {
+        all.extend_from_slice(bytes)?;
+    }
+    Ok(all)
 }
 
 /// The digits that a word stands for.
