@@ -10,7 +10,7 @@ ghost use Rattle.capture3.specs.Position.{most_entries};
 ghost use Rattle.canon3.specs.Summing.{Concludes, GoesOn, IsOver, IsSummary, IsUnderWay, keeps_begin, keeps_call, keeps_reply, Sums, Tallies};
 
 use crate::handles::HandleTable;
-use capture3::{Entries, Entry, Error, Hashers, Source};
+use capture3::{Entries, Entry, Error, Hashers, Source, new_block};
 use std::alloc::{AllocError, Global};
 use std::hash::BuildHasher;
 
@@ -40,7 +40,8 @@ pub fn check<R: Source, S: BuildHasher + Drop>(
     ensures read { CountsReading (R.failures source.old) (R.failures source.new) result }
     ensures write { IfErr result (λ error. error ≢ Error.Write) }
 {
-    let mut entries = Entries::new(alloc, source)?;
+    let block = new_block(alloc)?;
+    let mut entries = Entries::through(alloc, source, block);
     let result = summed(alloc, hashers.handles, &mut entries);
     entries.into_source();
     result

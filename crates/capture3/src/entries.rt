@@ -71,7 +71,19 @@ impl<'r, R: Source> Entries<'r, R> {
         ensures same_reference { IfOk result (λ entries. entries.source.ghost_name ≡ source.entry.ghost_name) }
     {
         let block = new_block(alloc)?;
-        Ok(Entries {
+        Ok(Entries::through(alloc, source, block))
+    }
+
+    /// The same through a block that is there already, and has room: where memory is wanting, the
+    /// source was not lent.
+    pub fn through(alloc: Global, source: &'r mut R, block: Vec<u8>) -> Entries<'r, R>
+        requires { 0 < vec_len block }
+        ensures stands { StandsFor R.left result [] [] }
+        ensures unread { result.source.now ≡ source.old }
+        ensures going { failure_of result ≡ None }
+        ensures same_reference { result.source.ghost_name ≡ source.entry.ghost_name }
+    {
+        Entries {
             source,
             alloc,
             block,
@@ -80,7 +92,7 @@ impl<'r, R: Source> Entries<'r, R> {
             judged: 0,
             capture: Capture::new(alloc),
             stage: Stage::Reading,
-        })
+        }
     }
 
     /// The source, as the reads left it.
@@ -248,8 +260,9 @@ impl<'r, R: Source> Entries<'r, R> {
     }
 }
 
-// The clause gives no more than that the block has room, since a goal with so many zeros is slow.
-fn new_block(alloc: Global) -> Result<Vec<u8>, AllocError>
+/// A block of 65,536 bytes to read through.
+// The clause gives no more than that it has room, since a goal with so many zeros is slow.
+pub fn new_block(alloc: Global) -> Result<Vec<u8>, AllocError>
     ensures { IfOk result (λ block. 0 < vec_len block) }
 {
     vec![in alloc; 0; BLOCK]

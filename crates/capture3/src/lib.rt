@@ -21,7 +21,7 @@ mod whole;
 mod word_part;
 
 pub use device::DeviceFailed;
-pub use entries::Entries;
+pub use entries::{Entries, new_block};
 pub use entry::{Entry, KeptCall, KeptReply};
 pub use fault::{Error, Fault, Place, Side};
 pub use hashers::Hashers;

@@ -1,20 +1,19 @@
-use Rattle.std.proofs.Common.{rules, arith, subst, ap, ◌∙◌, sym}
+use Rattle.std.proofs.Common.{ap, sym, subst, ◌≡◌, ◌∙◌}
+use Rattle.capture3.specs.Entries.{CountsReading}
 use Rattle.canon3.proofs.Summing.{faults_of, summary_of}
 use Rattle.canon3.proofs.summary.check.Goals as goal
 
-pub returns-in_err-entries-clause-read : goal.returns-in_err-entries-clause-read
-returns-in_err-entries-clause-read g c = ?
-
 pub returns-clause-ok : goal.returns-clause-ok
-returns-clause-ok g c bytes left = summary_of bytes _ _ c.summed-result.result (ap g.R.Source.left c.in_ok-entries.ensures.unread ∙ left) c.summed-result.ensures.concludes
+returns-clause-ok g c bytes left = summary_of bytes _ _ c.summed-result.result (ap g.R.Source.left c.through-entries.ensures.unread ∙ left) c.summed-result.ensures.concludes
 
 pub returns-clause-refused : goal.returns-clause-refused
-returns-clause-refused g c bytes left = faults_of bytes _ _ c.summed-result.result (ap g.R.Source.left c.in_ok-entries.ensures.unread ∙ left) c.summed-result.ensures.concludes
+returns-clause-refused g c bytes left = faults_of bytes _ _ c.summed-result.result (ap g.R.Source.left c.through-entries.ensures.unread ∙ left) c.summed-result.ensures.concludes
 
+-- the reader gave back the source that it was lent
 pub returns-clause-read : goal.returns-clause-read
 returns-clause-read g c =
-    let x = c.source-2-1.given.1 in
-    let y = c.into_source.ensures.same_reference in
-    let z = c.in_ok-entries.ensures.same_reference in
-    let w = c.summed-result.ensures.same_reference in
-    ?
+    let failures = g.R.Source.failures in
+    let reader = c.summed-result.new.entries in
+    let back : _ ≡ reader.source.now = c.source-1.given.1 (sym (c.into_source.ensures.same_reference ∙ c.summed-result.ensures.same_reference ∙ c.through-entries.ensures.same_reference)) ∙ c.into_source.ensures.value in
+    subst (λ n. CountsReading (failures c.args.source.now) n c.summed-result.result) (sym (ap failures back))
+    (subst (λ m. CountsReading m (failures reader.source.now) c.summed-result.result) (ap failures c.through-entries.ensures.unread) c.summed-result.ensures.read)
