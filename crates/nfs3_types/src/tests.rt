@@ -8,6 +8,7 @@ use crate::{
     TimeHow, Void, Wcc, WccAttr,
 };
 use std::alloc::{AllocError, Global};
+use std::process::Abort;
 use std::test::Fail;
 use xdr3::{GetError, Input, Reason, Stop, Walk, Writer, Xdr, read};
 
@@ -95,7 +96,7 @@ fn attributes_are_read(rt: HostRuntime) -> Result<(), Fail> {
 }
 
 #[test]
-fn listed_numbers_alone_are_read(rt: HostRuntime) -> Result<(), Fail> {
+fn listed_statuses_alone_are_read(rt: HostRuntime) {
     let alloc = rt.alloc();
     let statuses = [
         0, 1, 2, 5, 6, 13, 17, 18, 19, 20, 21, 22, 27, 28, 30, 31, 63, 66, 69, 70, 71, 10001,
@@ -111,6 +112,11 @@ fn listed_numbers_alone_are_read(rt: HostRuntime) -> Result<(), Fail> {
             .map(|s| s.number());
         assert_eq!(rt; mount, mounts.contains(&n).then_some(n), "mount status {n}");
     }
+}
+
+#[test]
+fn listed_kinds_alone_are_read(rt: HostRuntime) {
+    let alloc = rt.alloc();
     for n in 0..9 {
         let body: [u8; 4] = u32::to_be_bytes(n);
         let kind = value_in::<FileKind>(alloc, &body).ok().map(|k| k.number());
@@ -119,82 +125,80 @@ fn listed_numbers_alone_are_read(rt: HostRuntime) -> Result<(), Fail> {
         let stable = Stable::take(&mut input).ok().map(|s| s.number());
         assert_eq!(rt; stable, (n < 3).then_some(n), "stable {n}");
     }
-    Ok(())
 }
 
-#[test]
-fn settable_attributes_are_read(rt: HostRuntime) -> Result<(), Fail> {
-    let alloc = rt.alloc();
-    let none = Sattr {
-        mode: None,
-        uid: None,
-        gid: None,
-        size: None,
-        atime: TimeHow::Keep,
-        mtime: TimeHow::Keep,
-    };
-    let time = TimeHow::Client(Time { sec: 8, nsec: 9 });
-    let rows: [(&[u32], Sattr); 8] = [
-        (&[0, 0, 0, 0, 0, 0], none),
-        (
-            &[1, 0x1ff, 0, 0, 0, 0, 0],
-            Sattr {
-                mode: Some(0o777),
-                ..none
-            },
-        ),
-        (
-            &[0, 1, 5, 0, 0, 0, 0],
-            Sattr {
-                uid: Some(5),
-                ..none
-            },
-        ),
-        (
-            &[0, 0, 1, 6, 0, 0, 0],
-            Sattr {
-                gid: Some(6),
-                ..none
-            },
-        ),
-        (
-            &[0, 0, 0, 1, 1, 0, 0, 0],
-            Sattr {
-                size: Some(1 << 32),
-                ..none
-            },
-        ),
-        (
-            &[0, 0, 0, 0, 1, 0],
-            Sattr {
-                atime: TimeHow::Server,
-                ..none
-            },
-        ),
-        (
-            &[0, 0, 0, 0, 2, 8, 9, 0],
-            Sattr {
-                atime: time,
-                ..none
-            },
-        ),
-        (
-            &[0, 0, 0, 0, 0, 2, 8, 9],
-            Sattr {
-                mtime: time,
-                ..none
-            },
-        ),
-    ];
+/// Nothing is set.
+const NOTHING_SET: Sattr = Sattr {
+    mode: None,
+    uid: None,
+    gid: None,
+    size: None,
+    atime: TimeHow::Keep,
+    mtime: TimeHow::Keep,
+};
+
+/// Each row's words are these attributes, and are written again as they were.
+fn settable_are_read(rt: &impl Abort, alloc: Global, rows: &[(&[u32], Sattr)]) -> Result<(), Fail> {
     for (words, expected) in rows {
         let body = spelled(alloc, words)?;
         assert!(rt; body.len() <= 32);
         let read: Sattr = value_in(alloc, &body).map_err(|_| "refused")?;
-        assert_eq!(rt; read, expected);
+        assert_eq!(rt; read, *expected);
         let writer = rewritten::<Sattr>(alloc, &body).map_err(|_| "refused")?;
         assert_eq!(rt; writer.bytes(), body.as_slice());
     }
     Ok(())
+}
+
+#[test]
+fn settable_numbers_are_read(rt: HostRuntime) -> Result<(), Fail> {
+    let mode = Sattr {
+        mode: Some(0o777),
+        ..NOTHING_SET
+    };
+    let uid = Sattr {
+        uid: Some(5),
+        ..NOTHING_SET
+    };
+    let gid = Sattr {
+        gid: Some(6),
+        ..NOTHING_SET
+    };
+    let size = Sattr {
+        size: Some(1 << 32),
+        ..NOTHING_SET
+    };
+    let rows: [(&[u32], Sattr); 5] = [
+        (&[0, 0, 0, 0, 0, 0], NOTHING_SET),
+        (&[1, 0x1ff, 0, 0, 0, 0, 0], mode),
+        (&[0, 1, 5, 0, 0, 0, 0], uid),
+        (&[0, 0, 1, 6, 0, 0, 0], gid),
+        (&[0, 0, 0, 1, 1, 0, 0, 0], size),
+    ];
+    settable_are_read(&rt, rt.alloc(), &rows)
+}
+
+#[test]
+fn settable_times_are_read(rt: HostRuntime) -> Result<(), Fail> {
+    let by_server = Sattr {
+        atime: TimeHow::Server,
+        ..NOTHING_SET
+    };
+    let time = TimeHow::Client(Time { sec: 8, nsec: 9 });
+    let atime = Sattr {
+        atime: time,
+        ..NOTHING_SET
+    };
+    let mtime = Sattr {
+        mtime: time,
+        ..NOTHING_SET
+    };
+    let rows: [(&[u32], Sattr); 3] = [
+        (&[0, 0, 0, 0, 1, 0], by_server),
+        (&[0, 0, 0, 0, 2, 8, 9, 0], atime),
+        (&[0, 0, 0, 0, 0, 2, 8, 9], mtime),
+    ];
+    settable_are_read(&rt, rt.alloc(), &rows)
 }
 
 #[test]
@@ -321,7 +325,7 @@ fn handles_are_read(rt: HostRuntime) -> Result<(), Fail> {
 }
 
 #[test]
-fn mounts_are_read(rt: HostRuntime) -> Result<(), Fail> {
+fn a_mount_is_read(rt: HostRuntime) -> Result<(), Fail> {
     let alloc = rt.alloc();
     let body = spelled(alloc, &[8, 0x0102_0304, 0x0506_0708, 2, 1, 0])?;
     assert!(rt; body.len() == 24);
@@ -333,7 +337,12 @@ fn mounts_are_read(rt: HostRuntime) -> Result<(), Fail> {
     assert_eq!(rt; mount.flavors.iter().map(|f| f.number).eq([1, 0]), true);
     let writer = rewritten::<MountOk>(alloc, &body).map_err(|_| "refused")?;
     assert_eq!(rt; writer.bytes(), body.as_slice());
+    Ok(())
+}
 
+#[test]
+fn mounts_are_read(rt: HostRuntime) -> Result<(), Fail> {
+    let alloc = rt.alloc();
     // the hosts h and ij with the directories /x and /
     let words = [
         1,
@@ -362,7 +371,12 @@ fn mounts_are_read(rt: HostRuntime) -> Result<(), Fail> {
     let zero = spelled(alloc, &zero)?;
     let writer = rewritten::<MountList>(alloc, &body).map_err(|_| "refused")?;
     assert_eq!(rt; writer.bytes(), zero.as_slice());
+    Ok(())
+}
 
+#[test]
+fn exports_are_read(rt: HostRuntime) -> Result<(), Fail> {
+    let alloc = rt.alloc();
     // /x for the groups a and bc, / for everyone
     let words = [
         1,

@@ -9,3 +9,4 @@ pub mod Mounts
 pub mod Table
 pub mod Items
 pub mod Names
+pub mod Variants

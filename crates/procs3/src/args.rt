@@ -1,8 +1,10 @@
 // The arguments of calls.
 
-ghost use Rattle.std.specs.Prelude.{IfOk};
+ghost use Rattle.std.specs.Prelude.{◌≡◌, IfOk};
 ghost use Rattle.procs3.specs.Items.{args_items};
+ghost use Rattle.procs3.specs.Names.{mount_name, name_of, nfs_name};
 ghost use Rattle.procs3.specs.Table.{arguments_of, mount_arguments, nfs_arguments};
+ghost use Rattle.procs3.specs.Variants.{args_name};
 ghost use Rattle.xdr3.specs.Gives.{Gives, IsRead};
 ghost use Rattle.xdr3.specs.Layout.{ReadsLayout, RefusesLayout, reading_layout};
 ghost use Rattle.xdr3.specs.View.{MovesOn};
@@ -83,9 +85,10 @@ pub enum Args<'a> {
 impl<'a> Args<'a> {
     /// Reads the arguments of a call of this procedure, as its layout says: their items stand between
     /// the old place and the new one, or the error says where and why the bytes are refused.
-    /// What was read can be walked.
+    /// What was read is of this procedure's variant, and can be walked.
     pub fn get(alloc: Global, id: ProcId, input: &mut Input<'a>) -> Result<Args<'a>, GetError>
         ensures read { Gives args_items result input.new.at (reading_layout (arguments_of id) input.old.body input.old.at) }
+        ensures variant { IfOk result (λ args. args_name args ≡ name_of id) }
         ensures relations { IsRead (ReadsLayout (arguments_of id)) (RefusesLayout (arguments_of id)) args_items input.old result input.new }
         ensures limit { IfOk result (λ args. AreWithinLimit (args_items args)) }
         ensures moves { MovesOn input.old input.new }
@@ -97,6 +100,7 @@ impl<'a> Args<'a> {
     #[tactic(auto, unfolding(xdr3::specs::Layout::reading_layout, crate::specs::Table::arguments_of))]
     fn of_procedure(alloc: Global, id: ProcId, input: &mut Input<'a>) -> Result<Args<'a>, GetError>
         ensures read { Gives args_items result input.new.at (reading_layout (arguments_of id) input.old.body input.old.at) }
+        ensures variant { IfOk result (λ args. args_name args ≡ name_of id) }
         ensures moves { MovesOn input.old input.new }
     {
         input.at();
@@ -111,6 +115,7 @@ impl<'a> Args<'a> {
     #[tactic(auto, unfolding(xdr3::specs::Reading::reading, xdr3::specs::Layout::reading_layout))]
     fn get_nfs(alloc: Global, proc_no: u32, input: &mut Input<'a>) -> Result<Args<'a>, GetError>
         ensures read { Gives args_items result input.new.at (reading_layout (nfs_arguments proc_no) input.old.body input.old.at) }
+        ensures variant { IfOk result (λ args. args_name args ≡ nfs_name proc_no) }
         ensures moves { MovesOn input.old input.new }
     {
         input.at();
@@ -145,6 +150,7 @@ impl<'a> Args<'a> {
     #[tactic(auto, unfolding(xdr3::specs::Reading::reading, xdr3::specs::Layout::reading_layout))]
     fn get_mount(alloc: Global, proc_no: u32, input: &mut Input<'a>) -> Result<Args<'a>, GetError>
         ensures read { Gives args_items result input.new.at (reading_layout (mount_arguments proc_no) input.old.body input.old.at) }
+        ensures variant { IfOk result (λ args. args_name args ≡ mount_name proc_no) }
         ensures moves { MovesOn input.old input.new }
     {
         input.at();

@@ -1,8 +1,10 @@
 // The results of accepted calls.
 
-ghost use Rattle.std.specs.Prelude.{IfOk};
+ghost use Rattle.std.specs.Prelude.{◌≡◌, IfOk};
 ghost use Rattle.procs3.specs.Items.{results_items};
+ghost use Rattle.procs3.specs.Names.{mount_name, name_of, nfs_name};
 ghost use Rattle.procs3.specs.Table.{results_of, mount_results_of, nfs_results};
+ghost use Rattle.procs3.specs.Variants.{results_name};
 ghost use Rattle.xdr3.specs.Gives.{Gives, IsRead};
 ghost use Rattle.xdr3.specs.Layout.{ReadsLayout, RefusesLayout, reading_layout};
 ghost use Rattle.xdr3.specs.View.{MovesOn};
@@ -85,9 +87,10 @@ pub enum Results<'a> {
 impl<'a> Results<'a> {
     /// Reads the results of a successful call of this procedure, as its layout says: their items stand
     /// between the old place and the new one, or the error says where and why the bytes are refused.
-    /// What was read can be walked.
+    /// What was read is of this procedure's variant, and can be walked.
     pub fn get(alloc: Global, id: ProcId, input: &mut Input<'a>) -> Result<Results<'a>, GetError>
         ensures read { Gives results_items result input.new.at (reading_layout (results_of id) input.old.body input.old.at) }
+        ensures variant { IfOk result (λ results. results_name results ≡ name_of id) }
         ensures relations { IsRead (ReadsLayout (results_of id)) (RefusesLayout (results_of id)) results_items input.old result input.new }
         ensures limit { IfOk result (λ results. AreWithinLimit (results_items results)) }
         ensures moves { MovesOn input.old input.new }
@@ -103,6 +106,7 @@ impl<'a> Results<'a> {
         input: &mut Input<'a>,
     ) -> Result<Results<'a>, GetError>
         ensures read { Gives results_items result input.new.at (reading_layout (results_of id) input.old.body input.old.at) }
+        ensures variant { IfOk result (λ results. results_name results ≡ name_of id) }
         ensures moves { MovesOn input.old input.new }
     {
         input.at();
@@ -117,6 +121,7 @@ impl<'a> Results<'a> {
     #[tactic(auto, unfolding(xdr3::specs::Reading::reading, xdr3::specs::Layout::reading_layout))]
     fn get_nfs(alloc: Global, proc_no: u32, input: &mut Input<'a>) -> Result<Results<'a>, GetError>
         ensures read { Gives results_items result input.new.at (reading_layout (nfs_results proc_no) input.old.body input.old.at) }
+        ensures variant { IfOk result (λ results. results_name results ≡ nfs_name proc_no) }
         ensures moves { MovesOn input.old input.new }
     {
         input.at();
@@ -155,6 +160,7 @@ impl<'a> Results<'a> {
         input: &mut Input<'a>,
     ) -> Result<Results<'a>, GetError>
         ensures read { Gives results_items result input.new.at (reading_layout (mount_results_of proc_no) input.old.body input.old.at) }
+        ensures variant { IfOk result (λ results. results_name results ≡ mount_name proc_no) }
         ensures moves { MovesOn input.old input.new }
     {
         input.at();

@@ -7,11 +7,27 @@ use crate::{Args, CreateHow, MkNodWhat, Results, proc_name};
 use nfs3_types::{Res, Status};
 use rpc_head::ProcId;
 use std::alloc::{AllocError, Global};
+use std::process::Abort;
 use std::test::Fail;
 use xdr3::{GetError, Input, Reason, Stop, Walk, Writer};
 
+// Bytes that fill a word with their residual bytes.
+
+/// The handle aa.
+const HANDLE_AA: u32 = 0xaa00_0000;
+/// The handle bb.
+const HANDLE_BB: u32 = 0xbb00_0000;
+/// The name a.
+const NAME_A: u32 = 0x6100_0000;
+/// The name bc.
+const NAME_BC: u32 = 0x6263_0000;
+/// The path /x.
+const PATH_X: u32 = 0x2f78_0000;
+/// The data hi.
+const DATA_HI: u32 = 0x6869_0000;
+
 /// A handle of the one byte aa, and the name a.
-const PLACE: [u32; 4] = [1, 0xaa00_0000, 1, 0x6100_0000];
+const PLACE: [u32; 4] = [1, HANDLE_AA, 1, NAME_A];
 
 /// The words' bytes.
 fn spelled(alloc: Global, words: &[u32]) -> Result<Vec<u8>, AllocError> {
@@ -70,111 +86,12 @@ fn fault(answer: &Result<Writer, GetError>) -> Option<Stop> {
     }
 }
 
-#[test]
-fn arguments_of_each_procedure(rt: HostRuntime) -> Result<(), Fail> {
-    let alloc = rt.alloc();
-    let rows: [(ProcId, &[u32]); 39] = [
-        (nfs(0), &[]),
-        (nfs(1), &[1, 0xaa00_0000]),
-        (nfs(2), &[1, 0xaa00_0000, 0, 0, 0, 0, 0, 0, 0]),
-        (
-            nfs(2),
-            &[1, 0xaa00_0000, 1, 7, 0, 0, 0, 0, 2, 8, 9, 1, 5, 6],
-        ),
-        (nfs(3), &PLACE),
-        (nfs(4), &[1, 0xaa00_0000, 0x3f]),
-        (nfs(5), &[1, 0xaa00_0000]),
-        (nfs(6), &[1, 0xaa00_0000, 0, 9, 512]),
-        (nfs(7), &[1, 0xaa00_0000, 0, 9, 2, 0, 2, 0x6869_0000]),
-        (nfs(7), &[1, 0xaa00_0000, 0, 9, 2, 2, 2, 0x6869_0000]),
-        (
-            nfs(8),
-            &[1, 0xaa00_0000, 1, 0x6100_0000, 0, 0, 0, 0, 0, 0, 0],
-        ),
-        (
-            nfs(8),
-            &[1, 0xaa00_0000, 1, 0x6100_0000, 1, 1, 7, 0, 0, 0, 0, 0],
-        ),
-        (nfs(8), &[1, 0xaa00_0000, 1, 0x6100_0000, 2, 8, 9]),
-        (nfs(9), &[1, 0xaa00_0000, 1, 0x6100_0000, 0, 0, 0, 0, 0, 0]),
-        (
-            nfs(10),
-            &[
-                1,
-                0xaa00_0000,
-                1,
-                0x6100_0000,
-                0,
-                0,
-                0,
-                0,
-                0,
-                0,
-                2,
-                0x2f78_0000,
-            ],
-        ),
-        (nfs(11), &[1, 0xaa00_0000, 1, 0x6100_0000, 1]),
-        (nfs(11), &[1, 0xaa00_0000, 1, 0x6100_0000, 2]),
-        (
-            nfs(11),
-            &[1, 0xaa00_0000, 1, 0x6100_0000, 3, 0, 0, 0, 0, 0, 0, 8, 9],
-        ),
-        (
-            nfs(11),
-            &[1, 0xaa00_0000, 1, 0x6100_0000, 4, 0, 0, 0, 0, 0, 0, 8, 9],
-        ),
-        (nfs(11), &[1, 0xaa00_0000, 1, 0x6100_0000, 5]),
-        (
-            nfs(11),
-            &[1, 0xaa00_0000, 1, 0x6100_0000, 6, 0, 0, 0, 0, 0, 0],
-        ),
-        (
-            nfs(11),
-            &[1, 0xaa00_0000, 1, 0x6100_0000, 7, 0, 0, 0, 0, 0, 0],
-        ),
-        (nfs(12), &PLACE),
-        (nfs(13), &PLACE),
-        (
-            nfs(14),
-            &[
-                1,
-                0xaa00_0000,
-                1,
-                0x6100_0000,
-                1,
-                0xbb00_0000,
-                2,
-                0x6263_0000,
-            ],
-        ),
-        (nfs(15), &[1, 0xbb00_0000, 1, 0xaa00_0000, 1, 0x6100_0000]),
-        (nfs(16), &[1, 0xaa00_0000, 0, 7, 8, 9, 4096]),
-        (nfs(17), &[1, 0xaa00_0000, 0, 7, 8, 9, 512, 4096]),
-        (nfs(18), &[1, 0xaa00_0000]),
-        (nfs(19), &[1, 0xaa00_0000]),
-        (nfs(20), &[1, 0xaa00_0000]),
-        (nfs(21), &[1, 0xaa00_0000, 0, 9, 512]),
-        (mount(0), &[]),
-        (mount(1), &[2, 0x2f78_0000]),
-        (mount(2), &[]),
-        (mount(3), &[2, 0x2f78_0000]),
-        (mount(4), &[]),
-        (mount(5), &[]),
-        // another program: its arguments are all that is left
-        (
-            ProcId {
-                prog: 100_227,
-                vers: 3,
-                proc_no: 1,
-            },
-            &[4, 0x0a0b_0c0d, 1],
-        ),
-    ];
+/// Each row's words are the arguments of its procedure, and are written again as they were.
+fn arguments_stay(rt: &impl Abort, alloc: Global, rows: &[(ProcId, &[u32])]) -> Result<(), Fail> {
     for (id, words) in rows {
         let body = spelled(alloc, words)?;
         assert!(rt; body.len() <= 56);
-        let writer = arguments(alloc, id, &body).map_err(|_| "refused")?;
+        let writer = arguments(alloc, *id, &body).map_err(|_| "refused")?;
         assert_eq!(rt;
             writer.bytes(),
             body.as_slice(),
@@ -187,163 +104,260 @@ fn arguments_of_each_procedure(rt: HostRuntime) -> Result<(), Fail> {
 }
 
 #[test]
-fn results_of_each_procedure(rt: HostRuntime) -> Result<(), Fail> {
-    let alloc = rt.alloc();
+fn arguments_on_files(rt: HostRuntime) -> Result<(), Fail> {
+    let rows: [(ProcId, &[u32]); 9] = [
+        (nfs(1), &[1, HANDLE_AA]),
+        (nfs(2), &[1, HANDLE_AA, 0, 0, 0, 0, 0, 0, 0]),
+        (nfs(2), &[1, HANDLE_AA, 1, 7, 0, 0, 0, 0, 2, 8, 9, 1, 5, 6]),
+        (nfs(4), &[1, HANDLE_AA, 0x3f]),
+        (nfs(5), &[1, HANDLE_AA]),
+        (nfs(6), &[1, HANDLE_AA, 0, 9, 512]),
+        (nfs(7), &[1, HANDLE_AA, 0, 9, 2, 0, 2, DATA_HI]),
+        (nfs(7), &[1, HANDLE_AA, 0, 9, 2, 2, 2, DATA_HI]),
+        (nfs(21), &[1, HANDLE_AA, 0, 9, 512]),
+    ];
+    arguments_stay(&rt, rt.alloc(), &rows)
+}
+
+#[test]
+fn arguments_that_make_files(rt: HostRuntime) -> Result<(), Fail> {
+    let rows: [(ProcId, &[u32]); 12] = [
+        (nfs(8), &[1, HANDLE_AA, 1, NAME_A, 0, 0, 0, 0, 0, 0, 0]),
+        (nfs(8), &[1, HANDLE_AA, 1, NAME_A, 1, 1, 7, 0, 0, 0, 0, 0]),
+        (nfs(8), &[1, HANDLE_AA, 1, NAME_A, 2, 8, 9]),
+        (nfs(9), &[1, HANDLE_AA, 1, NAME_A, 0, 0, 0, 0, 0, 0]),
+        (
+            nfs(10),
+            &[1, HANDLE_AA, 1, NAME_A, 0, 0, 0, 0, 0, 0, 2, PATH_X],
+        ),
+        (nfs(11), &[1, HANDLE_AA, 1, NAME_A, 1]),
+        (nfs(11), &[1, HANDLE_AA, 1, NAME_A, 2]),
+        (
+            nfs(11),
+            &[1, HANDLE_AA, 1, NAME_A, 3, 0, 0, 0, 0, 0, 0, 8, 9],
+        ),
+        (
+            nfs(11),
+            &[1, HANDLE_AA, 1, NAME_A, 4, 0, 0, 0, 0, 0, 0, 8, 9],
+        ),
+        (nfs(11), &[1, HANDLE_AA, 1, NAME_A, 5]),
+        (nfs(11), &[1, HANDLE_AA, 1, NAME_A, 6, 0, 0, 0, 0, 0, 0]),
+        (nfs(11), &[1, HANDLE_AA, 1, NAME_A, 7, 0, 0, 0, 0, 0, 0]),
+    ];
+    arguments_stay(&rt, rt.alloc(), &rows)
+}
+
+#[test]
+fn arguments_on_names(rt: HostRuntime) -> Result<(), Fail> {
+    let rows: [(ProcId, &[u32]); 7] = [
+        (nfs(3), &PLACE),
+        (nfs(12), &PLACE),
+        (nfs(13), &PLACE),
+        (
+            nfs(14),
+            &[1, HANDLE_AA, 1, NAME_A, 1, HANDLE_BB, 2, NAME_BC],
+        ),
+        (nfs(15), &[1, HANDLE_BB, 1, HANDLE_AA, 1, NAME_A]),
+        (nfs(16), &[1, HANDLE_AA, 0, 7, 8, 9, 4096]),
+        (nfs(17), &[1, HANDLE_AA, 0, 7, 8, 9, 512, 4096]),
+    ];
+    arguments_stay(&rt, rt.alloc(), &rows)
+}
+
+#[test]
+fn arguments_on_file_systems(rt: HostRuntime) -> Result<(), Fail> {
+    let rows: [(ProcId, &[u32]); 3] = [
+        (nfs(18), &[1, HANDLE_AA]),
+        (nfs(19), &[1, HANDLE_AA]),
+        (nfs(20), &[1, HANDLE_AA]),
+    ];
+    arguments_stay(&rt, rt.alloc(), &rows)
+}
+
+#[test]
+fn arguments_of_mount(rt: HostRuntime) -> Result<(), Fail> {
+    let rows: [(ProcId, &[u32]); 5] = [
+        (mount(1), &[2, PATH_X]),
+        (mount(2), &[]),
+        (mount(3), &[2, PATH_X]),
+        (mount(4), &[]),
+        (mount(5), &[]),
+    ];
+    arguments_stay(&rt, rt.alloc(), &rows)
+}
+
+/// Each row's words are the results of its procedure, and are written again as they were.
+fn results_stay(rt: &impl Abort, alloc: Global, rows: &[(ProcId, &[u32])]) -> Result<(), Fail> {
+    for (id, words) in rows {
+        let body = spelled(alloc, words)?;
+        assert!(rt; body.len() <= 88);
+        let writer = results(alloc, *id, &body).map_err(|_| "refused")?;
+        assert_eq!(rt;
+            writer.bytes(),
+            body.as_slice(),
+            "{} {}",
+            id.prog,
+            id.proc_no
+        );
+    }
+    Ok(())
+}
+
+#[test]
+fn results_on_files(rt: HostRuntime) -> Result<(), Fail> {
     // status 0, and the attributes of a directory of 4,096 bytes
     let attributes = [
         0, 2, 0x1ed, 2, 0, 0, 0, 4096, 0, 4096, 0, 0, 0, 1, 0, 2, 1, 0, 1, 0, 1, 0,
     ];
-    let rows: [(ProcId, &[u32]); 46] = [
-        (nfs(0), &[]),
+    let rows: [(ProcId, &[u32]); 14] = [
         (nfs(1), &attributes),
         (nfs(1), &[70]),
         (nfs(2), &[0, 0, 0]),
         (nfs(2), &[10002, 1, 0, 5, 6, 7, 8, 9, 0]),
-        (nfs(3), &[0, 1, 0xaa00_0000, 0, 0]),
-        (nfs(3), &[2, 0]),
         (nfs(4), &[0, 0, 0x1f]),
         (nfs(4), &[13, 0]),
-        (nfs(5), &[0, 0, 2, 0x2f78_0000]),
+        (nfs(5), &[0, 0, 2, PATH_X]),
         (nfs(5), &[22, 0]),
-        (nfs(6), &[0, 0, 2, 1, 2, 0x6869_0000]),
+        (nfs(6), &[0, 0, 2, 1, 2, DATA_HI]),
         (nfs(6), &[5, 0]),
         (nfs(7), &[0, 0, 0, 16, 2, 0x0102_0304, 0x0506_0708]),
         (nfs(7), &[28, 0, 0]),
-        (nfs(8), &[0, 1, 1, 0xaa00_0000, 0, 0, 0]),
+        (nfs(21), &[0, 0, 0, 0x0102_0304, 0x0506_0708]),
+        (nfs(21), &[10008, 0, 0]),
+    ];
+    results_stay(&rt, rt.alloc(), &rows)
+}
+
+#[test]
+fn results_that_tell_a_new_file(rt: HostRuntime) -> Result<(), Fail> {
+    let rows: [(ProcId, &[u32]); 8] = [
+        (nfs(8), &[0, 1, 1, HANDLE_AA, 0, 0, 0]),
         (nfs(8), &[17, 0, 0]),
         (nfs(9), &[0, 0, 0, 0, 0]),
         (nfs(9), &[71, 0, 0]),
         (nfs(10), &[0, 0, 0, 0, 0]),
+        (nfs(10), &[10004, 0, 0]),
         (nfs(11), &[0, 0, 0, 0, 0]),
         (nfs(11), &[10007, 0, 0]),
+    ];
+    results_stay(&rt, rt.alloc(), &rows)
+}
+
+#[test]
+fn results_on_names(rt: HostRuntime) -> Result<(), Fail> {
+    // the name a with the cookie 2, and the name bc with the cookie 4
+    let names = [
+        0, 0, 8, 9, 1, 0, 1, 1, NAME_A, 0, 2, 1, 0, 3, 2, NAME_BC, 0, 4, 0, 0,
+    ];
+    let rows: [(ProcId, &[u32]); 14] = [
+        (nfs(3), &[0, 1, HANDLE_AA, 0, 0]),
+        (nfs(3), &[2, 0]),
         (nfs(12), &[0, 0, 0]),
         (nfs(12), &[2, 0, 0]),
+        (nfs(13), &[0, 0, 0]),
         (nfs(13), &[66, 0, 0]),
         (nfs(14), &[0, 0, 0, 0, 0]),
         (nfs(14), &[18, 0, 0, 0, 0]),
         (nfs(15), &[0, 0, 0, 0]),
         (nfs(15), &[31, 0, 0, 0]),
         (nfs(16), &[0, 0, 0, 0, 0, 1]),
-        (
-            nfs(16),
-            &[
-                0,
-                0,
-                8,
-                9,
-                1,
-                0,
-                1,
-                1,
-                0x6100_0000,
-                0,
-                2,
-                1,
-                0,
-                3,
-                2,
-                0x6263_0000,
-                0,
-                4,
-                0,
-                0,
-            ],
-        ),
+        (nfs(16), &names),
         (nfs(16), &[10003, 0]),
         (nfs(17), &[10004, 0]),
+    ];
+    results_stay(&rt, rt.alloc(), &rows)
+}
+
+#[test]
+fn results_on_file_systems(rt: HostRuntime) -> Result<(), Fail> {
+    let rows: [(ProcId, &[u32]); 6] = [
         (nfs(18), &[0, 0, 0, 1, 0, 2, 0, 3, 0, 4, 0, 5, 0, 6, 7]),
         (nfs(18), &[5, 0]),
         (nfs(19), &[0, 0, 1, 2, 3, 4, 5, 6, 7, 0, 8, 9, 10, 11]),
+        (nfs(19), &[70, 0]),
         (nfs(20), &[0, 0, 1, 255, 1, 0, 1, 0]),
-        (nfs(21), &[0, 0, 0, 0x0102_0304, 0x0506_0708]),
-        (nfs(21), &[10008, 0, 0]),
-        (mount(0), &[]),
+        (nfs(20), &[10001, 0]),
+    ];
+    results_stay(&rt, rt.alloc(), &rows)
+}
+
+#[test]
+fn results_of_mount(rt: HostRuntime) -> Result<(), Fail> {
+    let rows: [(ProcId, &[u32]); 6] = [
         (mount(1), &[0, 8, 0x0102_0304, 0x0506_0708, 1, 1]),
         (mount(1), &[13]),
-        (mount(2), &[1, 1, 0x6800_0000, 2, 0x2f78_0000, 0]),
+        (mount(2), &[1, 1, 0x6800_0000, 2, PATH_X, 0]),
+        (mount(3), &[]),
         (mount(4), &[]),
-        (mount(5), &[1, 2, 0x2f78_0000, 1, 1, 0x6100_0000, 0, 0]),
-        // another version: its results are all that is left
-        (
-            ProcId {
-                prog: 100_003,
-                vers: 4,
-                proc_no: 0,
-            },
-            &[3, 3],
-        ),
+        (mount(5), &[1, 2, PATH_X, 1, 1, NAME_A, 0, 0]),
     ];
-    for (id, words) in rows {
-        let body = spelled(alloc, words)?;
-        assert!(rt; body.len() <= 88);
-        let writer = results(alloc, id, &body).map_err(|_| "refused")?;
-        assert_eq!(rt;
-            writer.bytes(),
-            body.as_slice(),
-            "{} {}",
-            id.prog,
-            id.proc_no
-        );
+    results_stay(&rt, rt.alloc(), &rows)
+}
+
+#[test]
+fn null_has_no_data(rt: HostRuntime) -> Result<(), Fail> {
+    let rows: [(ProcId, &[u32]); 2] = [(nfs(0), &[]), (mount(0), &[])];
+    arguments_stay(&rt, rt.alloc(), &rows)?;
+    results_stay(&rt, rt.alloc(), &rows)
+}
+
+/// Of any other procedure all bytes that are left are taken.
+#[test]
+fn other_procedures_are_raw(rt: HostRuntime) -> Result<(), Fail> {
+    let other_program = ProcId {
+        prog: 100_227,
+        vers: 3,
+        proc_no: 1,
+    };
+    let other_version = ProcId {
+        prog: 100_003,
+        vers: 4,
+        proc_no: 0,
+    };
+    let rows: [(ProcId, &[u32]); 3] = [
+        (other_program, &[4, 0x0a0b_0c0d, 1]),
+        (other_version, &[3, 3]),
+        (nfs(22), &[]),
+    ];
+    arguments_stay(&rt, rt.alloc(), &rows)?;
+    results_stay(&rt, rt.alloc(), &rows)
+}
+
+/// The results of a READDIRPLUS with four names: of the handle aa, of the public handle, of no handle
+/// that is told, and of the handle aa again.
+fn directory_with_handles(alloc: Global) -> Result<Vec<u8>, AllocError> {
+    let parts: [&[u32]; 6] = [
+        // the status, no attributes, the cookie verifier
+        &[0, 0, 0, 0],
+        &[1, 0, 1, 1, 0x2e00_0000, 0, 1, 0, 1, 1, HANDLE_AA],
+        &[1, 0, 2, 1, NAME_A, 0, 2, 0, 1, 0],
+        &[1, 0, 3, 1, 0x6200_0000, 0, 3, 0, 0],
+        &[1, 0, 4, 2, 0x2e2e_0000, 0, 4, 0, 1, 1, HANDLE_AA],
+        // no more names, and the end of the directory
+        &[0, 1],
+    ];
+    let mut bytes = Vec::new(alloc);
+    for part in parts {
+        bytes.extend_from_slice(&spelled(alloc, part)?)?;
     }
+    Ok(bytes)
+}
+
+#[test]
+fn a_directory_with_handles_is_written_again(rt: HostRuntime) -> Result<(), Fail> {
+    let alloc = rt.alloc();
+    let body = directory_with_handles(alloc)?;
+    assert!(rt; body.len() == 188);
+    let writer = results(alloc, nfs(17), &body).map_err(|_| "refused")?;
+    assert_eq!(rt; writer.bytes(), body.as_slice());
     Ok(())
 }
 
 #[test]
-fn a_directory_with_handles(rt: HostRuntime) -> Result<(), Fail> {
+fn names_with_handles_are_read(rt: HostRuntime) -> Result<(), Fail> {
     let alloc = rt.alloc();
-    let words = [
-        0,
-        0,
-        0,
-        0, // status, no attributes, the cookie verifier
-        1,
-        0,
-        1,
-        1,
-        0x2e00_0000,
-        0,
-        1,
-        0,
-        1,
-        1,
-        0xaa00_0000, // the handle aa
-        1,
-        0,
-        2,
-        1,
-        0x6100_0000,
-        0,
-        2,
-        0,
-        1,
-        0, // the public handle
-        1,
-        0,
-        3,
-        1,
-        0x6200_0000,
-        0,
-        3,
-        0,
-        0, // no handle
-        1,
-        0,
-        4,
-        2,
-        0x2e2e_0000,
-        0,
-        4,
-        0,
-        1,
-        1,
-        0xaa00_0000, // the handle aa
-        0,
-        1,
-    ];
-    let body = spelled(alloc, &words)?;
+    let body = directory_with_handles(alloc)?;
     assert!(rt; body.len() == 188);
-    let writer = results(alloc, nfs(17), &body).map_err(|_| "refused")?;
-    assert_eq!(rt; writer.bytes(), body.as_slice());
     let mut input = Input::new(&body);
     let read = Results::get(alloc, nfs(17), &mut input).map_err(|_| "refused")?;
     match &read {
@@ -370,7 +384,7 @@ fn values_that_are_read(rt: HostRuntime) -> Result<(), Fail> {
     let alloc = rt.alloc();
     let body = spelled(
         alloc,
-        &[1, 0xaa00_0000, 1, 0x6100_0000, 2, 0x0102_0304, 0x0506_0708],
+        &[1, HANDLE_AA, 1, NAME_A, 2, 0x0102_0304, 0x0506_0708],
     )?;
     assert!(rt; body.len() == 28);
     let mut input = Input::new(&body);
@@ -384,10 +398,7 @@ fn values_that_are_read(rt: HostRuntime) -> Result<(), Fail> {
         }
         _ => assert!(rt; false),
     }
-    let body = spelled(
-        alloc,
-        &[1, 0xaa00_0000, 1, 0x6100_0000, 4, 0, 0, 0, 0, 0, 0, 8, 9],
-    )?;
+    let body = spelled(alloc, &[1, HANDLE_AA, 1, NAME_A, 4, 0, 0, 0, 0, 0, 0, 8, 9])?;
     assert!(rt; body.len() == 52);
     let mut input = Input::new(&body);
     match Args::get(alloc, nfs(11), &mut input) {
@@ -410,15 +421,37 @@ fn values_that_are_read(rt: HostRuntime) -> Result<(), Fail> {
     Ok(())
 }
 
+/// Of each row's words so many bytes are there, and they are refused there for that reason.
+fn arguments_are_refused(
+    rt: &impl Abort,
+    alloc: Global,
+    rows: &[(ProcId, &[u32], usize, u32, Reason)],
+) -> Result<(), Fail> {
+    for (id, words, len, at, reason) in rows {
+        let mut body = spelled(alloc, words)?;
+        body.truncate(*len);
+        assert!(rt; body.len() <= 36);
+        let answer = arguments(alloc, *id, &body);
+        let stop = Stop {
+            at: *at,
+            reason: *reason,
+        };
+        assert_eq!(rt; fault(&answer), Some(stop), "{} {len}", id.proc_no);
+    }
+    Ok(())
+}
+
 #[test]
-fn arguments_that_are_refused(rt: HostRuntime) -> Result<(), Fail> {
-    let alloc = rt.alloc();
-    // the procedure, the words, how many bytes are there, where and why they are refused
-    let rows: [(ProcId, &[u32], usize, u32, Reason); 16] = [
+fn arguments_of_a_wrong_length(rt: HostRuntime) -> Result<(), Fail> {
+    // a handle of five bytes with its residual bytes
+    let handle: [u32; 3] = [5, 0x6162_6364, 0x65ff_ffff];
+    // of four bytes, and the part of a file
+    let range: [u32; 5] = [4, 0x6162_6364, 0, 9, 512];
+    let rows: [(ProcId, &[u32], usize, u32, Reason); 10] = [
         (nfs(0), &[0], 4, 0, Reason::Trailing),
-        (nfs(1), &[5, 0x6162_6364, 0x65ff_ffff], 3, 0, Reason::Short),
-        (nfs(1), &[5, 0x6162_6364, 0x65ff_ffff], 4, 4, Reason::Short),
-        (nfs(1), &[5, 0x6162_6364, 0x65ff_ffff], 11, 4, Reason::Short),
+        (nfs(1), &handle, 3, 0, Reason::Short),
+        (nfs(1), &handle, 4, 4, Reason::Short),
+        (nfs(1), &handle, 11, 4, Reason::Short),
         (
             nfs(1),
             &[65, 0x6162_6364, 0x65ff_ffff],
@@ -427,8 +460,8 @@ fn arguments_that_are_refused(rt: HostRuntime) -> Result<(), Fail> {
             Reason::TooLong,
         ),
         (nfs(1), &[4, 0x6162_6364, 0], 12, 8, Reason::Trailing),
-        (nfs(6), &[4, 0x6162_6364, 0, 9, 512], 15, 8, Reason::Short),
-        (nfs(6), &[4, 0x6162_6364, 0, 9, 512], 19, 16, Reason::Short),
+        (nfs(6), &range, 15, 8, Reason::Short),
+        (nfs(6), &range, 19, 16, Reason::Short),
         (
             nfs(6),
             &[4, 0x6162_6364, 0, 9, 512, 0],
@@ -437,68 +470,63 @@ fn arguments_that_are_refused(rt: HostRuntime) -> Result<(), Fail> {
             Reason::Trailing,
         ),
         (
+            nfs(11),
+            &[1, HANDLE_AA, 1, NAME_A, 1, 0],
+            24,
+            20,
+            Reason::Trailing,
+        ),
+    ];
+    arguments_are_refused(&rt, rt.alloc(), &rows)
+}
+
+#[test]
+fn arguments_with_words_that_are_not_listed(rt: HostRuntime) -> Result<(), Fail> {
+    let rows: [(ProcId, &[u32], usize, u32, Reason); 6] = [
+        (
             nfs(2),
-            &[1, 0xaa00_0000, 0, 0, 0, 0, 3, 0, 0],
+            &[1, HANDLE_AA, 0, 0, 0, 0, 3, 0, 0],
             36,
             24,
             Reason::BadEnum,
         ),
         (
             nfs(2),
-            &[1, 0xaa00_0000, 0, 0, 0, 0, 0, 0, 2],
+            &[1, HANDLE_AA, 0, 0, 0, 0, 0, 0, 2],
             36,
             32,
             Reason::BadBool,
         ),
         (
             nfs(7),
-            &[1, 0xaa00_0000, 0, 9, 2, 3, 0],
+            &[1, HANDLE_AA, 0, 9, 2, 3, 0],
             28,
             20,
             Reason::BadEnum,
         ),
         (
             nfs(8),
-            &[1, 0xaa00_0000, 1, 0x6100_0000, 3],
+            &[1, HANDLE_AA, 1, NAME_A, 3],
             20,
             16,
             Reason::BadEnum,
         ),
         (
             nfs(11),
-            &[1, 0xaa00_0000, 1, 0x6100_0000, 8],
+            &[1, HANDLE_AA, 1, NAME_A, 8],
             20,
             16,
             Reason::BadEnum,
         ),
         (
             nfs(11),
-            &[1, 0xaa00_0000, 1, 0x6100_0000, 0],
+            &[1, HANDLE_AA, 1, NAME_A, 0],
             20,
             16,
             Reason::BadEnum,
-        ),
-        (
-            nfs(11),
-            &[1, 0xaa00_0000, 1, 0x6100_0000, 1, 0],
-            24,
-            20,
-            Reason::Trailing,
         ),
     ];
-    for (id, words, len, at, reason) in rows {
-        let mut body = spelled(alloc, words)?;
-        body.truncate(len);
-        assert!(rt; body.len() <= 36);
-        let answer = arguments(alloc, id, &body);
-        assert_eq!(rt;
-            fault(&answer),
-            Some(Stop { at, reason }),
-            "{} {len}",
-            id.proc_no
-        );
-    }
-    Ok(())
+    arguments_are_refused(&rt, rt.alloc(), &rows)
 }
 
 #[test]
