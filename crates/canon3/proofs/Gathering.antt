@@ -1,7 +1,7 @@
 -- Tables that gather the handles of items.
-use Rattle.std.proofs.Common.{◌≡◌, ◌≢◌, ℕ, Bool, true, false, List, [], ◌∷◌, ◌++◌, length, map, refl, sym, ap, subst, ◌∙◌, append-nil, ◌≤◌, Result, Ok, Err, arith}
+use Rattle.std.proofs.Common.{◌≡◌, ◌≢◌, ℕ, Bool, true, false, List, [], ◌∷◌, ◌++◌, length, map, refl, sym, ap, ◌∙◌, append-nil, ◌≤◌, Result, Ok, Err, arith}
 use Rattle.std.specs.Prelude.{bytes_eq, if◌then◌else◌, ◌||◌, OnOk}
-use Rattle.std.specs.List.{list_any, flat_map}
+use Rattle.std.specs.List.{list_any}
 use Rattle.std.proofs.lemmas.List.{length-map, map-append}
 use Rattle.std.proofs.lemmas.Grind.{flat_map-append}
 use Rattle.xdr3.specs.declared.reason.Stop.{Stop}
@@ -17,9 +17,7 @@ use Rattle.nfs3_types.specs.Handle.{bytes_of}
 use Rattle.capture3.specs.Bodies.{IsCall, IsReply}
 use Rattle.capture3.specs.Judging.{read_whole}
 use Rattle.capture3.proofs.Layouts.{whole_read}
-use Rattle.capture3.specs.declared.entry.Entry as kept
-use Rattle.capture3.specs.Kept.{AreKept, IsKept}
-use Rattle.capture3.specs.Entry.{Entry, Begin, Call, Turn, Reply, Close, End}
+use Rattle.capture3.specs.Entry.{Entry}
 use Rattle.canon3.specs.Gathering.{Gathers, same_handle}
 use Rattle.canon3.specs.Rank.{distinct, with_key, with_keys, StandsFor}
 use Rattle.canon3.specs.Summing.{all_items}
@@ -63,7 +61,7 @@ gathers_one old new handle name (b ∷ bs) items is some step (given, stands, ar
   given ++ handle ∷ [],
   step given stands,
   map-append bytes_of given (handle ∷ []) ∙ ap (λ (l : List (List ℕ)). l ++ bytes_of handle ∷ []) are ∙ ap (λ (x : List ℕ). handles_in items ++ x ∷ []) is
-  ∙ sym (flat_map-append handle_in items (Opaque Handle name (b ∷ bs) ∷ [])),
+      ∙ sym (flat_map-append handle_in items (Opaque Handle name (b ∷ bs) ∷ [])),
 )
 
 pub count_gathered : (table : List handles.Handle) (items : List Item) (g : Gathers table items) → length (distinct same_handle g.0) ≡ length (distinct bytes_eq (handles_in items))

@@ -1,13 +1,13 @@
 -- Messages under numbers are messages of the same procedures.
-use Rattle.std.proofs.Common.{◌≡◌, ℕ, zero, suc, ◌<◌, ◌≤◌, ◌^◌, Bool, true, false, List, [], ◌∷◌, ◌++◌, length, map, refl, sym, ap, ◌∙◌, subst, arith, length-append}
-use Rattle.std.specs.Prelude.{nat_eq, if◌then◌else◌, codes}
+use Rattle.std.proofs.Common.{◌≡◌, ℕ, zero, suc, ◌<◌, ◌≤◌, ◌^◌, List, [], ◌∷◌, ◌++◌, length, map, refl, sym, ap, ◌∙◌, subst, arith, length-append}
+use Rattle.std.specs.Prelude.{nat_eq, if◌then◌else◌}
 use Rattle.std.specs.List.{AllByRecursion}
 use Rattle.std.proofs.lemmas.List.{map-append}
 use Rattle.std.proofs.lemmas.Bool.Decides.{Decides-eqb}
 use Rattle.byteorder.specs.Numbers.{length-bytes_high_first}
 use Rattle.xdr3.specs.Item.{Item, Word, Hyper, Fixed, WriteVerf, Opaque, Rest, Var, Text, Handle, Spells, word_bytes, zero_spelling}
 use Rattle.xdr3.specs.Shape.{Shape, both, nothing, opaque, word, listed, Fits}
-use Rattle.xdr3.specs.Layout.{Layout, exactly, rest, after, FitsLayout}
+use Rattle.xdr3.specs.Layout.{Layout, exactly, after, FitsLayout}
 use Rattle.rpc_head.specs.declared.call.ProcId.{ProcId}
 use Rattle.rpc_head.specs.Names.{names}
 use Rattle.rpc_head.specs.Messages.{number_of_word, word_in, procedure_in, call_start, reply_start, call_layout, reply_layout, has_results}

@@ -1,4 +1,4 @@
-use Rattle.std.proofs.Common.{Ok, ◌++◌, ap, subst}
+use Rattle.std.proofs.Common.{Ok, ◌++◌, subst}
 use Rattle.std.proofs.KnownBytes.{Consumes-trans}
 use Rattle.capture3.specs.Entries.{HandsOut}
 use Rattle.canon3.proofs.Summing.{added_goes_on}
