@@ -20,6 +20,6 @@ pub use handle::Handle;
 pub use kind::FileKind;
 pub use settable::{Guard, Sattr};
 pub use stable::Stable;
-pub use status::{Res, Status};
+pub use status::{Failure, Res, Status};
 pub use time::{Time, TimeHow};
 pub use void::Void;

@@ -11,8 +11,15 @@ use xdr3::{Field, GetError, Input, Reason, Stop, Visit, Walk, Xdr, walk_fields};
 /// What a call of an NFS procedure answers, an nfsstat3 (RFC 1813, section 2.6). 29 numbers are listed.
 #[derive(Clone, Copy, Debug, PartialEq, Eq)]
 pub enum Status {
-    /// Done.
+    /// Done, 0.
     Ok,
+    /// Not done, one of the other 28 numbers.
+    Failed(Failure),
+}
+
+/// Why a call of an NFS procedure failed: an nfsstat3 that is not 0 (RFC 1813, section 2.6).
+#[derive(Clone, Copy, Debug, PartialEq, Eq)]
+pub enum Failure {
     /// Not owner.
     Perm,
     /// No such file or directory.
@@ -80,34 +87,7 @@ impl Status {
     {
         match self {
             Status::Ok => 0,
-            Status::Perm => 1,
-            Status::NoEnt => 2,
-            Status::Io => 5,
-            Status::Nxio => 6,
-            Status::Acces => 13,
-            Status::Exist => 17,
-            Status::XDev => 18,
-            Status::NoDev => 19,
-            Status::NotDir => 20,
-            Status::IsDir => 21,
-            Status::Inval => 22,
-            Status::FBig => 27,
-            Status::NoSpc => 28,
-            Status::RoFs => 30,
-            Status::MLink => 31,
-            Status::NameTooLong => 63,
-            Status::NotEmpty => 66,
-            Status::DQuot => 69,
-            Status::Stale => 70,
-            Status::Remote => 71,
-            Status::BadHandle => 10_001,
-            Status::NotSync => 10_002,
-            Status::BadCookie => 10_003,
-            Status::NotSupp => 10_004,
-            Status::TooSmall => 10_005,
-            Status::ServerFault => 10_006,
-            Status::BadType => 10_007,
-            Status::Jukebox => 10_008,
+            Status::Failed(failure) => failure.number(),
         }
     }
 
@@ -130,35 +110,75 @@ impl Status {
     {
         match n {
             0 => Status::Ok,
-            1 => Status::Perm,
-            2 => Status::NoEnt,
-            5 => Status::Io,
-            6 => Status::Nxio,
-            13 => Status::Acces,
-            17 => Status::Exist,
-            18 => Status::XDev,
-            19 => Status::NoDev,
-            20 => Status::NotDir,
-            21 => Status::IsDir,
-            22 => Status::Inval,
-            27 => Status::FBig,
-            28 => Status::NoSpc,
-            30 => Status::RoFs,
-            31 => Status::MLink,
-            63 => Status::NameTooLong,
-            66 => Status::NotEmpty,
-            69 => Status::DQuot,
-            70 => Status::Stale,
-            71 => Status::Remote,
-            10_001 => Status::BadHandle,
-            10_002 => Status::NotSync,
-            10_003 => Status::BadCookie,
-            10_004 => Status::NotSupp,
-            10_005 => Status::TooSmall,
-            10_006 => Status::ServerFault,
-            10_007 => Status::BadType,
-            10_008 => Status::Jukebox,
+            1 => Status::Failed(Failure::Perm),
+            2 => Status::Failed(Failure::NoEnt),
+            5 => Status::Failed(Failure::Io),
+            6 => Status::Failed(Failure::Nxio),
+            13 => Status::Failed(Failure::Acces),
+            17 => Status::Failed(Failure::Exist),
+            18 => Status::Failed(Failure::XDev),
+            19 => Status::Failed(Failure::NoDev),
+            20 => Status::Failed(Failure::NotDir),
+            21 => Status::Failed(Failure::IsDir),
+            22 => Status::Failed(Failure::Inval),
+            27 => Status::Failed(Failure::FBig),
+            28 => Status::Failed(Failure::NoSpc),
+            30 => Status::Failed(Failure::RoFs),
+            31 => Status::Failed(Failure::MLink),
+            63 => Status::Failed(Failure::NameTooLong),
+            66 => Status::Failed(Failure::NotEmpty),
+            69 => Status::Failed(Failure::DQuot),
+            70 => Status::Failed(Failure::Stale),
+            71 => Status::Failed(Failure::Remote),
+            10_001 => Status::Failed(Failure::BadHandle),
+            10_002 => Status::Failed(Failure::NotSync),
+            10_003 => Status::Failed(Failure::BadCookie),
+            10_004 => Status::Failed(Failure::NotSupp),
+            10_005 => Status::Failed(Failure::TooSmall),
+            10_006 => Status::Failed(Failure::ServerFault),
+            10_007 => Status::Failed(Failure::BadType),
+            10_008 => Status::Failed(Failure::Jukebox),
             _ => unreachable!(),
+        }
+    }
+}
+
+impl Failure {
+    ghost use Rattle.nfs3_types.specs.Status.{failure_number};
+
+    /// Its number.
+    pub fn number(self) -> u32
+        ensures { result ≡ failure_number self }
+    {
+        match self {
+            Failure::Perm => 1,
+            Failure::NoEnt => 2,
+            Failure::Io => 5,
+            Failure::Nxio => 6,
+            Failure::Acces => 13,
+            Failure::Exist => 17,
+            Failure::XDev => 18,
+            Failure::NoDev => 19,
+            Failure::NotDir => 20,
+            Failure::IsDir => 21,
+            Failure::Inval => 22,
+            Failure::FBig => 27,
+            Failure::NoSpc => 28,
+            Failure::RoFs => 30,
+            Failure::MLink => 31,
+            Failure::NameTooLong => 63,
+            Failure::NotEmpty => 66,
+            Failure::DQuot => 69,
+            Failure::Stale => 70,
+            Failure::Remote => 71,
+            Failure::BadHandle => 10_001,
+            Failure::NotSync => 10_002,
+            Failure::BadCookie => 10_003,
+            Failure::NotSupp => 10_004,
+            Failure::TooSmall => 10_005,
+            Failure::ServerFault => 10_006,
+            Failure::BadType => 10_007,
+            Failure::Jukebox => 10_008,
         }
     }
 }
@@ -186,12 +206,12 @@ impl Walk for Status {
     }
 }
 
-/// The results of a call of an NFS procedure: by the status, what was done (0), or what is told of the
-/// failure, whose status is not 0 (RFC 1813, section 3.3).
+/// The results of a call of an NFS procedure, by the status: what was done, or what is told of the failure
+/// (RFC 1813, section 3.3).
 #[derive(Clone, Copy, Debug, PartialEq, Eq, Drop)]
 pub enum Res<T, F> {
     Done(T),
-    Failed(Status, F),
+    Failed(Failure, F),
 }
 
 impl<'a, T: Xdr<'a> + Drop, F: Xdr<'a> + Drop> Xdr<'a> for Res<T, F> {
@@ -201,13 +221,15 @@ impl<'a, T: Xdr<'a> + Drop, F: Xdr<'a> + Drop> Xdr<'a> for Res<T, F> {
 
     #[tactic(auto, unfolding(xdr3::specs::Reading::reading, crate::specs::Shapes::results, xdr3::specs::Item::followed_by))]
     fn get(alloc: Global, input: &mut Input<'a>) -> Result<Res<T, F>, GetError> {
-        let status = Status::take(input)?;
-        if status.number() == 0 {
-            let done = T::get(alloc, input)?;
-            Ok(Res::Done(done))
-        } else {
-            let failed = F::get(alloc, input)?;
-            Ok(Res::Failed(status, failed))
+        match Status::take(input)? {
+            Status::Ok => {
+                let done = T::get(alloc, input)?;
+                Ok(Res::Done(done))
+            }
+            Status::Failed(failure) => {
+                let told = F::get(alloc, input)?;
+                Ok(Res::Failed(failure, told))
+            }
         }
     }
 }
@@ -225,9 +247,9 @@ impl<T: Walk, F: Walk> Walk for Res<T, F> {
                 done.walk(visitor)?;
                 Ok(())
             }
-            Res::Failed(status, failed) => {
-                visitor.word("status", status.number())?;
-                failed.walk(visitor)?;
+            Res::Failed(failure, told) => {
+                visitor.word("status", failure.number())?;
+                told.walk(visitor)?;
                 Ok(())
             }
         }

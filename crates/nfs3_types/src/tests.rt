@@ -202,7 +202,7 @@ fn settable_times_are_read(rt: HostRuntime) -> Result<(), Fail> {
 }
 
 #[test]
-fn parts_are_written_as_they_were(rt: HostRuntime) -> Result<(), Fail> {
+fn states_around_a_change_are_written_again(rt: HostRuntime) -> Result<(), Fail> {
     let alloc = rt.alloc();
     let body = spelled(alloc, &[1, 0, 4096, 2, 80, 3, 90, 0])?;
     assert!(rt; body.len() == 32);
@@ -215,14 +215,24 @@ fn parts_are_written_as_they_were(rt: HostRuntime) -> Result<(), Fail> {
     assert_eq!(rt; (wcc.before, wcc.after.attr), (Some(before), None));
     let writer = rewritten::<Wcc>(alloc, &body).map_err(|_| "refused")?;
     assert_eq!(rt; writer.bytes(), body.as_slice());
+    Ok(())
+}
 
+#[test]
+fn guards_are_written_again(rt: HostRuntime) -> Result<(), Fail> {
+    let alloc = rt.alloc();
     let body = spelled(alloc, &[1, 3, 90])?;
     assert!(rt; body.len() == 12);
     let guard: Guard = value_in(alloc, &body).map_err(|_| "refused")?;
     assert_eq!(rt; guard.check, Some(Time { sec: 3, nsec: 90 }));
     let writer = rewritten::<Guard>(alloc, &body).map_err(|_| "refused")?;
     assert_eq!(rt; writer.bytes(), body.as_slice());
+    Ok(())
+}
 
+#[test]
+fn handles_are_written_with_zero_padding(rt: HostRuntime) -> Result<(), Fail> {
+    let alloc = rt.alloc();
     let body = spelled(alloc, &[1, 2, 0xabcd_ffff])?;
     let zero = spelled(alloc, &[1, 2, 0xabcd_0000])?;
     assert!(rt; body.len() == 12);
@@ -230,7 +240,12 @@ fn parts_are_written_as_they_were(rt: HostRuntime) -> Result<(), Fail> {
     assert_eq!(rt; told.handle, Handle::new(&[0xab, 0xcd]));
     let writer = rewritten::<PostOpFh>(alloc, &body).map_err(|_| "refused")?;
     assert_eq!(rt; writer.bytes(), zero.as_slice());
+    Ok(())
+}
 
+#[test]
+fn places_are_written_with_zero_padding(rt: HostRuntime) -> Result<(), Fail> {
+    let alloc = rt.alloc();
     let body = spelled(alloc, &[3, 0x0102_03ff, 5, 0x6865_6c6c, 0x6fff_ffff])?;
     let zero = spelled(alloc, &[3, 0x0102_0300, 5, 0x6865_6c6c, 0x6f00_0000])?;
     assert!(rt; body.len() == 20);
@@ -243,7 +258,7 @@ fn parts_are_written_as_they_were(rt: HostRuntime) -> Result<(), Fail> {
 }
 
 #[test]
-fn parts_are_refused(rt: HostRuntime) -> Result<(), Fail> {
+fn settable_are_refused(rt: HostRuntime) -> Result<(), Fail> {
     let alloc = rt.alloc();
     let body = spelled(alloc, &[0, 0, 0, 0, 3, 0, 0, 2])?;
     assert!(rt; body.len() == 32);
@@ -258,25 +273,42 @@ fn parts_are_refused(rt: HostRuntime) -> Result<(), Fail> {
         stop(4, Reason::BadBool)
     );
     assert_eq!(rt;
-        fault_in::<PostOpAttr>(alloc, &body[16..]),
-        stop(0, Reason::BadBool)
-    );
-    assert_eq!(rt;
-        fault_in::<Wcc>(alloc, &body[24..]),
-        stop(4, Reason::BadBool)
-    );
-    assert_eq!(rt;
         fault_in::<Guard>(alloc, &body[28..]),
         stop(0, Reason::BadBool)
     );
+    Ok(())
+}
+
+#[test]
+fn told_parts_are_refused(rt: HostRuntime) -> Result<(), Fail> {
+    let alloc = rt.alloc();
+    let body = spelled(alloc, &[0, 2])?;
+    assert!(rt; body.len() == 8);
+    let stop = |at, reason| Some(Stop { at, reason });
+    assert_eq!(rt;
+        fault_in::<PostOpAttr>(alloc, &body[4..]),
+        stop(0, Reason::BadBool)
+    );
+    assert_eq!(rt; fault_in::<Wcc>(alloc, &body), stop(4, Reason::BadBool));
     assert_eq!(rt;
         fault_in::<Void>(alloc, &body[..1]),
         stop(0, Reason::Trailing)
     );
+    Ok(())
+}
+
+#[test]
+fn results_are_refused(rt: HostRuntime) -> Result<(), Fail> {
+    let alloc = rt.alloc();
+    let body = spelled(alloc, &[0, 2])?;
+    assert!(rt; body.len() == 8);
     assert_eq!(rt; fault_in::<Res<Void, PostOpAttr>>(alloc, &body[..4]), None);
     assert_eq!(rt;
-        fault_in::<Res<Void, PostOpAttr>>(alloc, &body[28..]),
-        stop(4, Reason::Short)
+        fault_in::<Res<Void, PostOpAttr>>(alloc, &body[4..]),
+        Some(Stop {
+            at: 4,
+            reason: Reason::Short
+        })
     );
     Ok(())
 }

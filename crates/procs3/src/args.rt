@@ -1,6 +1,6 @@
 // The arguments of calls.
 
-ghost use Rattle.std.specs.Prelude.{◌≡◌, IfOk};
+ghost use Rattle.std.specs.Prelude.{◌≡◌, ◌≤◌, IfOk};
 ghost use Rattle.procs3.specs.Items.{args_items};
 ghost use Rattle.procs3.specs.Names.{mount_name, name_of, nfs_name};
 ghost use Rattle.procs3.specs.Table.{arguments_of, mount_arguments, nfs_arguments};
@@ -128,6 +128,24 @@ impl<'a> Args<'a> {
             5 => Ok(Args::ReadLink(Handle::get(alloc, input)?)),
             6 => Ok(Args::Read(FileRange::get(alloc, input)?)),
             7 => Ok(Args::Write(WriteArgs::get(alloc, input)?)),
+            _ => Args::get_nfs_from_create(alloc, proc_no, input),
+        }
+    }
+
+    /// Of CREATE, or a procedure behind it.
+    #[tactic(auto, unfolding(xdr3::specs::Reading::reading, xdr3::specs::Layout::reading_layout))]
+    fn get_nfs_from_create(
+        alloc: Global,
+        proc_no: u32,
+        input: &mut Input<'a>,
+    ) -> Result<Args<'a>, GetError>
+        requires { 8 ≤ proc_no }
+        ensures read { Gives args_items result input.new.at (reading_layout (nfs_arguments proc_no) input.old.body input.old.at) }
+        ensures variant { IfOk result (λ args. args_name args ≡ nfs_name proc_no) }
+        ensures moves { MovesOn input.old input.new }
+    {
+        input.at();
+        match proc_no {
             8 => Ok(Args::Create(CreateArgs::get(alloc, input)?)),
             9 => Ok(Args::MkDir(MkDirArgs::get(alloc, input)?)),
             10 => Ok(Args::SymLink(SymLinkArgs::get(alloc, input)?)),
@@ -135,6 +153,24 @@ impl<'a> Args<'a> {
             12 => Ok(Args::Remove(DirOp::get(alloc, input)?)),
             13 => Ok(Args::RmDir(DirOp::get(alloc, input)?)),
             14 => Ok(Args::Rename(RenameArgs::get(alloc, input)?)),
+            _ => Args::get_nfs_from_link(alloc, proc_no, input),
+        }
+    }
+
+    /// Of LINK, or a procedure behind it.
+    #[tactic(auto, unfolding(xdr3::specs::Reading::reading, xdr3::specs::Layout::reading_layout))]
+    fn get_nfs_from_link(
+        alloc: Global,
+        proc_no: u32,
+        input: &mut Input<'a>,
+    ) -> Result<Args<'a>, GetError>
+        requires { 15 ≤ proc_no }
+        ensures read { Gives args_items result input.new.at (reading_layout (nfs_arguments proc_no) input.old.body input.old.at) }
+        ensures variant { IfOk result (λ args. args_name args ≡ nfs_name proc_no) }
+        ensures moves { MovesOn input.old input.new }
+    {
+        input.at();
+        match proc_no {
             15 => Ok(Args::Link(LinkArgs::get(alloc, input)?)),
             16 => Ok(Args::ReadDir(ReadDirArgs::get(alloc, input)?)),
             17 => Ok(Args::ReadDirPlus(ReadDirPlusArgs::get(alloc, input)?)),

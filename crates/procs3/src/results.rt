@@ -1,6 +1,6 @@
 // The results of accepted calls.
 
-ghost use Rattle.std.specs.Prelude.{◌≡◌, IfOk};
+ghost use Rattle.std.specs.Prelude.{◌≡◌, ◌≤◌, IfOk};
 ghost use Rattle.procs3.specs.Items.{results_items};
 ghost use Rattle.procs3.specs.Names.{mount_name, name_of, nfs_name};
 ghost use Rattle.procs3.specs.Table.{results_of, mount_results_of, nfs_results};
@@ -134,6 +134,24 @@ impl<'a> Results<'a> {
             5 => Ok(Results::ReadLink(Res::get(alloc, input)?)),
             6 => Ok(Results::Read(Res::get(alloc, input)?)),
             7 => Ok(Results::Write(Res::get(alloc, input)?)),
+            _ => Results::get_nfs_from_create(alloc, proc_no, input),
+        }
+    }
+
+    /// Of CREATE, or a procedure behind it.
+    #[tactic(auto, unfolding(xdr3::specs::Reading::reading, xdr3::specs::Layout::reading_layout))]
+    fn get_nfs_from_create(
+        alloc: Global,
+        proc_no: u32,
+        input: &mut Input<'a>,
+    ) -> Result<Results<'a>, GetError>
+        requires { 8 ≤ proc_no }
+        ensures read { Gives results_items result input.new.at (reading_layout (nfs_results proc_no) input.old.body input.old.at) }
+        ensures variant { IfOk result (λ results. results_name results ≡ nfs_name proc_no) }
+        ensures moves { MovesOn input.old input.new }
+    {
+        input.at();
+        match proc_no {
             8 => Ok(Results::Create(Res::get(alloc, input)?)),
             9 => Ok(Results::MkDir(Res::get(alloc, input)?)),
             10 => Ok(Results::SymLink(Res::get(alloc, input)?)),
@@ -141,6 +159,24 @@ impl<'a> Results<'a> {
             12 => Ok(Results::Remove(Res::get(alloc, input)?)),
             13 => Ok(Results::RmDir(Res::get(alloc, input)?)),
             14 => Ok(Results::Rename(Res::get(alloc, input)?)),
+            _ => Results::get_nfs_from_link(alloc, proc_no, input),
+        }
+    }
+
+    /// Of LINK, or a procedure behind it.
+    #[tactic(auto, unfolding(xdr3::specs::Reading::reading, xdr3::specs::Layout::reading_layout))]
+    fn get_nfs_from_link(
+        alloc: Global,
+        proc_no: u32,
+        input: &mut Input<'a>,
+    ) -> Result<Results<'a>, GetError>
+        requires { 15 ≤ proc_no }
+        ensures read { Gives results_items result input.new.at (reading_layout (nfs_results proc_no) input.old.body input.old.at) }
+        ensures variant { IfOk result (λ results. results_name results ≡ nfs_name proc_no) }
+        ensures moves { MovesOn input.old input.new }
+    {
+        input.at();
+        match proc_no {
             15 => Ok(Results::Link(Res::get(alloc, input)?)),
             16 => Ok(Results::ReadDir(Res::get(alloc, input)?)),
             17 => Ok(Results::ReadDirPlus(Res::get(alloc, input)?)),

@@ -4,7 +4,7 @@
 ghost use Rattle.std.specs.Prelude.{◌≤◌, length};
 
 use crate::{Args, CreateHow, MkNodWhat, Results, proc_name};
-use nfs3_types::{Res, Status};
+use nfs3_types::{Failure, Res};
 use rpc_head::ProcId;
 use std::alloc::{AllocError, Global};
 use std::process::Abort;
@@ -380,7 +380,7 @@ fn names_with_handles_are_read(rt: HostRuntime) -> Result<(), Fail> {
 }
 
 #[test]
-fn values_that_are_read(rt: HostRuntime) -> Result<(), Fail> {
+fn an_exclusive_create_has_its_verifier(rt: HostRuntime) -> Result<(), Fail> {
     let alloc = rt.alloc();
     let body = spelled(
         alloc,
@@ -398,6 +398,12 @@ fn values_that_are_read(rt: HostRuntime) -> Result<(), Fail> {
         }
         _ => assert!(rt; false),
     }
+    Ok(())
+}
+
+#[test]
+fn a_device_that_is_made_has_its_numbers(rt: HostRuntime) -> Result<(), Fail> {
+    let alloc = rt.alloc();
     let body = spelled(alloc, &[1, HANDLE_AA, 1, NAME_A, 4, 0, 0, 0, 0, 0, 0, 8, 9])?;
     assert!(rt; body.len() == 52);
     let mut input = Input::new(&body);
@@ -408,12 +414,18 @@ fn values_that_are_read(rt: HostRuntime) -> Result<(), Fail> {
         },
         _ => assert!(rt; false),
     }
+    Ok(())
+}
+
+#[test]
+fn a_link_that_failed_has_its_status(rt: HostRuntime) -> Result<(), Fail> {
+    let alloc = rt.alloc();
     let body = spelled(alloc, &[31, 0, 0, 0])?;
     assert!(rt; body.len() == 16);
     let mut input = Input::new(&body);
     match Results::get(alloc, nfs(15), &mut input) {
-        Ok(Results::Link(Res::Failed(status, told))) => {
-            assert_eq!(rt; status, Status::MLink);
+        Ok(Results::Link(Res::Failed(failure, told))) => {
+            assert_eq!(rt; failure, Failure::MLink);
             assert!(rt; told.attr.attr.is_none() && told.dir.before.is_none());
         }
         _ => assert!(rt; false),
