@@ -133,7 +133,7 @@ pub faults_of : (bytes : List ℕ) (old new : Option (List ℕ)) (result : Resul
 faults_of bytes old new (Ok summary) tells c = tt
 faults_of bytes old new (Err (errors.Refused met)) tells (given, entries, consumed, is) =
     let r = rest_of bytes given new (subst (λ (o : Option (List ℕ)). Consumes o new given) tells consumed) in
-    λ fault e. subst (λ (f : Fault). FirstFault bytes f) (refused_is met fault e) (subst (λ (b : List ℕ). FirstFault b met) (sym r.2) (is r.0 r.1))
+    λ fault e. subst (λ (f : Fault). FirstFault bytes f) (refused_is met fault e) (subst (λ (b : List ℕ). FirstFault b met) (sym r.2) (is r.0 r.1).0)
   where
     refused_is : (met fault : Fault) → errors.Refused met ≡ errors.Refused fault → met ≡ fault
     refused_is met fault e = cc

@@ -1,5 +1,5 @@
 -- A capture whose records are judged as they come: step after step.
-use Rattle.std.proofs.Common.{lit<, ◌≡◌, ℕ, ◌≤◌, Bool, true, false, cond, nat_eq, is_some, Option, Some, None, List, [], ◌∷◌, ◌++◌, length, take, refl, sym, ap, ◌∙◌, subst}
+use Rattle.std.proofs.Common.{lit<, ◌≡◌, ℕ, ◌≤◌, Bool, true, false, cond, nat_eq, is_some, Option, Some, None, List, [], ◌∷◌, ◌++◌, length, take, drop, refl, sym, ap, ◌∙◌, subst, append_assoc, take-append-drop}
 use Rattle.std.proofs.lemmas.Bool.{eqb-true}
 use Rattle.xdr3.specs.Item.{Item}
 use Rattle.record_mark.specs.Joining.{Between}
@@ -27,7 +27,7 @@ use Rattle.capture3.specs.Connections.{Refusal, refusal}
 use Rattle.capture3.specs.Container.{unpacking_of, arrived, Arrives, Fails}
 use Rattle.capture3.specs.Entry.{Entry}
 use Rattle.capture3.specs.Entry as entries
-use Rattle.capture3.specs.Judges.{StandsAt, HasMet, met, GoesTo, EndsWith, FailsAt, KeepsCall, KeepsReply, RefusesBody}
+use Rattle.capture3.specs.Judges.{StandsAt, HasMet, met, GoesTo, EndsWith, FailsAt, ShowsWithin, KeepsCall, KeepsReply, RefusesBody}
 use Rattle.capture3.specs.Judging.{judge_call, judge_reply}
 use Rattle.capture3.specs.Messages.{IsTableOf}
 use Rattle.capture3.specs.Parsing.{Parsing, file_next, file_start}
@@ -36,9 +36,11 @@ use Rattle.capture3.specs.Records.{fault_at}
 use Rattle.capture3.specs.Resumed.{Judged, parsing_at, resumed, call_judged, reply_judged, emitted_at, begun, turned, closed}
 use Rattle.capture3.specs.Resumed as resuming
 use Rattle.capture3.specs.Sides.{place_at}
-use Rattle.capture3.specs.Unpacking.{Unpacking, Refuses, unpack_next, unpacking_start}
+use Rattle.capture3.specs.Unpacking.{Unpacking, Unpacked, Refuses, unpack_next, unpacking_start}
 use Rattle.capture3.proofs.Resumptions.{runs_follow, stops_follow}
 use Rattle.capture3.proofs.Emissions.{runs_emit, stops_emit}
+use Rattle.capture3.proofs.Emits.{landed_ends}
+use Rattle.capture3.proofs.Growing.{stops_at_last}
 
 -- ---- the table of calls
 
@@ -144,25 +146,41 @@ stands_met p q t u table run all bytes event came s is arrives_at =
       emits = subst (λ (base : List Entry). resuming.EmitsOn s.so_far base (Ends (met event q u))) (sym s.emitted) (stops_emit bytes (unpacking_of p t) (met event q u) s.so_far stops);
     }
 
-fault_met : (p : Position) (t : Taking) (table : List NumberedCall) (run : Run Parsing Refusal) (all : List Entry) (bytes : List ℕ) (fault : Fault)
-    → StandsAt p t table run all → after unpack_next (Runs (unpacking_of p t)) bytes ≡ Stops (Refuses fault) → EndsWith (after file_next run bytes) (errors.Refused fault)
-fault_met p t table run all bytes fault s stops =
-    let next = stops_follow bytes (unpacking_of p t) (Refuses fault) s.so_far s.agrees stops in
-    (refusal fault, ap (λ r. after file_next r bytes) s.stands ∙ next.0, refl)
+-- the last of these bytes shows the fault
+shows_at_last : (p : Position) (t : Taking) (table : List NumberedCall) (run : Run Parsing Refusal) (all : List Entry) (bytes : List ℕ) (n : ℕ) (x : Unpacked) (fault : Fault) → (s : StandsAt p t table run all)
+    → after unpack_next (Runs (unpacking_of p t)) (take n bytes) ≡ Stops x → resumed s.so_far (Ends x) ≡ Ends (refusal fault) → ShowsWithin run all bytes fault
+shows_at_last p t table run all bytes n x fault s stops refused =
+    let m = stops_at_last (take n bytes) (unpacking_of p t) x s.so_far (refusal fault) s.agrees stops refused in
+    record {
+      front = m.front;
+      byte = m.byte;
+      back = drop n bytes;
+      state = m.state;
+      split = sym (take-append-drop n bytes) ∙ ap (λ (b : List ℕ). b ++ drop n bytes) m.split ∙ append_assoc m.front (m.byte ∷ []) (drop n bytes);
+      runs = ap (λ r. after file_next r m.front) s.stands ∙ m.runs;
+      emits = m.emits ∙ sym s.emitted;
+      ends = m.ends;
+    }
 
 pub stands_fails : (p : Position) (t : Taking) (table : List NumberedCall) (run : Run Parsing Refusal) (all : List Entry) (bytes : List ℕ) (error : Error)
-    → StandsAt p t table run all → Fails (unpacking_of p t) bytes error → FailsAt run bytes error
-stands_fails p t table run all bytes (errors.Refused fault) s (n, within, stops) = (n, within, fault_met p t table run all (take n bytes) fault s stops)
+    → StandsAt p t table run all → Fails (unpacking_of p t) bytes error → FailsAt run all bytes error
+stands_fails p t table run all bytes (errors.Refused fault) s (n, within, stops) = shows_at_last p t table run all bytes n (Refuses fault) fault s stops refl
 stands_fails p t table run all bytes errors.Read s fails = fails
 stands_fails p t table run all bytes errors.Write s fails = fails
 stands_fails p t table run all bytes errors.Memory s fails = tt
 
--- a fault at the last of these bytes
-pub ends_fails : (run : Run Parsing Refusal) (bytes : List ℕ) (n : ℕ) (error : Error) → n ≤ length bytes → EndsWith (after file_next run (take n bytes)) error → FailsAt run bytes error
-ends_fails run bytes n (errors.Refused fault) within ends = (n, within, ends)
-ends_fails run bytes n errors.Read within ends = ends
-ends_fails run bytes n errors.Write within ends = ends
-ends_fails run bytes n errors.Memory within ends = tt
+-- the same where the last of them makes something whole, which is refused
+pub ends_fails : (p q : Position) (t u : Taking) (table : List NumberedCall) (run : Run Parsing Refusal) (all : List Entry) (bytes : List ℕ) (n : ℕ) (event : Event) (came : Option Event) (error : Error) → StandsAt p t table run all
+    → came ≡ Some event → Arrives (unpacking_of p t) (take n bytes) came q u → EndsWith (after file_next run (take n bytes)) error → FailsAt run all bytes error
+ends_fails p q t u table run all bytes n event came (errors.Refused fault) s is arrives_at ends =
+    let arrives = subst (λ (e : Option Event). Arrives (unpacking_of p t) (take n bytes) e q u) is arrives_at in
+    let stops : after unpack_next (Runs (unpacking_of p t)) (take n bytes) ≡ Stops (met event q u) = arrives ∙ met_is event q u in
+    let next = stops_follow (take n bytes) (unpacking_of p t) (met event q u) s.so_far s.agrees stops in
+    let at : landed (resumed s.so_far (Ends (met event q u))) ≡ Stops (refusal fault) = sym (ap (λ r. after file_next r (take n bytes)) s.stands ∙ next.0) ∙ ends in
+    shows_at_last p t table run all bytes n (met event q u) fault s stops (landed_ends (refusal fault) (resumed s.so_far (Ends (met event q u))) at)
+ends_fails p q t u table run all bytes n event came errors.Read s is arrives_at ends = ends
+ends_fails p q t u table run all bytes n event came errors.Write s is arrives_at ends = ends
+ends_fails p q t u table run all bytes n event came errors.Memory s is arrives_at ends = tt
 
 -- ---- what is whole
 
@@ -238,22 +256,20 @@ reply_goes_at p q t u table new run all reply {side} is same kept free m k =
 
 pub call_refused : (p : Position) (t : Taking) (table : List NumberedCall) (run : Run Parsing Refusal) (all : List Entry) (error : Error)
     → (m : HasMet p t table (Record Client) run all) → RefusesBody p Client (judge_call m.so_far.calls (body_of t)) error → EndsWith run error
-call_refused p t table run all (errors.Refused fault) m (stop, judged, is) = (
-  refusal (place_at p.connections Client (fault_at m.so_far.calls stop.at stop.reason)),
-  m.stands ∙ ap (λ r. landed (call_judged (unpacking_at p Between) m.so_far r)) judged,
-  ap (λ (n : ℕ). record { place = places.Record p.connections Client n stop.at; reason = stop.reason }) (sym m.agrees.1) ∙ sym is,
-)
+call_refused p t table run all (errors.Refused fault) m (stop, judged, is) =
+    m.stands
+    ∙ ap (λ r. landed (call_judged (unpacking_at p Between) m.so_far r)) judged
+    ∙ ap (λ (f : Fault). Stops (refusal f)) (ap (λ (n : ℕ). record { place = places.Record p.connections Client n stop.at; reason = stop.reason }) (sym m.agrees.1) ∙ sym is)
 call_refused p t table run all errors.Read m h = h
 call_refused p t table run all errors.Write m h = h
 call_refused p t table run all errors.Memory m h = tt
 
 pub reply_refused : (p : Position) (t : Taking) (table : List NumberedCall) (run : Run Parsing Refusal) (all : List Entry) (error : Error)
     → (m : HasMet p t table (Record Server) run all) → RefusesBody p Server (judge_reply m.so_far.calls (body_of t)) error → EndsWith run error
-reply_refused p t table run all (errors.Refused fault) m (stop, judged, is) = (
-  refusal (place_at p.connections Server (fault_at m.so_far.replies stop.at stop.reason)),
-  m.stands ∙ ap (λ r. landed (reply_judged (unpacking_at p Between) m.so_far r)) judged,
-  ap (λ (n : ℕ). record { place = places.Record p.connections Server n stop.at; reason = stop.reason }) (sym m.agrees.1) ∙ sym is,
-)
+reply_refused p t table run all (errors.Refused fault) m (stop, judged, is) =
+    m.stands
+    ∙ ap (λ r. landed (reply_judged (unpacking_at p Between) m.so_far r)) judged
+    ∙ ap (λ (f : Fault). Stops (refusal f)) (ap (λ (n : ℕ). record { place = places.Record p.connections Server n stop.at; reason = stop.reason }) (sym m.agrees.1) ∙ sym is)
 reply_refused p t table run all errors.Read m h = h
 reply_refused p t table run all errors.Write m h = h
 reply_refused p t table run all errors.Memory m h = tt

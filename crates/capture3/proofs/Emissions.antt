@@ -92,7 +92,7 @@ byte_emits at total connections records joining (Length side part) j byte = leng
 byte_emits at total connections records joining (Chunk side left) j byte = chunk_emits at total connections records left side j (join_next joining byte)
 byte_emits at total connections records joining Ended j byte = tt
 
-emits : (u : Unpacking) (j : Judged) (byte : ℕ) → EmitsOn j (emitted_at u.opened j) (unpack_next u byte)
+pub emits : (u : Unpacking) (j : Judged) (byte : ℕ) → EmitsOn j (emitted_at u.opened j) (unpack_next u byte)
 emits u j byte = byte_emits u.at u.total u.connections u.records u.joining u.opened j byte
 
 -- where it runs nothing is whole

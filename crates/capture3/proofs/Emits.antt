@@ -18,7 +18,7 @@ use Rattle.capture3.proofs.Reaches.{whole_stands, stands_whole}
 use Rattle.capture3.proofs.Verdicts.{told, shows_from_stops, stops_from_shows, clean_from_runs, typed_from_verdict, verdict_from_typed}
 
 -- what the machine emits is what the bytes reach
-landed_ends : (shown : Refusal) (n : Next Parsing Refusal) → landed n ≡ Stops shown → n ≡ Ends shown
+pub landed_ends : (shown : Refusal) (n : Next Parsing Refusal) → landed n ≡ Stops shown → n ≡ Ends shown
 landed_ends shown (Goes t) e = absurd (cc)
 landed_ends shown (Ends x) e = cc
 

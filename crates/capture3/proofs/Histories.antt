@@ -1,5 +1,5 @@
 -- What a reader of entries makes of its histories, step by step.
-use Rattle.std.proofs.Common.{◌≡◌, ◌≢◌, inl, inr, ℕ, ◌+◌, ◌-◌, ◌≤◌, ◌<◌, Option, Some, None, Result, Ok, Err, IfOk, IfErr, IsSome, List, [], ◌∷◌, ◌++◌, length, take, drop, slice_range, refl, sym, ap, subst, ◌∙◌, append_assoc, append-nil, length-append, arith, take-append-drop, length-take, length-drop}
+use Rattle.std.proofs.Common.{◌≡◌, ◌≢◌, inl, inr, ℕ, ◌+◌, ◌-◌, ◌≤◌, ◌<◌, Option, Some, None, Result, Ok, Err, IfOk, IfErr, OnOk, IsSome, List, [], ◌∷◌, ◌++◌, length, take, drop, slice_range, refl, sym, ap, subst, ◌∙◌, append_assoc, append-nil, length-append, arith, take-append-drop, length-take, length-drop}
 use Rattle.std.proofs.lemmas.Grind.{common_steps}
 use Rattle.std.proofs.lemmas.List.{drop-take}
 use Rattle.std.proofs.Math.Logic.{∥∥₁_elim}
@@ -26,22 +26,24 @@ use Rattle.capture3.specs.declared.position.Spot.{Spot}
 use Rattle.capture3.specs.declared.position.Spot.TheVariants as spots
 use Rattle.capture3.specs.Connections.{Refusal}
 use Rattle.capture3.specs.Container.{unpacking_of}
-use Rattle.capture3.specs.Entries.{AreAllBeforeEnd, IsMetBy, left_in, entries_left, unjudged, IsReading, StandsIn, StandsFor, HasRead, GoesOn, Turns, HandsOut, Answers}
+use Rattle.capture3.specs.Entries.{AreAllBeforeEnd, AreFirstReached, IsMetBy, failure_in, failure_of, left_in, entries_left, unjudged, IsReading, StandsIn, StandsFor, HasRead, GoesOn, Turns, HandsOut, Answers}
 use Rattle.capture3.specs.Entry.{Entry, End}
 use Rattle.capture3.specs.FirstFault.{FirstFault, IsClean}
 use Rattle.capture3.specs.Judges.{StandsAt, GoesTo, FailsAt, IsOfBytes, entry_cost}
 use Rattle.capture3.specs.Laws.{AreWithinLimits, most_bytes}
 use Rattle.capture3.specs.Parsing.{Parsing, file_next, file_start, parsed, emitted}
 use Rattle.capture3.specs.Position.{IsSound, IsSoundAt, opened_at, most_entries, room_of}
-use Rattle.capture3.specs.Reached.{AreWhole}
+use Rattle.capture3.specs.Reached.{AreWhole, Reached}
 use Rattle.capture3.specs.Resumed.{Judged, resumed_at, parsing_at, emitted_at}
 use Rattle.capture3.specs.Sides.{file_fault}
-use Rattle.capture3.specs.Typed.{Typed}
+use Rattle.capture3.specs.Typed.{IsWellFormed, Typed}
 use Rattle.capture3.specs.Unpacking.{Opened, Magic, Mark, Length, Chunk, Ended}
 use Rattle.capture3.proofs.BytesOf.{AreBytes-append, split_bytes}
 use Rattle.capture3.proofs.Limits.{typed_within, whole_within}
+use Rattle.capture3.proofs.Growing.{emitted_is}
 use Rattle.capture3.proofs.Parsed.{cut_at, typed_at}
 use Rattle.capture3.proofs.Reaches.{stands_whole}
+use Rattle.capture3.proofs.Refusals.{first_reached, refused_behind}
 use Rattle.capture3.proofs.Sizes.{clean_size}
 use Rattle.capture3.proofs.Verdicts.{clean_from_runs, shows_from_stops, told, verdict_from_fault, verdict_from_typed}
 
@@ -70,17 +72,6 @@ pub running_joiner : (t : Taking) → ∥ IsRunning t ∥₁ → IsRunning t
 running_joiner t h = ∥∥₁_elim h (running-prop t) (λ s. s)
 
 -- ---- behind bytes that the machine has taken
-
-emitted_is : (at total connections : ℕ) (joining : Joining) (o : Opened) (j : Judged) → emitted (resumed_at at total connections joining o j) ≡ emitted_at o j
-emitted_is at total connections joining (Magic []) j = append-nil j.entries
-emitted_is at total connections joining (Magic (due ∷ [])) j = append-nil j.entries
-emitted_is at total connections joining (Magic (due ∷ next ∷ more)) j = append-nil j.entries
-emitted_is at total connections joining (Mark part) j = append-nil j.entries
-emitted_is at total connections joining (Length Client part) j = refl
-emitted_is at total connections joining (Length Server part) j = refl
-emitted_is at total connections joining (Chunk Client left) j = refl
-emitted_is at total connections joining (Chunk Server left) j = refl
-emitted_is at total connections joining Ended j = append-nil j.entries
 
 module _ (bytes : List ℕ) (p : Position) (t : Taking) (table : List NumberedCall) (model : List Entry) (are : AreBytes bytes) (s : StandsAt p t table (parsed bytes) model) where
   state : Parsing
@@ -139,41 +130,32 @@ typed_here bytes p t table model are s ended = typed_at bytes p t table (parsed 
 pub cut_here : (bytes : List ℕ) (p : Position) (t : Taking) (table : List NumberedCall) (model : List Entry) → AreBytes bytes → StandsAt p t table (parsed bytes) model → p.spot ≢ spots.Ended → FirstFault bytes (file_fault (length bytes) CaptureCut)
 cut_here bytes p t table model are s not = cut_at bytes p t table (parsed bytes) model are s refl not
 
--- what was emitted is what the bytes reach
+-- short of the end, what was emitted is what the bytes reach
+pub not_ended : (bytes : List ℕ) (p : Position) (t : Taking) (table : List NumberedCall) (model : List Entry) → AreBytes bytes → StandsAt p t table (parsed bytes) model → p.spot ≢ spots.Ended → (IsWellFormed bytes → ⊥) × Reached bytes model
+not_ended bytes p t table model are s not =
+    let cut = verdict_from_fault bytes (file_fault (length bytes) CaptureCut) are (cut_here bytes p t table model are s not) in
+    let bad : IsWellFormed bytes → ⊥ = λ w. let typed = verdict_from_typed bytes w.0 w.1 in cc in (
+      bad,
+      inr (
+        bad,
+        bytes,
+        model,
+        [],
+        record { rest = []; split = sym (append-nil bytes); clean = clean_here bytes p t table model are s; longest = inl (refl, refl) },
+        whole_here bytes p t table model are s,
+        sym (append-nil model),
+      ),
+    )
+
 pub all_before_end : (bytes : List ℕ) (p : Position) (t : Taking) (table : List NumberedCall) (model : List Entry) → AreBytes bytes → StandsAt p t table (parsed bytes) model → AreAllBeforeEnd bytes model
 all_before_end bytes p t table model are s = by_spot p.spot refl
   where
-    not_ended : p.spot ≢ spots.Ended → AreAllBeforeEnd bytes model
-    not_ended not =
-        let cut = verdict_from_fault bytes (file_fault (length bytes) CaptureCut) are (cut_here bytes p t table model are s not) in
-        inr (
-          (λ w. let typed = verdict_from_typed bytes w.0 w.1 in cc),
-          inr (
-            (λ w. let typed = verdict_from_typed bytes w.0 w.1 in cc),
-            bytes,
-            model,
-            [],
-            record { rest = []; split = sym (append-nil bytes); clean = clean_here bytes p t table model are s; longest = inl (refl, refl) },
-            whole_here bytes p t table model are s,
-            sym (append-nil model),
-          ),
-        )
-
     by_spot : (spot : Spot) → p.spot ≡ spot → AreAllBeforeEnd bytes model
-    by_spot spots.Magic is = not_ended (λ e. cc)
-    by_spot (spots.Mark part) is = not_ended (λ e. cc)
-    by_spot (spots.Length side part) is = not_ended (λ e. cc)
-    by_spot (spots.Chunk side left) is = not_ended (λ e. cc)
+    by_spot spots.Magic is = inr (not_ended bytes p t table model are s (λ e. cc))
+    by_spot (spots.Mark part) is = inr (not_ended bytes p t table model are s (λ e. cc))
+    by_spot (spots.Length side part) is = inr (not_ended bytes p t table model are s (λ e. cc))
+    by_spot (spots.Chunk side left) is = inr (not_ended bytes p t table model are s (λ e. cc))
     by_spot spots.Ended is = inl (typed_here bytes p t table model are s is)
-
--- a fault along the bytes is the first, whatever comes behind them
-pub fault_within : (front piece rest : List ℕ) (fault : Fault) → AreBytes (front ++ piece) → FailsAt (parsed front) piece (errors.Refused fault) → FirstFault ((front ++ piece) ++ rest) fault
-fault_within front piece rest fault are (n, fits, (shown, stops, is)) =
-    let begun : List ℕ = front ++ take n piece in
-    let back : List ℕ = drop n piece in
-    let split : front ++ piece ≡ begun ++ back = ap (λ (b : List ℕ). front ++ b) (sym (take-append-drop n piece)) ∙ sym (append_assoc front (take n piece) back) in
-    let shows = shows_from_stops begun shown (split_bytes (front ++ piece) begun back split are).0 (after-append file_next (Runs file_start) front (take n piece) ∙ stops) in
-    inl (begun, back ++ rest, shown, ap (λ (b : List ℕ). b ++ rest) split ∙ append_assoc begun back rest, shows, sym is)
 
 -- ---- what was consumed
 
@@ -227,6 +209,19 @@ module _ {R : Type 0} (left : R → Option (List ℕ)) where
 
   room_before : (e : Entries R) (given : List ℕ) (handed : List Entry) → e.stage ≡ Reading → StandsFor left e given handed → length handed + (room_of e.capture.container.position + 1) ≤ most_entries
   room_before e given handed is s = omega (arith, s.few, room_in e is)
+
+  -- what was handed out are the first entries that the bytes reach
+  first_in : (e : Entries R) (given : List ℕ) (handed : List Entry) → AreBytes given → IsReading e given handed → AreFirstReached given handed
+  first_in e given handed are r =
+      subst (λ (b : List ℕ). AreFirstReached b handed) (sym r.split) (first_reached r.judged (unjudged e) _ _ _ handed (subst AreBytes r.split are) r.machine)
+
+  pub stands_first : (e : Entries R) (given : List ℕ) (handed : List Entry) → failure_of e ≡ None → StandsFor left e given handed → AreFirstReached given handed
+  stands_first e given handed goes s = by_stage e.stage refl s.here
+    where
+      by_stage : (stage : Stage) → e.stage ≡ stage → StandsIn stage (left e.source.now) e given handed → AreFirstReached given handed
+      by_stage Reading is h = first_in e given handed s.bytes h
+      by_stage Over is h = ([], subst (Reached given) (sym (append-nil handed)) (inl h.0))
+      by_stage (Failed error) is h = let failed : failure_of e ≡ Some error = ap failure_in is in absurd (cc)
 
   -- ---- a read
 
@@ -293,15 +288,16 @@ module _ {R : Type 0} (left : R → Option (List ℕ)) where
         stands_reading new given (handed ++ entry ∷ []) goes s.bytes (omega (arith, room_before old given handed is s, room, length-append handed (entry ∷ []))) (moves_on old new count given handed (handed ++ entry ∷ []) judged block fits within r machine),
       )
 
-  fails_by : (e : Entries R) (error : Error) (given : List ℕ) (handed : List Entry) (known : Option (List ℕ)) → AreBytes given → (r : IsReading e given handed) → FailsAt (parsed r.judged) (unjudged e) error → IsMetBy error known given handed
+  fails_by : (e : Entries R) (error : Error) (given : List ℕ) (handed : List Entry) (known : Option (List ℕ)) → AreBytes given → (r : IsReading e given handed) → FailsAt (parsed r.judged) handed (unjudged e) error → IsMetBy error known given handed
   fails_by e (errors.Refused fault) given handed known are r f = λ rest is.
-      subst (λ (b : List ℕ). FirstFault (b ++ rest) fault) (sym r.split) (fault_within r.judged (unjudged e) rest fault (subst AreBytes r.split are) f)
+      let refused = refused_behind r.judged (unjudged e) rest handed fault (subst AreBytes r.split are) f in
+      subst (λ (b : List ℕ). FirstFault (b ++ rest) fault × Reached (b ++ rest) handed) (sym r.split) refused
   fails_by e errors.Read given handed known are r f = absurd f
   fails_by e errors.Write given handed known are r f = absurd f
-  fails_by e errors.Memory given handed known are r f = tt
+  fails_by e errors.Memory given handed known are r f = first_in e given handed are r
 
   pub judged_failed : (old new : Entries R) (error : Error) (given : List ℕ) (handed : List Entry) → old.stage ≡ Reading → new.stage ≡ Failed error → (s : StandsFor left old given handed)
-      → ((judged : List ℕ) → StandsAt old.capture.container.position old.capture.container.joiner old.capture.calls (parsed judged) handed → FailsAt (parsed judged) (unjudged old) error) → StandsFor left new given handed
+      → ((judged : List ℕ) → StandsAt old.capture.container.position old.capture.container.joiner old.capture.calls (parsed judged) handed → FailsAt (parsed judged) handed (unjudged old) error) → StandsFor left new given handed
   judged_failed old new error given handed is fails s shows =
       let r = reading_of old given handed is s in
       stands_failed old new error given handed fails s (fails_by old error given handed (left new.source.now) s.bytes r (shows r.judged r.machine))
@@ -330,10 +326,11 @@ module _ {R : Type 0} (left : R → Option (List ℕ)) where
   cut_short old new error given handed is fails empty not cut end s =
       let r = reading_of old given handed is s in
       let size : old.judged ≡ length given = r.counted ∙ ap length (sym (all_judged old given handed empty r)) in
-      let first : FirstFault given (file_fault old.judged CaptureCut) =
-      subst (λ (n : ℕ). FirstFault given (file_fault n CaptureCut)) (sym size) (cut_here given _ _ _ handed s.bytes (machine_at old given handed empty r) not) in
+      let at = machine_at old given handed empty r in
+      let first : FirstFault given (file_fault old.judged CaptureCut) = subst (λ (n : ℕ). FirstFault given (file_fault n CaptureCut)) (sym size) (cut_here given _ _ _ handed s.bytes at not) in
+      let reached = (not_ended given _ _ _ handed s.bytes at not).1 in
       stands_failed old new error given handed fails s
-      (subst (λ (e : Error). IsMetBy e (left new.source.now) given handed) (sym cut) (λ rest known. subst (λ (b : List ℕ). FirstFault b (file_fault old.judged CaptureCut)) (nothing_behind given (left new.source.now) rest end known) first))
+      (subst (λ (e : Error). IsMetBy e (left new.source.now) given handed) (sym cut) (λ rest known. subst (λ (b : List ℕ). FirstFault b (file_fault old.judged CaptureCut) × Reached b handed) (nothing_behind given (left new.source.now) rest end known) (first, reached)))
 
   -- ---- one after another
 
@@ -382,13 +379,13 @@ module _ {R : Type 0} (left : R → Option (List ℕ)) where
   met_by : (e : Entries R) (error : Error) (given : List ℕ) (handed : List Entry) → e.stage ≡ Failed error → StandsFor left e given handed → IsMetBy error (left e.source.now) given handed
   met_by e error given handed is s = subst (λ (stage : Stage). StandsIn stage (left e.source.now) e given handed) is s.here
 
-  hands_out : (e : Entries R) (given : List ℕ) (handed : List Entry) (result : Result (Option kept.Entry) Error) → IfOk result (λ next. IsSome next) → IfErr result (λ error. e.stage ≡ Failed error) → GoesOn left e given handed result → HandsOut left e given handed result
-  hands_out e given handed (Ok (Some one)) some fails h = h
-  hands_out e given handed (Ok None) some fails h = absurd (cc)
-  hands_out e given handed (Err error) some fails h = (met_by e error given handed fails h, h)
+  hands_out : (e : Entries R) (given : List ℕ) (handed : List Entry) (result : Result (Option kept.Entry) Error) → IfOk result (λ next. IsSome next) → OnOk result (failure_of e ≡ None) → IfErr result (λ error. e.stage ≡ Failed error) → GoesOn left e given handed result → HandsOut left e given handed result
+  hands_out e given handed (Ok (Some one)) some goes fails (entry, is_kept, stands) = (entry, is_kept, stands_first e given (handed ++ entry ∷ []) goes stands, stands)
+  hands_out e given handed (Ok None) some goes fails h = absurd (cc)
+  hands_out e given handed (Err error) some goes fails h = (met_by e error given handed fails h, h)
 
-  pub answers : (old new : Entries R) (given : List ℕ) (handed : List Entry) (result : Result (Option kept.Entry) Error) → IfOk result (λ next. IsSome next) → IfErr result (λ error. new.stage ≡ Failed error) → Turns left old new given handed result → Answers left old new given handed result
-  answers old new given handed result some fails t = record { more = t.more; consumed = t.consumed; hands_out = hands_out new (given ++ t.more) handed result some fails t.goes_on }
+  pub answers : (old new : Entries R) (given : List ℕ) (handed : List Entry) (result : Result (Option kept.Entry) Error) → IfOk result (λ next. IsSome next) → OnOk result (failure_of new ≡ None) → IfErr result (λ error. new.stage ≡ Failed error) → Turns left old new given handed result → Answers left old new given handed result
+  answers old new given handed result some goes fails t = record { more = t.more; consumed = t.consumed; hands_out = hands_out new (given ++ t.more) handed result some goes fails t.goes_on }
 
   pub answers_none : (e : Entries R) (given : List ℕ) (handed : List Entry) → e.stage ≡ Over → StandsFor left e given handed → Answers left e e given handed (Ok None)
   answers_none e given handed is s =

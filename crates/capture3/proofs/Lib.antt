@@ -23,6 +23,8 @@ pub mod Limits
 pub mod Sizes
 pub mod Examples
 pub mod Emissions
+pub mod Growing
+pub mod Refusals
 pub mod Captures
 pub mod Overs
 pub mod SideRules

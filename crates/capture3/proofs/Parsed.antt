@@ -1,5 +1,5 @@
 -- A whole file: from where its machine stands to what is to be said of it.
-use Rattle.std.proofs.Common.{◌≡◌, ◌≢◌, ℕ, zero, suc, ◌+◌, ◌-◌, Option, Some, None, take-append-drop, List, [], ◌∷◌, ◌++◌, length, take, drop, refl, sym, ap, ◌∙◌, subst, Ok, Err}
+use Rattle.std.proofs.Common.{◌≡◌, ◌≢◌, ℕ, zero, suc, ◌+◌, ◌-◌, Option, Some, None, take-append-drop, List, [], ◌∷◌, ◌++◌, length, take, take_all, drop, length-drop, append-nil, arith, refl, sym, ap, ◌∙◌, subst, Ok, Err}
 use Rattle.xdr3.specs.declared.reason.Reason.TheVariants.{CaptureCut}
 use Rattle.xdr3.specs.Item.{AreBytes}
 use Rattle.record_mark.specs.Joining.{Joining}
@@ -31,6 +31,7 @@ use Rattle.capture3.specs.Typed.{Typed}
 use Rattle.capture3.specs.declared.position.TheConstants.{MAGIC}
 use Rattle.capture3.proofs.Containers.{piece_more}
 use Rattle.capture3.specs.Unpacking.{left_of_magic, Opened, Magic, Mark, Length, Chunk, Ended}
+use Rattle.capture3.proofs.Refusals.{refused_behind}
 use Rattle.capture3.proofs.Verdicts.{typed_from_verdict, fault_from_verdict, stays}
 
 pub kept_snoc : (items : List kept.Entry) (model : List Entry) (one : kept.Entry) (entry : Entry) → AreKept items model → IsKept one entry → AreKept (items ++ one ∷ []) (model ++ entry ∷ [])
@@ -90,32 +91,31 @@ cut_at bytes p t table run model are s is not =
     (ap (verdict_of (length bytes)) (sym is ∙ s.stands)
     ∙ cut_concludes (length bytes) p.at p.total p.connections (unpacking_of p t).joining (opened_at p.spot p.at) s.so_far (λ e. not (ended_only p.spot p.at e)))
 
--- a fault along the bytes at hand is the file's first
-pub first_fault : (bytes : List ℕ) (n : ℕ) (error : Error) (fault : Fault) → AreBytes bytes → FailsAt (parsed (take n bytes)) (take (length bytes - n) (drop n bytes)) error → error ≡ errors.Refused fault → FirstFault bytes fault
-first_fault bytes n (errors.Refused met) fault are (m, fits, (shown, stops, is)) e =
-    fault_from_verdict bytes fault are
-    (ap (λ (b : List ℕ). verdict_of (length bytes) (parsed b)) (sym (take-append-drop (n + m) bytes))
-    ∙ ap (verdict_of (length bytes)) (after-append file_next (Runs file_start) (take (n + m) bytes) (drop (n + m) bytes) ∙ ap (λ r. after file_next r (drop (n + m) bytes)) (piece_more file_next (Runs file_start) bytes n m ∙ stops))
-    ∙ stays (length bytes) shown (drop (n + m) bytes)
-    ∙ cc)
-first_fault bytes n errors.Read fault are f e = absurd (cc)
-first_fault bytes n errors.Write fault are f e = absurd (cc)
-first_fault bytes n errors.Memory fault are f e = absurd (cc)
-
 pub refused_is : (fault other : Fault) → errors.Refused fault ≡ errors.Refused other → fault ≡ other
 refused_is fault other e = cc
 
-pub never_reads : (run : Run Parsing Refusal) (rest : List ℕ) (error : Error) → FailsAt run rest error → error ≢ errors.Read
-never_reads run rest (errors.Refused met) f = λ e. cc
-never_reads run rest errors.Read f = absurd f
-never_reads run rest errors.Write f = absurd f
-never_reads run rest errors.Memory f = λ e. cc
+-- a fault along the bytes at hand is the file's first
+pub first_fault : (bytes : List ℕ) (n : ℕ) (entries : List Entry) (error : Error) (fault : Fault) → AreBytes bytes → FailsAt (parsed (take n bytes)) entries (take (length bytes - n) (drop n bytes)) error → error ≡ errors.Refused fault → FirstFault bytes fault
+first_fault bytes n entries (errors.Refused met) fault are f e =
+    let rest : take (length bytes - n) (drop n bytes) ≡ drop n bytes = take_all (length bytes - n) (drop n bytes) (omega (arith, length-drop n bytes)) in
+    let whole : take n bytes ++ take (length bytes - n) (drop n bytes) ≡ bytes = ap (λ (b : List ℕ). take n bytes ++ b) rest ∙ take-append-drop n bytes in
+    let refused = refused_behind (take n bytes) (take (length bytes - n) (drop n bytes)) [] entries met (subst AreBytes (sym whole) are) f in
+    subst (λ (b : List ℕ). FirstFault b fault) (append-nil _ ∙ whole) (subst (FirstFault _) (refused_is met fault e) refused.0)
+first_fault bytes n entries errors.Read fault are f e = absurd (cc)
+first_fault bytes n entries errors.Write fault are f e = absurd (cc)
+first_fault bytes n entries errors.Memory fault are f e = absurd (cc)
 
-pub never_writes : (run : Run Parsing Refusal) (rest : List ℕ) (error : Error) → FailsAt run rest error → error ≢ errors.Write
-never_writes run rest (errors.Refused met) f = λ e. cc
-never_writes run rest errors.Read f = absurd f
-never_writes run rest errors.Write f = absurd f
-never_writes run rest errors.Memory f = λ e. cc
+pub never_reads : (run : Run Parsing Refusal) (entries : List Entry) (rest : List ℕ) (error : Error) → FailsAt run entries rest error → error ≢ errors.Read
+never_reads run entries rest (errors.Refused met) f = λ e. cc
+never_reads run entries rest errors.Read f = absurd f
+never_reads run entries rest errors.Write f = absurd f
+never_reads run entries rest errors.Memory f = λ e. cc
+
+pub never_writes : (run : Run Parsing Refusal) (entries : List Entry) (rest : List ℕ) (error : Error) → FailsAt run entries rest error → error ≢ errors.Write
+never_writes run entries rest (errors.Refused met) f = λ e. cc
+never_writes run entries rest errors.Read f = absurd f
+never_writes run entries rest errors.Write f = absurd f
+never_writes run entries rest errors.Memory f = λ e. cc
 
 -- ---- along the bytes
 

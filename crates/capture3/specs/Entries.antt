@@ -29,13 +29,17 @@ CountsReading old new _ = new ≡ old
 abbrev pub AreAllBeforeEnd : List ℕ → List Entry → Type 0
 AreAllBeforeEnd bytes entries = Typed bytes (entries ++ End ∷ []) ⊎ ((IsWellFormed bytes → ⊥) × Reached bytes entries)
 
--- What an error says, behind the bytes given and the entries handed out, where so much is left: the fault is the first of all bytes; or a read
--- failed, and what the bytes given reach was handed out; or memory ran out.
+-- the first of the entries that the bytes reach, or all
+abbrev pub AreFirstReached : List ℕ → List Entry → Type 0
+AreFirstReached bytes entries = (more : List Entry) × Reached bytes (entries ++ more)
+
+-- What an error says, behind the bytes given and the entries handed out, where so much is left: the fault is the first of all bytes, which reach
+-- just these entries; or a read failed, and what the bytes given reach was handed out; or memory ran out.
 abbrev pub IsMetBy : Error → Option (List ℕ) → List ℕ → List Entry → Type 0
-IsMetBy (errors.Refused fault) left given handed = (rest : List ℕ) → left ≡ Some rest → FirstFault (given ++ rest) fault
+IsMetBy (errors.Refused fault) left given handed = (rest : List ℕ) → left ≡ Some rest → FirstFault (given ++ rest) fault × Reached (given ++ rest) handed
 IsMetBy errors.Read left given handed = AreAllBeforeEnd given handed
 IsMetBy errors.Write left given handed = ⊥
-IsMetBy errors.Memory left given handed = ⊤
+IsMetBy errors.Memory left given handed = AreFirstReached given handed
 
 -- the error that is answered for good
 abbrev pub failure_in : Stage → Option Error
@@ -81,9 +85,10 @@ module _ {R : Type 0} where
 
   -- ---- what a call makes of a history
 
-  -- The next entry is handed out, and kept. None comes where no byte is left, behind all entries of a well-formed capture.
+  -- The next entry is handed out, and kept: the next of those that the bytes reach. None comes where no byte is left, behind all entries of a
+  -- well-formed capture.
   abbrev pub HandsOut : (R → Option (List ℕ)) → Entries R → List ℕ → List Entry → Result (Option kept.Entry) Error → Type 0
-  HandsOut left new given handed (Ok (Some one)) = (entry : Entry) × IsKept one entry × StandsFor left new given (handed ++ entry ∷ [])
+  HandsOut left new given handed (Ok (Some one)) = (entry : Entry) × IsKept one entry × AreFirstReached given (handed ++ entry ∷ []) × StandsFor left new given (handed ++ entry ∷ [])
   HandsOut left new given handed (Ok None) = Typed given handed × IsAtEnd (left new.source.now) × StandsFor left new given handed
   HandsOut left new given handed (Err error) = IsMetBy error (left new.source.now) given handed × StandsFor left new given handed
 

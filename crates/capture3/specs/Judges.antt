@@ -14,19 +14,20 @@ use Rattle.capture3.specs.declared.entry.KeptCall.{KeptCall}
 use Rattle.capture3.specs.declared.entry.KeptReply.{KeptReply}
 use Rattle.capture3.specs.declared.fault.Error.{Error}
 use Rattle.capture3.specs.declared.fault.Error.TheVariants as errors
+use Rattle.capture3.specs.declared.fault.Fault.{Fault}
 use Rattle.capture3.specs.declared.fault.Place.TheVariants as places
 use Rattle.capture3.specs.declared.fault.Side.{Side}
 use Rattle.capture3.specs.declared.position.Event.{Event}
 use Rattle.capture3.specs.declared.position.Event.TheVariants.{Begin, Record, Turn, Close}
 use Rattle.capture3.specs.declared.position.Position.{Position}
 use Rattle.capture3.specs.Bodies.{ReplyItems, IsCall, IsReply}
-use Rattle.capture3.specs.Connections.{Refusal}
+use Rattle.capture3.specs.Connections.{Refusal, refusal}
 use Rattle.capture3.specs.Container.{unpacking_of}
 use Rattle.capture3.specs.Entry.{Entry}
 use Rattle.capture3.specs.Judging.{judge_call, judge_reply}
 use Rattle.capture3.specs.Kept.{IsKept}
 use Rattle.capture3.specs.Messages.{IsTableOf}
-use Rattle.capture3.specs.Parsing.{Parsing, file_next}
+use Rattle.capture3.specs.Parsing.{Parsing, file_next, emitted}
 use Rattle.capture3.specs.Position.{unpacking_at}
 use Rattle.capture3.specs.Resumed.{Judged, parsing_at, resumed, Agrees, AgreesOn, emitted_at, EmitsOn}
 use Rattle.capture3.specs.Unpacking.{Unpacked, Has}
@@ -63,15 +64,26 @@ GoesTo (Some one) position taking table run entries = (entry : Entry) × IsKept 
 
 -- the last byte of the run shows the fault, unless memory ran out
 abbrev pub EndsWith : Run Parsing Refusal → Error → Type 0
-EndsWith run (errors.Refused fault) = (shown : Refusal) × (run ≡ Stops shown) × (shown.fault ≡ fault)
+EndsWith run (errors.Refused fault) = run ≡ Stops (refusal fault)
 EndsWith run errors.Memory = Unit {0}
 EndsWith run _ = ⊥
 
--- some of the bytes lead the run to the fault, unless memory ran out
-abbrev pub FailsAt : Run Parsing Refusal → List ℕ → Error → Type 0
-FailsAt run bytes (errors.Refused fault) = (n : ℕ) × (n ≤ length bytes) × EndsWith (after file_next run (take n bytes)) (errors.Refused fault)
-FailsAt run bytes errors.Memory = Unit {0}
-FailsAt run bytes _ = ⊥
+-- One of the bytes shows the fault. The run goes on up to it, nothing more is whole before it, and it reaches no entry.
+pub record ShowsWithin (run : Run Parsing Refusal) (entries : List Entry) (bytes : List ℕ) (fault : Fault) : Type 0 where
+  pub front : List ℕ
+  pub byte : ℕ
+  pub back : List ℕ
+  pub state : Parsing
+  pub split : bytes ≡ front ++ byte ∷ back
+  pub runs : after file_next run front ≡ Runs state
+  pub emits : emitted state ≡ entries
+  pub ends : file_next state byte ≡ Ends (refusal fault)
+
+-- the bytes show the fault, unless memory ran out
+abbrev pub FailsAt : Run Parsing Refusal → List Entry → List ℕ → Error → Type 0
+FailsAt run entries bytes (errors.Refused fault) = ShowsWithin run entries bytes fault
+FailsAt run entries bytes errors.Memory = Unit {0}
+FailsAt run entries bytes _ = ⊥
 
 -- ---- one record
 

@@ -57,7 +57,7 @@ impl Capture {
         ensures running { OnOk result (IsRunning self.new.container.joiner) }
         ensures room { IfOk result (λ r. room_of self.new.container.position + entry_cost r.1 ≤ room_of self.old.container.position) }
         ensures machine { (run : Run Parsing Refusal) (entries : List spec.Entry) → StandsAt self.old.container.position self.old.container.joiner self.old.calls run entries → IfOk result (λ r. GoesTo r.1 self.new.container.position self.new.container.joiner self.new.calls (after file_next run (take r.0 piece.now)) entries) }
-        ensures fault { (run : Run Parsing Refusal) (entries : List spec.Entry) → StandsAt self.old.container.position self.old.container.joiner self.old.calls run entries → IfErr result (FailsAt run piece.now) }
+        ensures fault { (run : Run Parsing Refusal) (entries : List spec.Entry) → StandsAt self.old.container.position self.old.container.joiner self.old.calls run entries → IfErr result (FailsAt run entries piece.now) }
         ensures device { IfErr result IsOfBytes }
     {
         match self.container.advance(piece) {

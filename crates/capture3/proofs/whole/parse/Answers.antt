@@ -43,14 +43,14 @@ loop-taken-preserved c =
 
 pub returns-in-Err-clause-fault : goal.returns-in-Err-clause-fault
 returns-in-Err-clause-fault c fault e =
-    first_fault c.args.bytes.now c.loop-taken.taken c.in-Err.error fault (λ i. omega (arith, c.type_inv.bytes i))
+    first_fault c.args.bytes.now c.loop-taken.taken c.loop-taken.invariant.machine.0 c.in-Err.error fault (λ i. omega (arith, c.type_inv.bytes i))
     (c.in-Err.ensures.fault (parsed (take c.loop-taken.taken c.args.bytes.now)) c.loop-taken.invariant.machine.0 c.loop-taken.invariant.machine.1) e
 
 pub returns-in-Err-clause-read : goal.returns-in-Err-clause-read
-returns-in-Err-clause-read c = never_reads _ _ c.in-Err.error (c.in-Err.ensures.fault (parsed (take c.loop-taken.taken c.args.bytes.now)) c.loop-taken.invariant.machine.0 c.loop-taken.invariant.machine.1)
+returns-in-Err-clause-read c = never_reads _ _ _ c.in-Err.error (c.in-Err.ensures.fault (parsed (take c.loop-taken.taken c.args.bytes.now)) c.loop-taken.invariant.machine.0 c.loop-taken.invariant.machine.1)
 
 pub returns-in-Err-clause-write : goal.returns-in-Err-clause-write
-returns-in-Err-clause-write c = never_writes _ _ c.in-Err.error (c.in-Err.ensures.fault (parsed (take c.loop-taken.taken c.args.bytes.now)) c.loop-taken.invariant.machine.0 c.loop-taken.invariant.machine.1)
+returns-in-Err-clause-write c = never_writes _ _ _ c.in-Err.error (c.in-Err.ensures.fault (parsed (take c.loop-taken.taken c.args.bytes.now)) c.loop-taken.invariant.machine.0 c.loop-taken.invariant.machine.1)
 
 pub returns-in-Ok-clause-entries : goal.returns-in-Ok-clause-entries
 returns-in-Ok-clause-entries c =

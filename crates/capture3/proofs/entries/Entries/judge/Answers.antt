@@ -27,7 +27,7 @@ returns-in-Ok-clause-goes_on g c given handed s =
 pub returns-in-Err-clause-goes_on : goal.returns-in-Err-clause-goes_on
 returns-in-Err-clause-goes_on g c given handed s =
     judged_failed g.R.Source.left c.args.self.now _ c.in-Err.error given handed c.requires.reading refl s
-    (λ judged at. subst (λ (items : List ℕ). FailsAt (parsed judged) (slice_range items c.args.self.now.start c.args.self.now.end) c.in-Err.error) c.deref.ensures.value (c.in-Err.ensures.fault (parsed judged) handed at))
+    (λ judged at. subst (λ (items : List ℕ). FailsAt (parsed judged) handed (slice_range items c.args.self.now.start c.args.self.now.end) c.in-Err.error) c.deref.ensures.value (c.in-Err.ensures.fault (parsed judged) handed at))
 
 pub returns-in-Err-clause-never_reads : goal.returns-in-Err-clause-never_reads
 returns-in-Err-clause-never_reads g c = not_read c.in-Err.error c.in-Err.ensures.device

@@ -12,7 +12,7 @@ returns-in-Ok-clause-machine c run all s = c.in-Ok.ensures.machine (after file_n
 
 pub returns-in-Err-entry-clause-fault : goal.returns-in-Err-entry-clause-fault
 returns-in-Err-entry-clause-fault c run all s =
-    ends_fails run c.args.piece.now c.in-Ok-default-Some.count c.in-Err-entry.error c.in-Ok-default-Some.ensures.within
+    ends_fails _ _ _ _ _ run all c.args.piece.now c.in-Ok-default-Some.count _ _ c.in-Err-entry.error s c.in-Ok-default-Some.field-0-1-is c.in-Ok-default-Some.ensures.machine
     (c.in-Err-entry.ensures.fault (after file_next run (take c.in-Ok-default-Some.count c.args.piece.now)) all (stands_met _ _ _ _ _ _ _ (take c.in-Ok-default-Some.count c.args.piece.now) _ _ s c.in-Ok-default-Some.field-0-1-is c.in-Ok-default-Some.ensures.machine))
 
 pub returns-in-Err-clause-fault : goal.returns-in-Err-clause-fault
