@@ -5,6 +5,7 @@
     make.py long OUT            a raw call with the longest body that a record may have
     make.py mixed MEGABYTES OUT what a file server sees: attributes, names, folders, and data of 32 to 64 KiB
     make.py small MEGABYTES OUT GETATTR, LOOKUP and ACCESS alone
+    make.py xids OUT            one connection of 1,000,000 NULL calls with different xids, and their replies
 
 All are well formed, and the same at each run. Messages are written as they are made, so memory stays small.
 """
@@ -168,6 +169,17 @@ def write_long(out):
     out.write(word(0) + word(0))
 
 
+def write_xids(out):
+    """One connection of 1,000,000 NULL calls with different xids, and their replies in the other order."""
+    out.write(MAGIC + word(1))
+    for xid in range(1_000_000):
+        out.write(record(call(xid, NFS, 3, 0)))
+    out.write(word(0))
+    for xid in reversed(range(1_000_000)):
+        out.write(record(success(xid)))
+    out.write(word(0) + word(0))
+
+
 def megabytes(text):
     number = int(text)
     if not 1 <= number <= MOST_MEGABYTES:
@@ -178,7 +190,7 @@ def megabytes(text):
 def main():
     parser = argparse.ArgumentParser(description=__doc__, formatter_class=argparse.RawDescriptionHelpFormatter)
     kinds = parser.add_subparsers(dest='kind', required=True)
-    for kind in ('readdir', 'long', 'mixed', 'small'):
+    for kind in ('readdir', 'long', 'mixed', 'small', 'xids'):
         arguments = kinds.add_parser(kind)
         if kind in ('mixed', 'small'):
             arguments.add_argument('megabytes', type=megabytes)
@@ -194,6 +206,8 @@ def main():
                 write_connections(out, MIXED, chosen.megabytes)
             case 'small':
                 write_connections(out, SMALL, chosen.megabytes)
+            case 'xids':
+                write_xids(out)
 
 
 if __name__ == '__main__':

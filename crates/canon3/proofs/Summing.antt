@@ -6,6 +6,8 @@ use Rattle.std.specs.Io.KnownBytes.{Consumes}
 use Rattle.std.proofs.KnownBytes.{Consumes-all}
 use Rattle.std.proofs.lemmas.Grind.{flat_map-append}
 use Rattle.std.proofs.lemmas.List.Sums.{sum_by-append, sum_by-cons}
+use Rattle.std.specs.declared.hash.BuildHasher as BuildHasher
+use Rattle.std.specs.declared.hash.Hasher as Hasher
 use Rattle.xdr3.specs.Item.{Item}
 use Rattle.capture3.specs.declared.entries.Entries.{Entries}
 use Rattle.capture3.specs.declared.entry.Entry as kept
@@ -13,7 +15,7 @@ use Rattle.capture3.specs.declared.entry.Entry.TheVariants as variants
 use Rattle.capture3.specs.declared.fault.Error.{Error}
 use Rattle.capture3.specs.declared.fault.Error.TheVariants as errors
 use Rattle.capture3.specs.declared.fault.Fault.{Fault}
-use Rattle.capture3.specs.Entries.{StandsFor}
+use Rattle.capture3.specs.Entries.{AreFirstReached, StandsFor}
 use Rattle.capture3.specs.Entry.{Entry}
 use Rattle.capture3.specs.FirstFault.{FirstFault}
 use Rattle.capture3.specs.Kept.{IsKept}
@@ -84,16 +86,16 @@ module _ {S H : Type 0} (old new : Tally S H) (one : kept.Entry) where
 
 -- ---- along a reader
 
-module _ {R S H : Type 0} (left : R → Option (List ℕ)) (first : Option (List ℕ)) (reader : Entries R) (tally : Tally S H) where
+module _ {R S H : Type 0} {builds : BuildHasher.Ghosts S H} {hashes : Hasher.Ghosts H} (left : R → Option (List ℕ)) (first : Option (List ℕ)) (reader : Entries R S H builds hashes) (tally : Tally S H) where
   -- an entry was handed out and added, unless memory ran out
   pub added_goes_on : (given : List ℕ) (handed : List Entry) (one : Entry) (result : Result Bool Error) → IfOk result IsTrue → IfErr result (λ error. error ≡ errors.Memory)
-      → Consumes first (left reader.source.now) given → StandsFor left reader given (handed ++ one ∷ []) → OnOk result (Tallies tally (handed ++ one ∷ [])) → GoesOn left first reader tally result
-  added_goes_on given handed one (Ok true) more memory consumed stands tallied = record { given = given; handed = handed ++ one ∷ []; consumed = consumed; stands = stands; tallied = tallied }
-  added_goes_on given handed one (Ok false) more memory consumed stands tallied = absurd (cc)
-  added_goes_on given handed one (Err errors.Memory) more memory consumed stands tallied = record { given = given; handed = handed; consumed = consumed; met = tt }
-  added_goes_on given handed one (Err errors.Read) more memory consumed stands tallied = absurd (cc)
-  added_goes_on given handed one (Err errors.Write) more memory consumed stands tallied = absurd (cc)
-  added_goes_on given handed one (Err (errors.Refused fault)) more memory consumed stands tallied = absurd (cc)
+      → Consumes first (left reader.source.now) given → AreFirstReached given (handed ++ one ∷ []) → StandsFor left reader given (handed ++ one ∷ []) → OnOk result (Tallies tally (handed ++ one ∷ [])) → GoesOn left first reader tally result
+  added_goes_on given handed one (Ok true) more memory consumed reached stands tallied = record { given = given; handed = handed ++ one ∷ []; consumed = consumed; stands = stands; tallied = tallied }
+  added_goes_on given handed one (Ok false) more memory consumed reached stands tallied = absurd (cc)
+  added_goes_on given handed one (Err errors.Memory) more memory consumed reached stands tallied = record { given = given; handed = handed ++ one ∷ []; consumed = consumed; met = reached }
+  added_goes_on given handed one (Err errors.Read) more memory consumed reached stands tallied = absurd (cc)
+  added_goes_on given handed one (Err errors.Write) more memory consumed reached stands tallied = absurd (cc)
+  added_goes_on given handed one (Err (errors.Refused fault)) more memory consumed reached stands tallied = absurd (cc)
 
   pub is_done : (more : Bool) → more ≡ false → GoesOn left first reader tally (Ok more) → IsDone left first reader tally
   is_done false ends done = done

@@ -2,6 +2,8 @@
 use Rattle.std.specs.Prelude.{◌≡◌, ℕ, Bool, true, false, Option, List, bytes_eq, count_by, length, min, Result, Ok, Err}
 use Rattle.std.specs.Io.KnownBytes.{Consumes, IsAtEnd}
 use Rattle.std.specs.List.{flat_map}
+use Rattle.std.specs.declared.hash.BuildHasher as BuildHasher
+use Rattle.std.specs.declared.hash.Hasher as Hasher
 use Rattle.xdr3.specs.Item.{Item}
 use Rattle.capture3.specs.declared.entry.Entry as kept
 use Rattle.capture3.specs.declared.entry.Entry.TheVariants as variants
@@ -70,16 +72,16 @@ pub record Sums (summary : Summary) (entries : List Entry) : Type 0 where
   pub handles : summary.handles ≡ min (length (distinct bytes_eq (handles_in (all_items entries)))) number_limit
 
 -- the bytes met an error
-pub record HasFailed {R : Type 0} (left : R → Option (List ℕ)) (first : Option (List ℕ)) (reader : Entries R) (error : Error) : Type 0 where
+pub record HasFailed {R S H : Type 0} {builds : BuildHasher.Ghosts S H} {hashes : Hasher.Ghosts H} (left : R → Option (List ℕ)) (first : Option (List ℕ)) (reader : Entries R S H builds hashes) (error : Error) : Type 0 where
   pub given : List ℕ
   pub handed : List Entry
   pub consumed : Consumes first (left reader.source.now) given
   pub met : IsMetBy error (left reader.source.now) given handed
 
 -- a reader that hands out entries, from when so much was left first, and what is tallied of them
-module _ {R S H : Type 0} (left : R → Option (List ℕ)) (first : Option (List ℕ)) where
+module _ {R S H : Type 0} {builds : BuildHasher.Ghosts S H} {hashes : Hasher.Ghosts H} (left : R → Option (List ℕ)) (first : Option (List ℕ)) where
   -- what it handed out is in the tally
-  pub record IsUnderWay (reader : Entries R) (tally : Tally S H) : Type 0 where
+  pub record IsUnderWay (reader : Entries R S H builds hashes) (tally : Tally S H) : Type 0 where
     pub given : List ℕ
     pub handed : List Entry
     pub consumed : Consumes first (left reader.source.now) given
@@ -87,7 +89,7 @@ module _ {R S H : Type 0} (left : R → Option (List ℕ)) (first : Option (List
     pub tallied : Tallies tally handed
 
   -- all bytes were a capture's, and all its entries are in the tally
-  pub record IsDone (reader : Entries R) (tally : Tally S H) : Type 0 where
+  pub record IsDone (reader : Entries R S H builds hashes) (tally : Tally S H) : Type 0 where
     pub given : List ℕ
     pub handed : List Entry
     pub consumed : Consumes first (left reader.source.now) given
@@ -95,12 +97,12 @@ module _ {R S H : Type 0} (left : R → Option (List ℕ)) (first : Option (List
     pub typed : Typed given handed
     pub tallied : Tallies tally handed
 
-  abbrev pub GoesOn : Entries R → Tally S H → Result Bool Error → Type 0
+  abbrev pub GoesOn : Entries R S H builds hashes → Tally S H → Result Bool Error → Type 0
   GoesOn reader tally (Ok true) = IsUnderWay reader tally
   GoesOn reader tally (Ok false) = IsDone reader tally
   GoesOn reader tally (Err error) = HasFailed left first reader error
 
-  abbrev pub IsOver : {X : Type 0} → Entries R → Tally S H → Result X Error → Type 0
+  abbrev pub IsOver : {X : Type 0} → Entries R S H builds hashes → Tally S H → Result X Error → Type 0
   IsOver reader tally (Ok x) = IsDone reader tally
   IsOver reader tally (Err error) = HasFailed left first reader error
 

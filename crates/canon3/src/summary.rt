@@ -41,7 +41,7 @@ pub fn check<R: Source, S: BuildHasher + Drop>(
     ensures write { IfErr result (λ error. error ≢ Error.Write) }
 {
     let block = new_block(alloc)?;
-    let mut entries = Entries::through(alloc, source, block);
+    let mut entries = Entries::through(alloc, hashers.calls, source, block);
     let result = summed(alloc, hashers.handles, &mut entries);
     entries.into_source();
     result
@@ -51,7 +51,7 @@ pub fn check<R: Source, S: BuildHasher + Drop>(
 fn summed<R: Source, S: BuildHasher + Drop>(
     alloc: Global,
     hasher: S,
-    entries: &mut Entries<'_, R>,
+    entries: &mut Entries<'_, R, S>,
 ) -> Result<Summary, Error>
     requires fresh { StandsFor R.left entries.old [] [] }
     requires going { failure_of entries.old ≡ None }
@@ -92,7 +92,7 @@ impl<S: BuildHasher + Drop> Tally<S> {
     fn add_all<R: Source>(
         &mut self,
         alloc: Global,
-        entries: &mut Entries<'_, R>,
+        entries: &mut Entries<'_, R, S>,
     ) -> Result<(), Error>
         requires going { failure_of entries.old ≡ None }
         requires room { self.old.connections + self.old.calls + self.old.replies + entries_left entries.old ≤ most_entries }
@@ -109,7 +109,7 @@ impl<S: BuildHasher + Drop> Tally<S> {
     fn add_next<R: Source>(
         &mut self,
         alloc: Global,
-        entries: &mut Entries<'_, R>,
+        entries: &mut Entries<'_, R, S>,
     ) -> Result<bool, Error>
         requires going { failure_of entries.old ≡ None }
         requires room { self.old.connections + self.old.calls + self.old.replies + entries_left entries.old ≤ most_entries }

@@ -1,5 +1,5 @@
 -- A capture whose records are judged as they come: step after step.
-use Rattle.std.proofs.Common.{lit<, ◌≡◌, ℕ, ◌≤◌, Bool, true, false, cond, nat_eq, is_some, Option, Some, None, List, [], ◌∷◌, ◌++◌, length, take, drop, refl, sym, ap, ◌∙◌, subst, append_assoc, take-append-drop}
+use Rattle.std.proofs.Common.{lit<, ◌≡◌, ℕ, Bool, true, false, cond, nat_eq, is_some, Option, Some, None, List, [], ◌∷◌, ◌++◌, take, drop, refl, sym, ap, ◌∙◌, subst, append_assoc, take-append-drop}
 use Rattle.std.proofs.lemmas.Bool.{eqb-true}
 use Rattle.xdr3.specs.Item.{Item}
 use Rattle.record_mark.specs.Joining.{Between}
@@ -32,10 +32,8 @@ use Rattle.capture3.specs.Judging.{judge_call, judge_reply}
 use Rattle.capture3.specs.Messages.{IsTableOf}
 use Rattle.capture3.specs.Parsing.{Parsing, file_next, file_start}
 use Rattle.capture3.specs.Position.{unpacking_at}
-use Rattle.capture3.specs.Records.{fault_at}
 use Rattle.capture3.specs.Resumed.{Judged, parsing_at, resumed, call_judged, reply_judged, emitted_at, begun, turned, closed}
 use Rattle.capture3.specs.Resumed as resuming
-use Rattle.capture3.specs.Sides.{place_at}
 use Rattle.capture3.specs.Unpacking.{Unpacking, Unpacked, Refuses, unpack_next, unpacking_start}
 use Rattle.capture3.proofs.Resumptions.{runs_follow, stops_follow}
 use Rattle.capture3.proofs.Emissions.{runs_emit, stops_emit}

@@ -7,10 +7,11 @@ use Rattle.std.proofs.Props.{props}
 use Rattle.std.specs.Io.KnownBytes.{Consumes, Keeps, IsAtEnd}
 use Rattle.xdr3.specs.declared.reason.Reason.TheVariants.{CaptureCut}
 use Rattle.xdr3.specs.Item.{AreBytes}
-use Rattle.record_mark.specs.Joining.{Joining}
 use Rattle.record_mark.specs.Machine.{Run, Runs, Stops, Stopped, after}
 use Rattle.record_mark.specs.Taking.{Taking, Led, OutOfMemory, IsRunning}
 use Rattle.record_mark.proofs.Machines.{after-append}
+use Rattle.std.specs.declared.hash.BuildHasher as BuildHasher
+use Rattle.std.specs.declared.hash.Hasher as Hasher
 use Rattle.capture3.specs.declared.calls.NumberedCall.{NumberedCall}
 use Rattle.capture3.specs.declared.entries.Entries.{Entries}
 use Rattle.capture3.specs.declared.entries.Stage.{Stage}
@@ -18,9 +19,7 @@ use Rattle.capture3.specs.declared.entries.Stage.TheVariants.{Reading, Over, Fai
 use Rattle.capture3.specs.declared.entry.Entry as kept
 use Rattle.capture3.specs.declared.fault.Error.{Error}
 use Rattle.capture3.specs.declared.fault.Error.TheVariants as errors
-use Rattle.capture3.specs.declared.fault.Fault.{Fault}
 use Rattle.capture3.specs.declared.judging.Capture.{Capture}
-use Rattle.capture3.specs.declared.fault.Side.TheVariants.{Client, Server}
 use Rattle.capture3.specs.declared.position.Position.{Position}
 use Rattle.capture3.specs.declared.position.Spot.{Spot}
 use Rattle.capture3.specs.declared.position.Spot.TheVariants as spots
@@ -34,10 +33,9 @@ use Rattle.capture3.specs.Laws.{AreWithinLimits, most_bytes}
 use Rattle.capture3.specs.Parsing.{Parsing, file_next, file_start, parsed, emitted}
 use Rattle.capture3.specs.Position.{IsSound, IsSoundAt, opened_at, most_entries, room_of}
 use Rattle.capture3.specs.Reached.{AreWhole, Reached}
-use Rattle.capture3.specs.Resumed.{Judged, resumed_at, parsing_at, emitted_at}
+use Rattle.capture3.specs.Resumed.{parsing_at}
 use Rattle.capture3.specs.Sides.{file_fault}
 use Rattle.capture3.specs.Typed.{IsWellFormed, Typed}
-use Rattle.capture3.specs.Unpacking.{Opened, Magic, Mark, Length, Chunk, Ended}
 use Rattle.capture3.proofs.BytesOf.{AreBytes-append, split_bytes}
 use Rattle.capture3.proofs.Limits.{typed_within, whole_within}
 use Rattle.capture3.proofs.Growing.{emitted_is}
@@ -45,7 +43,7 @@ use Rattle.capture3.proofs.Parsed.{cut_at, typed_at}
 use Rattle.capture3.proofs.Reaches.{stands_whole}
 use Rattle.capture3.proofs.Refusals.{first_reached, refused_behind}
 use Rattle.capture3.proofs.Sizes.{clean_size}
-use Rattle.capture3.proofs.Verdicts.{clean_from_runs, shows_from_stops, told, verdict_from_fault, verdict_from_typed}
+use Rattle.capture3.proofs.Verdicts.{clean_from_runs, told, verdict_from_fault, verdict_from_typed}
 
 -- ---- what is kept truncated
 
@@ -175,10 +173,16 @@ none_consumed None other is = tt
 none_consumed (Some xs) None is = absurd (cc)
 none_consumed (Some xs) (Some ys) is = let same : ys ≡ xs = cc in sym same
 
+nothing_behind : (given : List ℕ) (known : Option (List ℕ)) (rest : List ℕ) → IsAtEnd known → known ≡ Some rest → given ≡ given ++ rest
+nothing_behind given None rest end is = absurd (cc)
+nothing_behind given (Some xs) rest end is =
+    let same : xs ≡ rest = cc in
+    sym (ap (λ (b : List ℕ). given ++ b) (sym same ∙ end) ∙ append-nil given)
+
 -- ---- the reader
 
-module _ {R : Type 0} (left : R → Option (List ℕ)) where
-  pub reading_of : (e : Entries R) (given : List ℕ) (handed : List Entry) → e.stage ≡ Reading → StandsFor left e given handed → IsReading e given handed
+module _ {R S H : Type 0} {builds : BuildHasher.Ghosts S H} {hashes : Hasher.Ghosts H} (left : R → Option (List ℕ)) where
+  pub reading_of : (e : Entries R S H builds hashes) (given : List ℕ) (handed : List Entry) → e.stage ≡ Reading → StandsFor left e given handed → IsReading e given handed
   reading_of e given handed is s = by_stage e.stage is s.here
     where
       by_stage : (stage : Stage) → stage ≡ Reading → StandsIn stage (left e.source.now) e given handed → IsReading e given handed
@@ -186,11 +190,11 @@ module _ {R : Type 0} (left : R → Option (List ℕ)) where
       by_stage Over is h = absurd (cc)
       by_stage (Failed error) is h = absurd (cc)
 
-  room_in : (e : Entries R) → e.stage ≡ Reading → entries_left e ≡ room_of e.capture.container.position + 1
+  room_in : (e : Entries R S H builds hashes) → e.stage ≡ Reading → entries_left e ≡ room_of e.capture.container.position + 1
   room_in e is = ap (λ (stage : Stage). left_in stage e.capture.container.position) is
 
   -- it reads on
-  pub stands_reading : (e : Entries R) (given : List ℕ) (handed : List Entry) → e.stage ≡ Reading → AreBytes given → length handed + (room_of e.capture.container.position + 1) ≤ most_entries → IsReading e given handed → StandsFor left e given handed
+  pub stands_reading : (e : Entries R S H builds hashes) (given : List ℕ) (handed : List Entry) → e.stage ≡ Reading → AreBytes given → length handed + (room_of e.capture.container.position + 1) ≤ most_entries → IsReading e given handed → StandsFor left e given handed
   stands_reading e given handed is are few r = record {
     bytes = are;
     few = omega (arith, few, room_in e is);
@@ -199,7 +203,7 @@ module _ {R : Type 0} (left : R → Option (List ℕ)) where
   }
 
   -- it has failed
-  pub stands_failed : (old new : Entries R) (error : Error) (given : List ℕ) (handed : List Entry) → new.stage ≡ Failed error → StandsFor left old given handed → IsMetBy error (left new.source.now) given handed → StandsFor left new given handed
+  pub stands_failed : (old new : Entries R S H builds hashes) (error : Error) (given : List ℕ) (handed : List Entry) → new.stage ≡ Failed error → StandsFor left old given handed → IsMetBy error (left new.source.now) given handed → StandsFor left new given handed
   stands_failed old new error given handed is s met = record {
     bytes = s.bytes;
     few = omega (arith, s.few, ap (λ (stage : Stage). left_in stage new.capture.container.position) is);
@@ -207,15 +211,15 @@ module _ {R : Type 0} (left : R → Option (List ℕ)) where
     here = subst (λ (stage : Stage). StandsIn stage (left new.source.now) new given handed) (sym is) met;
   }
 
-  room_before : (e : Entries R) (given : List ℕ) (handed : List Entry) → e.stage ≡ Reading → StandsFor left e given handed → length handed + (room_of e.capture.container.position + 1) ≤ most_entries
+  room_before : (e : Entries R S H builds hashes) (given : List ℕ) (handed : List Entry) → e.stage ≡ Reading → StandsFor left e given handed → length handed + (room_of e.capture.container.position + 1) ≤ most_entries
   room_before e given handed is s = omega (arith, s.few, room_in e is)
 
   -- what was handed out are the first entries that the bytes reach
-  first_in : (e : Entries R) (given : List ℕ) (handed : List Entry) → AreBytes given → IsReading e given handed → AreFirstReached given handed
+  first_in : (e : Entries R S H builds hashes) (given : List ℕ) (handed : List Entry) → AreBytes given → IsReading e given handed → AreFirstReached given handed
   first_in e given handed are r =
       subst (λ (b : List ℕ). AreFirstReached b handed) (sym r.split) (first_reached r.judged (unjudged e) _ _ _ handed (subst AreBytes r.split are) r.machine)
 
-  pub stands_first : (e : Entries R) (given : List ℕ) (handed : List Entry) → failure_of e ≡ None → StandsFor left e given handed → AreFirstReached given handed
+  pub stands_first : (e : Entries R S H builds hashes) (given : List ℕ) (handed : List Entry) → failure_of e ≡ None → StandsFor left e given handed → AreFirstReached given handed
   stands_first e given handed goes s = by_stage e.stage refl s.here
     where
       by_stage : (stage : Stage) → e.stage ≡ stage → StandsIn stage (left e.source.now) e given handed → AreFirstReached given handed
@@ -225,14 +229,14 @@ module _ {R : Type 0} (left : R → Option (List ℕ)) where
 
   -- ---- a read
 
-  all_judged : (e : Entries R) (given : List ℕ) (handed : List Entry) → e.start ≡ e.end → (r : IsReading e given handed) → given ≡ r.judged
+  all_judged : (e : Entries R S H builds hashes) (given : List ℕ) (handed : List Entry) → e.start ≡ e.end → (r : IsReading e given handed) → given ≡ r.judged
   all_judged e given handed empty r = r.split ∙ ap (λ (b : List ℕ). r.judged ++ b) (empty_range e.block.items e.start e.end empty) ∙ append-nil r.judged
 
-  machine_at : (e : Entries R) (given : List ℕ) (handed : List Entry) → e.start ≡ e.end → IsReading e given handed → StandsAt e.capture.container.position e.capture.container.joiner e.capture.calls (parsed given) handed
+  machine_at : (e : Entries R S H builds hashes) (given : List ℕ) (handed : List Entry) → e.start ≡ e.end → IsReading e given handed → StandsAt e.capture.container.position e.capture.container.joiner e.capture.calls (parsed given) handed
   machine_at e given handed empty r =
       subst (λ (b : List ℕ). StandsAt e.capture.container.position e.capture.container.joiner e.capture.calls (parsed b) handed) (sym (all_judged e given handed empty r)) r.machine
 
-  pub has_read : (old new : Entries R) (given more : List ℕ) (handed : List Entry) → old.stage ≡ Reading → new.stage ≡ Reading → old.start ≡ old.end → new.capture ≡ old.capture → new.judged ≡ old.judged → unjudged new ≡ more → AreBytes more
+  pub has_read : (old new : Entries R S H builds hashes) (given more : List ℕ) (handed : List Entry) → old.stage ≡ Reading → new.stage ≡ Reading → old.start ≡ old.end → new.capture ≡ old.capture → new.judged ≡ old.judged → unjudged new ≡ more → AreBytes more
       → Consumes (left old.source.now) (left new.source.now) more → StandsFor left old given handed → HasRead left old new given handed
   has_read old new given more handed is goes empty same count block are consumed s =
       let r = reading_of old given handed is s in
@@ -241,11 +245,11 @@ module _ {R : Type 0} (left : R → Option (List ℕ)) where
         more = more;
         consumed = consumed;
         stands = stands_reading new (given ++ more) handed goes (AreBytes-append given more s.bytes are)
-            (omega (arith, room_before old given handed is s, ap (λ (c : Capture). room_of c.container.position) same))
-            (record { judged = r.judged; split = split; counted = count ∙ r.counted; machine = subst (λ (c : Capture). StandsAt c.container.position c.container.joiner c.calls (parsed r.judged) handed) (sym same) r.machine });
+            (omega (arith, room_before old given handed is s, ap (λ (c : Capture (List NumberedCall)). room_of c.container.position) same))
+            (record { judged = r.judged; split = split; counted = count ∙ r.counted; machine = subst (λ (c : Capture (List NumberedCall)). StandsAt c.container.position c.container.joiner c.calls (parsed r.judged) handed) (sym same) r.machine });
       }
 
-  pub has_failed : (old new : Entries R) (given : List ℕ) (handed : List Entry) → old.stage ≡ Reading → new.stage ≡ Failed errors.Read → old.start ≡ old.end
+  pub has_failed : (old new : Entries R S H builds hashes) (given : List ℕ) (handed : List Entry) → old.stage ≡ Reading → new.stage ≡ Failed errors.Read → old.start ≡ old.end
       → Keeps (left old.source.now) (left new.source.now) → StandsFor left old given handed → HasRead left old new given handed
   has_failed old new given handed is fails empty kept s =
       record {
@@ -257,7 +261,7 @@ module _ {R : Type 0} (left : R → Option (List ℕ)) where
 
   -- ---- judging the block
 
-  pub moves_on : (old new : Entries R) (count : ℕ) (given : List ℕ) (handed all : List Entry) → new.judged ≡ old.judged + count → unjudged new ≡ slice_range old.block.items (old.start + count) old.end → old.start + count ≤ old.end → old.end ≤ length old.block.items
+  pub moves_on : (old new : Entries R S H builds hashes) (count : ℕ) (given : List ℕ) (handed all : List Entry) → new.judged ≡ old.judged + count → unjudged new ≡ slice_range old.block.items (old.start + count) old.end → old.start + count ≤ old.end → old.end ≤ length old.block.items
       → (r : IsReading old given handed) → StandsAt new.capture.container.position new.capture.container.joiner new.capture.calls (after file_next (parsed r.judged) (take count (unjudged old))) all → IsReading new given all
   moves_on old new count given handed all judged block fits within r machine =
       let piece : List ℕ = take count (unjudged old) in
@@ -272,7 +276,7 @@ module _ {R : Type 0} (left : R → Option (List ℕ)) where
       }
 
   -- with the entry that is whole, if one is
-  pub judged_on : (old new : Entries R) (count : ℕ) (given : List ℕ) (handed : List Entry) (came : Option kept.Entry) → old.stage ≡ Reading → new.stage ≡ Reading → new.judged ≡ old.judged + count
+  pub judged_on : (old new : Entries R S H builds hashes) (count : ℕ) (given : List ℕ) (handed : List Entry) (came : Option kept.Entry) → old.stage ≡ Reading → new.stage ≡ Reading → new.judged ≡ old.judged + count
       → unjudged new ≡ slice_range old.block.items (old.start + count) old.end → old.start + count ≤ old.end → old.end ≤ length old.block.items
       → room_of new.capture.container.position + entry_cost came ≤ room_of old.capture.container.position → (s : StandsFor left old given handed)
       → ((judged : List ℕ) → StandsAt old.capture.container.position old.capture.container.joiner old.capture.calls (parsed judged) handed
@@ -288,7 +292,7 @@ module _ {R : Type 0} (left : R → Option (List ℕ)) where
         stands_reading new given (handed ++ entry ∷ []) goes s.bytes (omega (arith, room_before old given handed is s, room, length-append handed (entry ∷ []))) (moves_on old new count given handed (handed ++ entry ∷ []) judged block fits within r machine),
       )
 
-  fails_by : (e : Entries R) (error : Error) (given : List ℕ) (handed : List Entry) (known : Option (List ℕ)) → AreBytes given → (r : IsReading e given handed) → FailsAt (parsed r.judged) handed (unjudged e) error → IsMetBy error known given handed
+  fails_by : (e : Entries R S H builds hashes) (error : Error) (given : List ℕ) (handed : List Entry) (known : Option (List ℕ)) → AreBytes given → (r : IsReading e given handed) → FailsAt (parsed r.judged) handed (unjudged e) error → IsMetBy error known given handed
   fails_by e (errors.Refused fault) given handed known are r f = λ rest is.
       let refused = refused_behind r.judged (unjudged e) rest handed fault (subst AreBytes r.split are) f in
       subst (λ (b : List ℕ). FirstFault (b ++ rest) fault × Reached (b ++ rest) handed) (sym r.split) refused
@@ -296,7 +300,7 @@ module _ {R : Type 0} (left : R → Option (List ℕ)) where
   fails_by e errors.Write given handed known are r f = absurd f
   fails_by e errors.Memory given handed known are r f = first_in e given handed are r
 
-  pub judged_failed : (old new : Entries R) (error : Error) (given : List ℕ) (handed : List Entry) → old.stage ≡ Reading → new.stage ≡ Failed error → (s : StandsFor left old given handed)
+  pub judged_failed : (old new : Entries R S H builds hashes) (error : Error) (given : List ℕ) (handed : List Entry) → old.stage ≡ Reading → new.stage ≡ Failed error → (s : StandsFor left old given handed)
       → ((judged : List ℕ) → StandsAt old.capture.container.position old.capture.container.joiner old.capture.calls (parsed judged) handed → FailsAt (parsed judged) handed (unjudged old) error) → StandsFor left new given handed
   judged_failed old new error given handed is fails s shows =
       let r = reading_of old given handed is s in
@@ -304,7 +308,7 @@ module _ {R : Type 0} (left : R → Option (List ℕ)) where
 
   -- ---- the end
 
-  pub finished : (old new : Entries R) (given : List ℕ) (handed : List Entry) → old.stage ≡ Reading → new.stage ≡ Over → old.start ≡ old.end → old.capture.container.position.spot ≡ spots.Ended → IsAtEnd (left new.source.now)
+  pub finished : (old new : Entries R S H builds hashes) (given : List ℕ) (handed : List Entry) → old.stage ≡ Reading → new.stage ≡ Over → old.start ≡ old.end → old.capture.container.position.spot ≡ spots.Ended → IsAtEnd (left new.source.now)
       → StandsFor left old given handed → StandsFor left new given (handed ++ End ∷ [])
   finished old new given handed is over empty ended end s =
       let typed = typed_here given _ _ _ handed s.bytes (machine_at old given handed empty (reading_of old given handed is s)) ended in
@@ -315,13 +319,7 @@ module _ {R : Type 0} (left : R → Option (List ℕ)) where
         here = subst (λ (stage : Stage). StandsIn stage (left new.source.now) new given (handed ++ End ∷ [])) (sym over) (typed, end);
       }
 
-  nothing_behind : (given : List ℕ) (known : Option (List ℕ)) (rest : List ℕ) → IsAtEnd known → known ≡ Some rest → given ≡ given ++ rest
-  nothing_behind given None rest end is = absurd (cc)
-  nothing_behind given (Some xs) rest end is =
-      let same : xs ≡ rest = cc in
-      sym (ap (λ (b : List ℕ). given ++ b) (sym same ∙ end) ∙ append-nil given)
-
-  pub cut_short : (old new : Entries R) (error : Error) (given : List ℕ) (handed : List Entry) → old.stage ≡ Reading → new.stage ≡ Failed error → old.start ≡ old.end → old.capture.container.position.spot ≢ spots.Ended
+  pub cut_short : (old new : Entries R S H builds hashes) (error : Error) (given : List ℕ) (handed : List Entry) → old.stage ≡ Reading → new.stage ≡ Failed error → old.start ≡ old.end → old.capture.container.position.spot ≢ spots.Ended
       → error ≡ errors.Refused (file_fault old.judged CaptureCut) → IsAtEnd (left new.source.now) → StandsFor left old given handed → StandsFor left new given handed
   cut_short old new error given handed is fails empty not cut end s =
       let r = reading_of old given handed is s in
@@ -334,25 +332,25 @@ module _ {R : Type 0} (left : R → Option (List ℕ)) where
 
   -- ---- one after another
 
-  pub nothing_read : (e : Entries R) (given : List ℕ) (handed : List Entry) → StandsFor left e given handed → HasRead left e e given handed
+  pub nothing_read : (e : Entries R S H builds hashes) (given : List ℕ) (handed : List Entry) → StandsFor left e given handed → HasRead left e e given handed
   nothing_read e given handed s = record {
     more = [];
     consumed = none_consumed (left e.source.now) (left e.source.now) refl;
     stands = subst (λ (b : List ℕ). StandsFor left e b handed) (sym (append-nil given)) s;
   }
 
-  abbrev pub Goes : Entries R → Entries R → Result (Option kept.Entry) Error → Type 0
+  abbrev pub Goes : Entries R S H builds hashes → Entries R S H builds hashes → Result (Option kept.Entry) Error → Type 0
   Goes mid new result = (given : List ℕ) (handed : List Entry) → StandsFor left mid given handed → GoesOn left new given handed result
 
   -- a read, and then the block is judged
-  pub turned : (old mid new : Entries R) (given : List ℕ) (handed : List Entry) (result : Result (Option kept.Entry) Error) → HasRead left old mid given handed → Goes mid new result → new.source.now ≡ mid.source.now → Turns left old new given handed result
+  pub turned : (old mid new : Entries R S H builds hashes) (given : List ℕ) (handed : List Entry) (result : Result (Option kept.Entry) Error) → HasRead left old mid given handed → Goes mid new result → new.source.now ≡ mid.source.now → Turns left old new given handed result
   turned old mid new given handed result read goes same = record {
     more = read.more;
     consumed = subst (λ (b : List ℕ). Consumes (left old.source.now) (left new.source.now) b) (append-nil read.more) (consumes_both _ _ _ read.more [] read.consumed (none_consumed _ _ (ap left same)));
     goes_on = goes (given ++ read.more) handed read.stands;
   }
 
-  pub turned_more : (old mid new : Entries R) (given : List ℕ) (handed : List Entry) (result : Result (Option kept.Entry) Error) → HasRead left old mid given handed
+  pub turned_more : (old mid new : Entries R S H builds hashes) (given : List ℕ) (handed : List Entry) (result : Result (Option kept.Entry) Error) → HasRead left old mid given handed
       → ((given : List ℕ) (handed : List Entry) → StandsFor left mid given handed → Turns left mid new given handed result) → Turns left old new given handed result
   turned_more old mid new given handed result read turns =
       let t = turns (given ++ read.more) handed read.stands in
@@ -362,32 +360,32 @@ module _ {R : Type 0} (left : R → Option (List ℕ)) where
         goes_on = subst (λ (b : List ℕ). GoesOn left new b handed result) (append_assoc given read.more t.more) t.goes_on;
       }
 
-  pub read_more : (old mid new : Entries R) (given : List ℕ) (handed : List Entry) (result : Result (Option kept.Entry) Error) → result ≡ Ok None → HasRead left old mid given handed
+  pub read_more : (old mid new : Entries R S H builds hashes) (given : List ℕ) (handed : List Entry) (result : Result (Option kept.Entry) Error) → result ≡ Ok None → HasRead left old mid given handed
       → ((given : List ℕ) (handed : List Entry) → StandsFor left mid given handed → Turns left mid new given handed result) → HasRead left old new given handed
   read_more old mid new given handed result is read turns =
       let t = subst (λ (r : Result (Option kept.Entry) Error). Turns left old new given handed r) is (turned_more old mid new given handed result read turns) in
       record { more = t.more; consumed = t.consumed; stands = t.goes_on }
 
   -- no capture is so long
-  pub too_long : (old mid new : Entries R) (given : List ℕ) (handed : List Entry) (result : Result (Option kept.Entry) Error) → HasRead left old mid given handed → mid.stage ≡ Reading → most_bytes < mid.judged → Turns left old new given handed result
+  pub too_long : (old mid new : Entries R S H builds hashes) (given : List ℕ) (handed : List Entry) (result : Result (Option kept.Entry) Error) → HasRead left old mid given handed → mid.stage ≡ Reading → most_bytes < mid.judged → Turns left old new given handed result
   too_long old mid new given handed result read is far =
       let r = reading_of mid (given ++ read.more) handed is read.stands in
       absurd (omega (arith, far, r.counted, size_here r.judged _ _ _ handed (split_bytes (given ++ read.more) r.judged (unjudged mid) r.split read.stands.bytes).0 r.machine))
 
   -- ---- the answers
 
-  met_by : (e : Entries R) (error : Error) (given : List ℕ) (handed : List Entry) → e.stage ≡ Failed error → StandsFor left e given handed → IsMetBy error (left e.source.now) given handed
+  met_by : (e : Entries R S H builds hashes) (error : Error) (given : List ℕ) (handed : List Entry) → e.stage ≡ Failed error → StandsFor left e given handed → IsMetBy error (left e.source.now) given handed
   met_by e error given handed is s = subst (λ (stage : Stage). StandsIn stage (left e.source.now) e given handed) is s.here
 
-  hands_out : (e : Entries R) (given : List ℕ) (handed : List Entry) (result : Result (Option kept.Entry) Error) → IfOk result (λ next. IsSome next) → OnOk result (failure_of e ≡ None) → IfErr result (λ error. e.stage ≡ Failed error) → GoesOn left e given handed result → HandsOut left e given handed result
+  hands_out : (e : Entries R S H builds hashes) (given : List ℕ) (handed : List Entry) (result : Result (Option kept.Entry) Error) → IfOk result (λ next. IsSome next) → OnOk result (failure_of e ≡ None) → IfErr result (λ error. e.stage ≡ Failed error) → GoesOn left e given handed result → HandsOut left e given handed result
   hands_out e given handed (Ok (Some one)) some goes fails (entry, is_kept, stands) = (entry, is_kept, stands_first e given (handed ++ entry ∷ []) goes stands, stands)
   hands_out e given handed (Ok None) some goes fails h = absurd (cc)
   hands_out e given handed (Err error) some goes fails h = (met_by e error given handed fails h, h)
 
-  pub answers : (old new : Entries R) (given : List ℕ) (handed : List Entry) (result : Result (Option kept.Entry) Error) → IfOk result (λ next. IsSome next) → OnOk result (failure_of new ≡ None) → IfErr result (λ error. new.stage ≡ Failed error) → Turns left old new given handed result → Answers left old new given handed result
+  pub answers : (old new : Entries R S H builds hashes) (given : List ℕ) (handed : List Entry) (result : Result (Option kept.Entry) Error) → IfOk result (λ next. IsSome next) → OnOk result (failure_of new ≡ None) → IfErr result (λ error. new.stage ≡ Failed error) → Turns left old new given handed result → Answers left old new given handed result
   answers old new given handed result some goes fails t = record { more = t.more; consumed = t.consumed; hands_out = hands_out new (given ++ t.more) handed result some goes fails t.goes_on }
 
-  pub answers_none : (e : Entries R) (given : List ℕ) (handed : List Entry) → e.stage ≡ Over → StandsFor left e given handed → Answers left e e given handed (Ok None)
+  pub answers_none : (e : Entries R S H builds hashes) (given : List ℕ) (handed : List Entry) → e.stage ≡ Over → StandsFor left e given handed → Answers left e e given handed (Ok None)
   answers_none e given handed is s =
       let here : StandsIn Over (left e.source.now) e given handed = subst (λ (stage : Stage). StandsIn stage (left e.source.now) e given handed) is s.here in
       record {
@@ -396,7 +394,7 @@ module _ {R : Type 0} (left : R → Option (List ℕ)) where
         hands_out = subst (λ (b : List ℕ). HandsOut left e b handed (Ok None)) (sym (append-nil given)) (here.0, here.1, s);
       }
 
-  pub answers_again : (e : Entries R) (error : Error) (given : List ℕ) (handed : List Entry) → e.stage ≡ Failed error → StandsFor left e given handed → Answers left e e given handed (Err error)
+  pub answers_again : (e : Entries R S H builds hashes) (error : Error) (given : List ℕ) (handed : List Entry) → e.stage ≡ Failed error → StandsFor left e given handed → Answers left e e given handed (Err error)
   answers_again e error given handed is s = record {
     more = [];
     consumed = none_consumed (left e.source.now) (left e.source.now) refl;

@@ -26,6 +26,7 @@ pub mod Emissions
 pub mod Growing
 pub mod Refusals
 pub mod Captures
+pub mod Hashed
 pub mod Overs
 pub mod SideRules
 pub mod FileRules

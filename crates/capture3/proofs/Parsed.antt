@@ -5,7 +5,6 @@ use Rattle.xdr3.specs.Item.{AreBytes}
 use Rattle.record_mark.specs.Joining.{Joining}
 use Rattle.record_mark.specs.Machine.{Run, Runs, after}
 use Rattle.record_mark.specs.Taking.{Taking}
-use Rattle.record_mark.proofs.Machines.{after-append}
 use Rattle.capture3.specs.declared.calls.NumberedCall.{NumberedCall}
 use Rattle.capture3.specs.declared.entry.Entry as kept
 use Rattle.capture3.specs.declared.entry.Entry.TheVariants as variants
@@ -32,7 +31,7 @@ use Rattle.capture3.specs.declared.position.TheConstants.{MAGIC}
 use Rattle.capture3.proofs.Containers.{piece_more}
 use Rattle.capture3.specs.Unpacking.{left_of_magic, Opened, Magic, Mark, Length, Chunk, Ended}
 use Rattle.capture3.proofs.Refusals.{refused_behind}
-use Rattle.capture3.proofs.Verdicts.{typed_from_verdict, fault_from_verdict, stays}
+use Rattle.capture3.proofs.Verdicts.{typed_from_verdict, fault_from_verdict}
 
 pub kept_snoc : (items : List kept.Entry) (model : List Entry) (one : kept.Entry) (entry : Entry) → AreKept items model → IsKept one entry → AreKept (items ++ one ∷ []) (model ++ entry ∷ [])
 kept_snoc [] model one entry are is = (entry, [], ap (λ m. m ++ entry ∷ []) are, is, refl)

@@ -16,11 +16,11 @@ use Rattle.capture3.specs.Entry.{Entry, End}
 use Rattle.capture3.specs.FirstFault.{FirstFault}
 use Rattle.capture3.specs.Judges.{ShowsWithin, StandsAt}
 use Rattle.capture3.specs.Parsing.{Parsing, Spot, Magic, Digit, Mark, Inside, Ended, file_next, file_start, parsed, concluded, verdict, verdict_of, spot_entries, emitted, last_entries, reached}
-use Rattle.capture3.specs.Reached.{AreWhole, Reached}
-use Rattle.capture3.specs.Resumed.{parsing_at, emitted_at}
+use Rattle.capture3.specs.Reached.{Reached}
+use Rattle.capture3.specs.Resumed.{parsing_at}
 use Rattle.capture3.proofs.BytesOf.{split_bytes}
 use Rattle.capture3.proofs.Emits.{reached_by_machine}
-use Rattle.capture3.proofs.Growing.{Adds, emitted_is, grows}
+use Rattle.capture3.proofs.Growing.{Adds, grows}
 use Rattle.capture3.proofs.Reaches.{stands_whole}
 use Rattle.capture3.proofs.Verdicts.{clean_from_runs, shows_from_stops, stays, told, typed_from_verdict, verdict_from_typed}
 

@@ -1,7 +1,9 @@
 -- A reader of entries, and the histories for which it stands: what its source gave it, and what it handed out.
-use Rattle.std.specs.Prelude.{◌≡◌, ◌⊎◌, ℕ, ◌+◌, ◌-◌, ◌^◌, ◌≤◌, min, Option, Some, None, Result, Ok, Err, List, [], ◌∷◌, ◌++◌, length, slice_range, ⊤}
+use Rattle.std.specs.Prelude.{◌≡◌, ◌⊎◌, ℕ, ◌+◌, ◌-◌, ◌^◌, ◌≤◌, min, Option, Some, None, Result, Ok, Err, List, [], ◌∷◌, ◌++◌, length, slice_range}
 use Rattle.std.specs.Io.KnownBytes.{Consumes, IsAtEnd}
 use Rattle.xdr3.specs.Item.{AreBytes}
+use Rattle.std.specs.declared.hash.BuildHasher as BuildHasher
+use Rattle.std.specs.declared.hash.Hasher as Hasher
 use Rattle.capture3.specs.declared.entries.Entries.{Entries}
 use Rattle.capture3.specs.declared.entries.Stage.{Stage}
 use Rattle.capture3.specs.declared.entries.Stage.TheVariants.{Reading, Over, Failed}
@@ -53,31 +55,31 @@ left_in Reading position = room_of position + 1
 left_in Over position = 0
 left_in (Failed error) position = 0
 
-module _ {R : Type 0} where
-  abbrev pub failure_of : Entries R → Option Error
+module _ {R S H : Type 0} {builds : BuildHasher.Ghosts S H} {hashes : Hasher.Ghosts H} where
+  abbrev pub failure_of : Entries R S H builds hashes → Option Error
   failure_of entries = failure_in entries.stage
 
-  abbrev pub entries_left : Entries R → ℕ
+  abbrev pub entries_left : Entries R S H builds hashes → ℕ
   entries_left entries = left_in entries.stage entries.capture.container.position
 
   -- the bytes of the block that are not judged yet
-  abbrev pub unjudged : Entries R → List ℕ
+  abbrev pub unjudged : Entries R S H builds hashes → List ℕ
   unjudged entries = slice_range entries.block.items entries.start entries.end
 
   -- the machine for a capture file stands behind the bytes judged, and has emitted what was handed out
-  pub record IsReading (entries : Entries R) (given : List ℕ) (handed : List Entry) : Type 0 where
+  pub record IsReading (entries : Entries R S H builds hashes) (given : List ℕ) (handed : List Entry) : Type 0 where
     pub judged : List ℕ
     pub split : given ≡ judged ++ unjudged entries
     pub counted : entries.judged ≡ length judged
     pub machine : StandsAt entries.capture.container.position entries.capture.container.joiner entries.capture.calls (parsed judged) handed
 
-  abbrev pub StandsIn : Stage → Option (List ℕ) → Entries R → List ℕ → List Entry → Type 0
+  abbrev pub StandsIn : Stage → Option (List ℕ) → Entries R S H builds hashes → List ℕ → List Entry → Type 0
   StandsIn Reading left entries given handed = IsReading entries given handed
   StandsIn Over left entries given handed = Typed given handed × IsAtEnd left
   StandsIn (Failed error) left entries given handed = IsMetBy error left given handed
 
   -- The source gave these bytes since the reader was new, and the reader handed out these entries.
-  pub record StandsFor (left : R → Option (List ℕ)) (entries : Entries R) (given : List ℕ) (handed : List Entry) : Type 0 where
+  pub record StandsFor (left : R → Option (List ℕ)) (entries : Entries R S H builds hashes) (given : List ℕ) (handed : List Entry) : Type 0 where
     pub bytes : AreBytes given
     pub few : length handed + entries_left entries ≤ most_entries
     pub connections : begins handed ≤ max_connections
@@ -87,13 +89,13 @@ module _ {R : Type 0} where
 
   -- The next entry is handed out, and kept: the next of those that the bytes reach. None comes where no byte is left, behind all entries of a
   -- well-formed capture.
-  abbrev pub HandsOut : (R → Option (List ℕ)) → Entries R → List ℕ → List Entry → Result (Option kept.Entry) Error → Type 0
+  abbrev pub HandsOut : (R → Option (List ℕ)) → Entries R S H builds hashes → List ℕ → List Entry → Result (Option kept.Entry) Error → Type 0
   HandsOut left new given handed (Ok (Some one)) = (entry : Entry) × IsKept one entry × AreFirstReached given (handed ++ entry ∷ []) × StandsFor left new given (handed ++ entry ∷ [])
   HandsOut left new given handed (Ok None) = Typed given handed × IsAtEnd (left new.source.now) × StandsFor left new given handed
   HandsOut left new given handed (Err error) = IsMetBy error (left new.source.now) given handed × StandsFor left new given handed
 
   -- the same, behind the bytes that the source gave in the call
-  pub record Answers (left : R → Option (List ℕ)) (old new : Entries R) (given : List ℕ) (handed : List Entry) (result : Result (Option kept.Entry) Error) : Type 0 where
+  pub record Answers (left : R → Option (List ℕ)) (old new : Entries R S H builds hashes) (given : List ℕ) (handed : List Entry) (result : Result (Option kept.Entry) Error) : Type 0 where
     pub more : List ℕ
     pub consumed : Consumes (left old.source.now) (left new.source.now) more
     pub hands_out : HandsOut left new (given ++ more) handed result
@@ -101,18 +103,18 @@ module _ {R : Type 0} where
   -- ---- within the crate
 
   -- the source gave more bytes
-  pub record HasRead (left : R → Option (List ℕ)) (old new : Entries R) (given : List ℕ) (handed : List Entry) : Type 0 where
+  pub record HasRead (left : R → Option (List ℕ)) (old new : Entries R S H builds hashes) (given : List ℕ) (handed : List Entry) : Type 0 where
     pub more : List ℕ
     pub consumed : Consumes (left old.source.now) (left new.source.now) more
     pub stands : StandsFor left new (given ++ more) handed
 
   -- an entry is handed out; or it goes on, or has failed
-  abbrev pub GoesOn : (R → Option (List ℕ)) → Entries R → List ℕ → List Entry → Result (Option kept.Entry) Error → Type 0
+  abbrev pub GoesOn : (R → Option (List ℕ)) → Entries R S H builds hashes → List ℕ → List Entry → Result (Option kept.Entry) Error → Type 0
   GoesOn left new given handed (Ok (Some one)) = (entry : Entry) × IsKept one entry × StandsFor left new given (handed ++ entry ∷ [])
   GoesOn left new given handed (Ok None) = StandsFor left new given handed
   GoesOn left new given handed (Err error) = StandsFor left new given handed
 
-  pub record Turns (left : R → Option (List ℕ)) (old new : Entries R) (given : List ℕ) (handed : List Entry) (result : Result (Option kept.Entry) Error) : Type 0 where
+  pub record Turns (left : R → Option (List ℕ)) (old new : Entries R S H builds hashes) (given : List ℕ) (handed : List Entry) (result : Result (Option kept.Entry) Error) : Type 0 where
     pub more : List ℕ
     pub consumed : Consumes (left old.source.now) (left new.source.now) more
     pub goes_on : GoesOn left new (given ++ more) handed result

@@ -1,24 +1,59 @@
 // The calls of a connection.
 
 ghost use Rattle.std.specs.Prelude.{◌≡◌, [], OnOk, OnErr};
-ghost use Rattle.capture3.specs.Calls.{found, with_call};
+ghost use Rattle.capture3.specs.Calls.{found, numbered_calls, with_call};
 ghost use Rattle.capture3.specs.Judging.{agrees};
 
+use indexmap::IndexMap;
 use rpc_head::ProcId;
 use std::alloc::{AllocError, Global};
+use std::hash::BuildHasher;
 use std::marker::Model;
-
-/// The xids of a connection's calls, each once and with its procedure, in the order of their first
-/// appearance.
-#[derive(Drop)]
-pub(crate) struct CallList {
-    calls: Vec<NumberedCall>,
-}
 
 #[derive(Clone, Copy)]
 pub(crate) struct NumberedCall {
     pub(crate) xid: u32,
     pub(crate) id: ProcId,
+}
+
+/// Calls that are asked for by their xids.
+pub(crate) trait KnownCalls {
+    ghost use Rattle.std.specs.Prelude.{List};
+    ghost use Rattle.capture3.specs.declared.calls.NumberedCall.{NumberedCall};
+
+    // The xids, each once and with its procedure, in the order of their first appearance.
+    ghost calls: { Self → List NumberedCall };
+
+    /// The procedure of the calls with this xid.
+    fn procedure_of(&self, xid: u32) -> Option<ProcId>
+        ensures { result ≡ found (calls self.now) xid };
+}
+
+/// The calls of a connection, as they come.
+pub(crate) trait CallTable: KnownCalls {
+    fn clear(&mut self)
+        ensures { Self.calls self.new ≡ [] };
+
+    /// Adds a call, unless its xid is there.
+    fn add(&mut self, xid: u32, id: ProcId) -> Result<(), AllocError>
+        ensures ok { OnOk result (Self.calls self.new ≡ with_call (Self.calls self.old) xid id) }
+        ensures err { OnErr result (Self.calls self.new ≡ Self.calls self.old) };
+}
+
+/// Tells that no call has this xid and another procedure.
+pub(crate) fn agrees_in<C: KnownCalls>(calls: &C, xid: u32, id: ProcId) -> bool
+    ensures { result ≡ agrees (found (C.calls calls.now) xid) id }
+{
+    match calls.procedure_of(xid) {
+        None => true,
+        Some(other) => other == id,
+    }
+}
+
+/// A plain list of calls, which is searched from its front.
+#[derive(Drop)]
+pub(crate) struct CallList {
+    calls: Vec<NumberedCall>,
 }
 
 impl Model for CallList {
@@ -38,49 +73,94 @@ impl CallList {
             calls: Vec::new(alloc),
         }
     }
+}
 
-    pub(crate) fn clear(&mut self)
-        ensures { self.new ≡ [] }
-    {
+impl KnownCalls for CallList {
+    ghost calls = { λ list. list };
+
+    fn procedure_of(&self, xid: u32) -> Option<ProcId> {
+        for call in &self.calls {
+            if call.xid == xid {
+                return Some(call.id);
+            }
+        }
+        None
+    }
+}
+
+impl CallTable for CallList {
+    fn clear(&mut self) {
         self.calls.clear();
     }
 
-    pub(crate) fn as_slice(&self) -> &[NumberedCall]
-        ensures { result.now ≡ self.now }
-    {
-        &self.calls
-    }
-
-    /// Adds a call, unless its xid is there.
-    pub(crate) fn add(&mut self, xid: u32, id: ProcId) -> Result<(), AllocError>
-        ensures ok { OnOk result (self.new ≡ with_call self.old xid id) }
-        ensures err { OnErr result (self.new ≡ self.old) }
-    {
-        if procedure_in(&self.calls, xid).is_none() {
+    fn add(&mut self, xid: u32, id: ProcId) -> Result<(), AllocError> {
+        if self.procedure_of(xid).is_none() {
             self.calls.push(NumberedCall { xid, id })?;
         }
         Ok(())
     }
 }
 
-/// The procedure of the calls with this xid.
-pub(crate) fn procedure_in(calls: &[NumberedCall], xid: u32) -> Option<ProcId>
-    ensures { result ≡ found calls.now xid }
-{
-    for call in calls {
-        if call.xid == xid {
-            return Some(call.id);
-        }
-    }
-    None
+/// The same hashed by their xids. The hasher plays no part in the answers.
+#[derive(Drop)]
+pub(crate) struct HashedCalls<S: BuildHasher + Drop> {
+    calls: IndexMap<u32, ProcId, S>,
 }
 
-/// Tells that no call has this xid and another procedure.
-pub(crate) fn agrees_in(calls: &[NumberedCall], xid: u32, id: ProcId) -> bool
-    ensures { result ≡ agrees (found calls.now xid) id }
-{
-    match procedure_in(calls, xid) {
-        None => true,
-        Some(other) => other == id,
+impl<S: BuildHasher + Drop> Model for HashedCalls<S> {
+    ghost use Rattle.std.specs.Prelude.{List};
+    ghost use Rattle.capture3.specs.Calls.{numbered_calls};
+    ghost use Rattle.capture3.specs.declared.calls.NumberedCall.{NumberedCall};
+
+    ghost Value = { List NumberedCall };
+
+    ghost view = { λ table. numbered_calls table.calls.entries };
+}
+
+impl<S: BuildHasher + Drop> HashedCalls<S> {
+    pub(crate) fn new(alloc: Global, hasher: S) -> HashedCalls<S>
+        ensures { result ≡ [] }
+    {
+        HashedCalls {
+            calls: IndexMap::with_hasher(alloc, hasher),
+        }
+    }
+}
+
+impl<S: BuildHasher + Drop> KnownCalls for HashedCalls<S> {
+    ghost calls = { λ table. table };
+
+    fn procedure_of(&self, xid: u32) -> Option<ProcId> {
+        self.calls.get(&xid).copied()
+    }
+}
+
+impl<S: BuildHasher + Drop> CallTable for HashedCalls<S> {
+    fn clear(&mut self) {
+        self.calls.clear();
+    }
+
+    fn add(&mut self, xid: u32, id: ProcId) -> Result<(), AllocError> {
+        match self.procedure_of(xid) {
+            Some(_) => Ok(()),
+            None => {
+                self.calls.insert(xid, id)?;
+                Ok(())
+            }
+        }
+    }
+}
+
+/// No call, or one.
+impl KnownCalls for Option<NumberedCall> {
+    ghost use Rattle.capture3.specs.Calls.{one_or_none};
+
+    ghost calls = { one_or_none };
+
+    fn procedure_of(&self, xid: u32) -> Option<ProcId> {
+        match self {
+            Some(call) if call.xid == xid => Some(call.id),
+            _ => None,
+        }
     }
 }

@@ -11,6 +11,7 @@ ghost use Rattle.capture3.specs.Entry as spec;
 ghost use Rattle.capture3.specs.Laws.{most_bytes};
 ghost use Rattle.capture3.specs.Position.{IsSound};
 
+use crate::calls::HashedCalls;
 use crate::device::DeviceFailed;
 use crate::entry::Entry;
 use crate::fault::Error;
@@ -18,6 +19,7 @@ use crate::judging::Capture;
 use crate::position::file_fault;
 use crate::source::Source;
 use std::alloc::{AllocError, Global};
+use std::hash::BuildHasher;
 use xdr3::Reason;
 
 /// How many bytes a read asks for.
@@ -41,7 +43,7 @@ enum Stage {
 /// Reads the entries of a capture one by one. It holds one block of the source's bytes, one record, and
 /// the calls of the open connection.
 #[derive(Drop)]
-pub struct Entries<'r, R> {
+pub struct Entries<'r, R, S: BuildHasher + Drop> {
     source: &'r mut R,
     alloc: Global,
     // The bytes from `start` to `end` are not judged yet.
@@ -50,7 +52,7 @@ pub struct Entries<'r, R> {
     end: usize,
     // How many bytes were judged.
     judged: u64,
-    capture: Capture,
+    capture: Capture<HashedCalls<S>>,
     stage: Stage,
     ghost ordered: { start ≤ end },
     ghost within: { end ≤ vec_len block },
@@ -60,23 +62,24 @@ pub struct Entries<'r, R> {
     ghost never_writes: { stage ≢ stages.Failed errors.Write },
 }
 
-impl<'r, R: Source> Entries<'r, R> {
+impl<'r, R: Source, S: BuildHasher + Drop> Entries<'r, R, S> {
     ghost use Rattle.capture3.specs.Entries.{Answers, CountsReading, entries_left, failure_of, GoesOn, HasRead, StandsFor, Turns};
 
-    /// Takes the block's memory, and reads nothing.
-    pub fn new(alloc: Global, source: &'r mut R) -> Result<Entries<'r, R>, AllocError>
+    /// Takes the block's memory, and reads nothing. The hasher is for the calls of a connection by their
+    /// xids, and plays no part in the answers.
+    pub fn new(alloc: Global, hasher: S, source: &'r mut R) -> Result<Entries<'r, R, S>, AllocError>
         ensures stands { IfOk result (λ entries. StandsFor R.left entries [] []) }
         ensures unread { IfOk result (λ entries. entries.source.now ≡ source.old) }
         ensures going { IfOk result (λ entries. failure_of entries ≡ None) }
         ensures same_reference { IfOk result (λ entries. entries.source.ghost_name ≡ source.entry.ghost_name) }
     {
         let block = new_block(alloc)?;
-        Ok(Entries::through(alloc, source, block))
+        Ok(Entries::through(alloc, hasher, source, block))
     }
 
     /// The same through a block that is there already, and has room: where memory is wanting, the
     /// source was not lent.
-    pub fn through(alloc: Global, source: &'r mut R, block: Vec<u8>) -> Entries<'r, R>
+    pub fn through(alloc: Global, hasher: S, source: &'r mut R, block: Vec<u8>) -> Entries<'r, R, S>
         requires { 0 < vec_len block }
         ensures stands { StandsFor R.left result [] [] }
         ensures unread { result.source.now ≡ source.old }
@@ -90,7 +93,7 @@ impl<'r, R: Source> Entries<'r, R> {
             start: 0,
             end: 0,
             judged: 0,
-            capture: Capture::new(alloc),
+            capture: Capture::new(alloc, HashedCalls::new(alloc, hasher)),
             stage: Stage::Reading,
         }
     }

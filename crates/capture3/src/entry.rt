@@ -48,7 +48,7 @@ impl KeptCall {
         ensures call { IfOk result (λ call. IsCall self.now.body.items (call_items call)) }
         ensures procedure { IfOk result (λ call. call.head.id ≡ self.now.id) }
     {
-        match judge_call(alloc, &[], &self.body) {
+        match judge_call(alloc, &None::<NumberedCall>, &self.body) {
             Ok(call) => Ok(call),
             Err(GetError::Memory) => Err(AllocError),
             Err(GetError::Stop(_)) => unreachable!(),
@@ -69,7 +69,7 @@ impl KeptReply {
             xid: start.xid,
             id: self.id,
         };
-        match judge_reply(alloc, &[call], &self.body) {
+        match judge_reply(alloc, &Some(call), &self.body) {
             Ok(reply) => Ok(reply),
             Err(GetError::Memory) => Err(AllocError),
             Err(GetError::Stop(_)) => unreachable!(),

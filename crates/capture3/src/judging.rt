@@ -13,7 +13,7 @@ ghost use Rattle.capture3.specs.Messages.{IsTableOf};
 ghost use Rattle.capture3.specs.Parsing.{Parsing, file_next, file_start};
 ghost use Rattle.capture3.specs.Position.{cost_of, IsSound, most_things, room_of};
 
-use crate::calls::CallList;
+use crate::calls::CallTable;
 use crate::container::Container;
 use crate::entry::{Entry, KeptCall, KeptReply};
 use crate::fault::{Error, Place, Side};
@@ -24,21 +24,22 @@ use xdr3::{GetError, Reason};
 
 /// A container, and the calls of its open connection.
 #[derive(Drop)]
-pub(crate) struct Capture {
+pub(crate) struct Capture<C: Drop> {
     pub(crate) container: Container,
-    pub(crate) calls: CallList,
+    pub(crate) calls: C,
 }
 
-impl Capture {
-    pub(crate) fn new(alloc: Global) -> Capture
+impl<C: CallTable + Drop> Capture<C> {
+    pub(crate) fn new(alloc: Global, calls: C) -> Capture<C>
+        requires none { C.calls calls ≡ [] }
         ensures sound { IsSound result.container.position }
         ensures running { IsRunning result.container.joiner }
         ensures room { room_of result.container.position ≤ most_things }
-        ensures machine { StandsAt result.container.position result.container.joiner result.calls (Runs file_start) [] }
+        ensures machine { StandsAt result.container.position result.container.joiner (C.calls result.calls) (Runs file_start) [] }
     {
         Capture {
             container: Container::new(alloc),
-            calls: CallList::new(alloc),
+            calls,
         }
     }
 
@@ -56,8 +57,8 @@ impl Capture {
         ensures sound { OnOk result (IsSound self.new.container.position) }
         ensures running { OnOk result (IsRunning self.new.container.joiner) }
         ensures room { IfOk result (λ r. room_of self.new.container.position + entry_cost r.1 ≤ room_of self.old.container.position) }
-        ensures machine { (run : Run Parsing Refusal) (entries : List spec.Entry) → StandsAt self.old.container.position self.old.container.joiner self.old.calls run entries → IfOk result (λ r. GoesTo r.1 self.new.container.position self.new.container.joiner self.new.calls (after file_next run (take r.0 piece.now)) entries) }
-        ensures fault { (run : Run Parsing Refusal) (entries : List spec.Entry) → StandsAt self.old.container.position self.old.container.joiner self.old.calls run entries → IfErr result (FailsAt run entries piece.now) }
+        ensures machine { (run : Run Parsing Refusal) (entries : List spec.Entry) → StandsAt self.old.container.position self.old.container.joiner (C.calls self.old.calls) run entries → IfOk result (λ r. GoesTo r.1 self.new.container.position self.new.container.joiner (C.calls self.new.calls) (after file_next run (take r.0 piece.now)) entries) }
+        ensures fault { (run : Run Parsing Refusal) (entries : List spec.Entry) → StandsAt self.old.container.position self.old.container.joiner (C.calls self.old.calls) run entries → IfErr result (FailsAt run entries piece.now) }
         ensures device { IfErr result IsOfBytes }
     {
         match self.container.advance(piece) {
@@ -83,8 +84,8 @@ impl Capture {
         requires { Leaves (Some event) self.old.container.joiner }
         ensures running { OnOk result (IsRunning self.new.container.joiner) }
         ensures position { self.new.container.position ≡ self.old.container.position }
-        ensures machine { (run : Run Parsing Refusal) (entries : List spec.Entry) → HasMet self.old.container.position self.old.container.joiner self.old.calls event run entries → IfOk result (λ one. GoesTo (Some one) self.new.container.position self.new.container.joiner self.new.calls run entries) }
-        ensures fault { (run : Run Parsing Refusal) (entries : List spec.Entry) → HasMet self.old.container.position self.old.container.joiner self.old.calls event run entries → IfErr result (EndsWith run) }
+        ensures machine { (run : Run Parsing Refusal) (entries : List spec.Entry) → HasMet self.old.container.position self.old.container.joiner (C.calls self.old.calls) event run entries → IfOk result (λ one. GoesTo (Some one) self.new.container.position self.new.container.joiner (C.calls self.new.calls) run entries) }
+        ensures fault { (run : Run Parsing Refusal) (entries : List spec.Entry) → HasMet self.old.container.position self.old.container.joiner (C.calls self.old.calls) event run entries → IfErr result (EndsWith run) }
         ensures device { IfErr result IsOfBytes }
     {
         match event {
@@ -103,8 +104,8 @@ impl Capture {
         requires { IsWhole self.old.container.joiner }
         ensures running { OnOk result (IsRunning self.new.container.joiner) }
         ensures position { self.new.container.position ≡ self.old.container.position }
-        ensures machine { (run : Run Parsing Refusal) (entries : List spec.Entry) → HasMet self.old.container.position self.old.container.joiner self.old.calls (Event.Record side) run entries → IfOk result (λ one. GoesTo (Some one) self.new.container.position self.new.container.joiner self.new.calls run entries) }
-        ensures fault { (run : Run Parsing Refusal) (entries : List spec.Entry) → HasMet self.old.container.position self.old.container.joiner self.old.calls (Event.Record side) run entries → IfErr result (EndsWith run) }
+        ensures machine { (run : Run Parsing Refusal) (entries : List spec.Entry) → HasMet self.old.container.position self.old.container.joiner (C.calls self.old.calls) (Event.Record side) run entries → IfOk result (λ one. GoesTo (Some one) self.new.container.position self.new.container.joiner (C.calls self.new.calls) run entries) }
+        ensures fault { (run : Run Parsing Refusal) (entries : List spec.Entry) → HasMet self.old.container.position self.old.container.joiner (C.calls self.old.calls) (Event.Record side) run entries → IfErr result (EndsWith run) }
         ensures device { IfErr result IsOfBytes }
     {
         match side {
@@ -124,12 +125,12 @@ impl Capture {
         requires { IsWhole self.old.container.joiner }
         ensures joiner { OnOk result (self.new.container.joiner ≡ unbegun) }
         ensures position { self.new.container.position ≡ self.old.container.position }
-        ensures ok { (calls : List (List Item)) → IsTableOf self.old.calls calls → IfOk result (KeepsCall calls (body_of self.old.container.joiner) self.new.calls) }
-        ensures err { (calls : List (List Item)) → IsTableOf self.old.calls calls → IfErr result (RefusesBody self.old.container.position Side.Client (judge_call calls (body_of self.old.container.joiner))) }
+        ensures ok { (calls : List (List Item)) → IsTableOf (C.calls self.old.calls) calls → IfOk result (KeepsCall calls (body_of self.old.container.joiner) (C.calls self.new.calls)) }
+        ensures err { (calls : List (List Item)) → IsTableOf (C.calls self.old.calls) calls → IfErr result (RefusesBody self.old.container.position Side.Client (judge_call calls (body_of self.old.container.joiner))) }
         ensures device { IfErr result IsOfBytes }
     {
         let body = self.container.body();
-        let (xid, id) = match judge_call(alloc, self.calls.as_slice(), body) {
+        let (xid, id) = match judge_call(alloc, &self.calls, body) {
             Ok(call) => (call.xid, call.head.id),
             Err(error) => return Err(self.record_error(Side::Client, error)),
         };
@@ -144,13 +145,13 @@ impl Capture {
         requires { IsWhole self.old.container.joiner }
         ensures joiner { OnOk result (self.new.container.joiner ≡ unbegun) }
         ensures position { self.new.container.position ≡ self.old.container.position }
-        ensures calls { self.new.calls ≡ self.old.calls }
-        ensures ok { (calls : List (List Item)) → IsTableOf self.old.calls calls → IfOk result (KeepsReply calls (body_of self.old.container.joiner)) }
-        ensures err { (calls : List (List Item)) → IsTableOf self.old.calls calls → IfErr result (RefusesBody self.old.container.position Side.Server (judge_reply calls (body_of self.old.container.joiner))) }
+        ensures calls { C.calls self.new.calls ≡ C.calls self.old.calls }
+        ensures ok { (calls : List (List Item)) → IsTableOf (C.calls self.old.calls) calls → IfOk result (KeepsReply calls (body_of self.old.container.joiner)) }
+        ensures err { (calls : List (List Item)) → IsTableOf (C.calls self.old.calls) calls → IfErr result (RefusesBody self.old.container.position Side.Server (judge_reply calls (body_of self.old.container.joiner))) }
         ensures device { IfErr result IsOfBytes }
     {
         let body = self.container.body();
-        let id = match judge_reply(alloc, self.calls.as_slice(), body) {
+        let id = match judge_reply(alloc, &self.calls, body) {
             Ok(reply) => reply.id,
             Err(error) => return Err(self.record_error(Side::Server, error)),
         };

@@ -10,7 +10,7 @@ ghost use Rattle.capture3.specs.Calls.{found};
 ghost use Rattle.capture3.specs.Judging as spec;
 ghost use Rattle.capture3.specs.Messages.{answered_items, behind_items, call_items, IsTableOf, Judged, reading_behind};
 
-use crate::calls::{NumberedCall, agrees_in, procedure_in};
+use crate::calls::{KnownCalls, agrees_in};
 use procs3::{Args, Results};
 use rpc_head::{Accept, CallHead, ProcId, ReplyHead, start};
 use std::alloc::Global;
@@ -35,13 +35,13 @@ pub struct ReplyMsg<'a> {
 }
 
 /// Reads a body of the client stream, behind the calls of its connection that came before it.
-pub(crate) fn judge_call<'a>(
+pub(crate) fn judge_call<'a, C: KnownCalls>(
     alloc: Global,
-    calls: &[NumberedCall],
+    calls: &C,
     body: &'a [u8],
 ) -> Result<CallMsg<'a>, GetError>
     requires { length body.now ≤ 16777216 }
-    ensures judged { (before : List (List Item)) → IsTableOf calls.now before → Judged call_items result (spec.judge_call before body.now) }
+    ensures judged { (before : List (List Item)) → IsTableOf (C.calls calls.now) before → Judged call_items result (spec.judge_call before body.now) }
     ensures call { IfOk result (λ call. IsCall body.now (call_items call)) }
 {
     let mut input = Input::new(body);
@@ -63,22 +63,22 @@ pub(crate) fn judge_call<'a>(
 }
 
 /// Reads a body of the server stream, behind all calls of its connection.
-pub(crate) fn judge_reply<'a>(
+pub(crate) fn judge_reply<'a, C: KnownCalls>(
     alloc: Global,
-    calls: &[NumberedCall],
+    calls: &C,
     body: &'a [u8],
 ) -> Result<ReplyMsg<'a>, GetError>
     requires { length body.now ≤ 16777216 }
-    ensures judged { (before : List (List Item)) → IsTableOf calls.now before → Judged answered_items result (spec.judge_reply before body.now) }
+    ensures judged { (before : List (List Item)) → IsTableOf (C.calls calls.now) before → Judged answered_items result (spec.judge_reply before body.now) }
     ensures reply { IfOk result (λ reply. IsReply body.now (answered_items reply)) }
-    ensures procedure { IfOk result (λ reply. found calls.now reply.xid ≡ Some reply.id) }
+    ensures procedure { IfOk result (λ reply. found (C.calls calls.now) reply.xid ≡ Some reply.id) }
 {
     let mut input = Input::new(body);
     let start = start(&mut input)?;
     if !start.is_reply {
         return Err(stop(4, Reason::WrongSide));
     }
-    let Some(id) = procedure_in(calls, start.xid) else {
+    let Some(id) = calls.procedure_of(start.xid) else {
         return Err(stop(0, Reason::NoCall));
     };
     let head = ReplyHead::get(alloc, &mut input)?;

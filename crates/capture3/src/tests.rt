@@ -3,6 +3,7 @@ use super::{
 };
 use rpc_head::ProcId;
 use std::alloc::Global;
+use std::hash::{BuildHasherDefault, FoldHasher};
 use std::process::Abort;
 use std::test::Fail;
 use xdr3::Reason;
@@ -21,6 +22,11 @@ const NULL_PROCEDURE: ProcId = ProcId {
     vers: 3,
     proc_no: 0,
 };
+
+/// A hasher without a key: the answers do not depend on it.
+fn hasher() -> BuildHasherDefault<FoldHasher> {
+    BuildHasherDefault::default()
+}
 
 fn name(entry: &Entry) -> &'static str {
     match entry {
@@ -108,7 +114,7 @@ fn read_names<S: Source>(
     alloc: Global,
     source: &mut S,
 ) -> Result<(Vec<&'static str>, Option<Error>), Fail> {
-    let mut entries = Entries::new(alloc, source)?;
+    let mut entries = Entries::new(alloc, hasher(), source)?;
     let mut names = Vec::new(alloc);
     for _ in 0..10 {
         match entries.next() {
@@ -154,7 +160,7 @@ fn entries_in_blocks(rt: HostRuntime) -> Result<(), Fail> {
 #[test]
 fn kept_messages_one_by_one(rt: HostRuntime) -> Result<(), Fail> {
     let mut source = MemSource::new(&NULL, 5, 0);
-    let mut entries = Entries::new(rt.alloc(), &mut source)?;
+    let mut entries = Entries::new(rt.alloc(), hasher(), &mut source)?;
     for _ in 0..NAMES.len() {
         match entries.next()? {
             Some(Entry::Call(kept)) => {
@@ -205,5 +211,30 @@ fn a_byte_behind_the_end(rt: HostRuntime) -> Result<(), Fail> {
         assert_eq!(rt; names.as_slice(), &NAMES[..5]);
         assert_eq!(rt; error, Some(file_fault(104, Reason::AfterEnd)));
     }
+    Ok(())
+}
+
+/// A connection of 20,000 calls of NULL, each with an xid of its own.
+#[test]
+fn calls_with_many_xids(rt: HostRuntime) -> Result<(), Fail> {
+    let mut file = Vec::from_slice(rt.alloc(), &NULL[..12])?;
+    for xid in 0..20_000_u32 {
+        // the lengths of the chunk and of the fragment, the xid, and the rest of the call
+        file.extend_from_slice(&NULL[12..20])?;
+        file.extend_from_slice(&xid.to_be_bytes())?;
+        file.extend_from_slice(&NULL[24..60])?;
+    }
+    // no replies, and no more connections
+    file.extend_from_slice(&[0; 12])?;
+    let mut source = MemSource::new(&file, 65_536, 0);
+    let mut entries = Entries::new(rt.alloc(), hasher(), &mut source)?;
+    let mut calls = 0_u32;
+    for _ in 0..20_004 {
+        if let Some(Entry::Call(_)) = entries.next()? {
+            calls = calls.saturating_add(1);
+        }
+    }
+    assert_eq!(rt; calls, 20_000);
+    assert!(rt; matches!(entries.next(), Ok(None)));
     Ok(())
 }

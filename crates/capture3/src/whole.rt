@@ -11,6 +11,7 @@ ghost use Rattle.capture3.specs.Laws.{spelled};
 ghost use Rattle.capture3.specs.Position.{most_entries};
 ghost use Rattle.capture3.specs.Typed.{Typed};
 
+use crate::calls::CallList;
 use crate::entry::Entry;
 use crate::fault::Error;
 use crate::judging::Capture;
@@ -31,7 +32,7 @@ pub fn parse(alloc: Global, bytes: &[u8]) -> Result<Vec<Entry>, Error>
     ensures spelled { IfOk result (λ _. (entries : List spec.Entry) → Typed bytes.now entries → spelled entries ≤ max_bytes) }
     ensures few { IfOk result (λ kept. vec_len kept ≤ most_entries) }
 {
-    let mut capture = Capture::new(alloc);
+    let mut capture = Capture::new(alloc, CallList::new(alloc));
     let mut entries = Vec::new(alloc);
     let mut taken = 0;
     while taken < bytes.len() {

@@ -11,25 +11,25 @@ use Rattle.capture3.proofs.Judgements.{CallBegins, call_accepted, call_bad_argum
 use Rattle.capture3.proofs.message.judge_call.Goals as goal
 
 pub returns-in_err-start-clause-judged : goal.returns-in_err-start-clause-judged
-returns-in_err-start-clause-judged c before table =
+returns-in_err-start-clause-judged g c before table =
     stop_judged call_items _ _ c.in_err-start.field-0.0 c.from_residual.ensures.1
     (call_bad_start before c.args.body.now c.in_err-start.field-0.0 (rw (c.new-input.ensures.body, c.new-input.ensures.start) at c.in_err-start.ensures.read))
 
 pub returns-then-start-clause-judged : goal.returns-then-start-clause-judged
-returns-then-start-clause-judged c before table =
+returns-then-start-clause-judged g c before table =
     let start = rw (c.new-input.ensures.body, c.new-input.ensures.start) at c.in_ok-start.ensures.read in
     refusal_judged c.stop.result (judge_call before c.args.body.now) (record { at = 4; reason = WrongSide }) c.stop.ensures
     (call_wrong_side before c.args.body.now c.in_ok-start.start c.start.new.input.at start c.if-start.true)
 
 pub returns-in_err-head-clause-judged : goal.returns-in_err-head-clause-judged
-returns-in_err-head-clause-judged c before table =
+returns-in_err-head-clause-judged g c before table =
     let start = rw (c.new-input.ensures.body, c.new-input.ensures.start) at c.in_ok-start.ensures.read in
     let body : c.start.new.input.body ≡ c.args.body.now = c.in_ok-start.ensures.moves.same_body ∙ c.new-input.ensures.body in
     error_judged call_items _ _ c.in_err-head.field-0.0 c.from_residual-in_err-head.ensures.1
     (λ stop is. call_bad_head before c.args.body.now c.in_ok-start.start stop c.start.new.input.at start c.if-start.false (rw body at (c.in_err-head.ensures.read stop is)))
 
 pub returns-in_err-args-clause-judged : goal.returns-in_err-args-clause-judged
-returns-in_err-args-clause-judged c before table =
+returns-in_err-args-clause-judged g c before table =
     let start = rw (c.new-input.ensures.body, c.new-input.ensures.start) at c.in_ok-start.ensures.read in
     let body : c.start.new.input.body ≡ c.args.body.now = c.in_ok-start.ensures.moves.same_body ∙ c.new-input.ensures.body in
     let behind : c.get.new.input.body ≡ c.args.body.now = c.in_ok-head.ensures.moves.same_body ∙ body in
@@ -39,7 +39,7 @@ returns-in_err-args-clause-judged c before table =
     (λ stop is. call_bad_arguments before c.args.body.now c.in_ok-start.start c.in_ok-head.head c.start.new.input.at c.get.new.input.at stop begins (rw behind at (c.in_err-args.ensures.read stop is)))
 
 pub returns-in_err-end-clause-judged : goal.returns-in_err-end-clause-judged
-returns-in_err-end-clause-judged c before table =
+returns-in_err-end-clause-judged g c before table =
     let start = rw (c.new-input.ensures.body, c.new-input.ensures.start) at c.in_ok-start.ensures.read in
     let body : c.start.new.input.body ≡ c.args.body.now = c.in_ok-start.ensures.moves.same_body ∙ c.new-input.ensures.body in
     let behind : c.get.new.input.body ≡ c.args.body.now = c.in_ok-head.ensures.moves.same_body ∙ body in
@@ -52,7 +52,7 @@ returns-in_err-end-clause-judged c before table =
     ∙ ap (λ (s : Stop). Err s) (sym c.in_err-end.ensures.err))
 
 pub returns-then-not-agrees_in-clause-judged : goal.returns-then-not-agrees_in-clause-judged
-returns-then-not-agrees_in-clause-judged c before table =
+returns-then-not-agrees_in-clause-judged g c before table =
     let start = rw (c.new-input.ensures.body, c.new-input.ensures.start) at c.in_ok-start.ensures.read in
     let body : c.start.new.input.body ≡ c.args.body.now = c.in_ok-start.ensures.moves.same_body ∙ c.new-input.ensures.body in
     let behind : c.get.new.input.body ≡ c.args.body.now = c.in_ok-head.ensures.moves.same_body ∙ body in
@@ -66,7 +66,7 @@ returns-then-not-agrees_in-clause-judged c before table =
     (call_conflicts before c.args.body.now c.in_ok-start.start c.in_ok-head.head c.start.new.input.at c.get.new.input.at c.get-2.new.input.at (args_items c.in_ok-args.args) begins (rw behind at c.in_ok-args.ensures.read) is disagree)
 
 pub returns-clause-judged : goal.returns-clause-judged
-returns-clause-judged c before table =
+returns-clause-judged g c before table =
     let start = rw (c.new-input.ensures.body, c.new-input.ensures.start) at c.in_ok-start.ensures.read in
     let body : c.start.new.input.body ≡ c.args.body.now = c.in_ok-start.ensures.moves.same_body ∙ c.new-input.ensures.body in
     let behind : c.get.new.input.body ≡ c.args.body.now = c.in_ok-head.ensures.moves.same_body ∙ body in
@@ -81,7 +81,7 @@ returns-clause-judged c before table =
 
 -- the same behind no calls, which tells that the body is a call
 pub returns-clause-call : goal.returns-clause-call
-returns-clause-call c =
+returns-clause-call g c =
     let start = rw (c.new-input.ensures.body, c.new-input.ensures.start) at c.in_ok-start.ensures.read in
     let body : c.start.new.input.body ≡ c.args.body.now = c.in_ok-start.ensures.moves.same_body ∙ c.new-input.ensures.body in
     let behind : c.get.new.input.body ≡ c.args.body.now = c.in_ok-head.ensures.moves.same_body ∙ body in

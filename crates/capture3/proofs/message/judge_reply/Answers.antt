@@ -12,48 +12,48 @@ use Rattle.capture3.proofs.Judgements.{ReplyBegins, error_judged, not_false, not
 use Rattle.capture3.proofs.message.judge_reply.Goals as goal
 
 pub returns-in_err-start-clause-judged : goal.returns-in_err-start-clause-judged
-returns-in_err-start-clause-judged c before table =
+returns-in_err-start-clause-judged g c before table =
     stop_judged answered_items _ _ c.in_err-start.field-0.0 c.from_residual.ensures.1
     (reply_bad_start before c.args.body.now c.in_err-start.field-0.0 (rw (c.new-input.ensures.body, c.new-input.ensures.start) at c.in_err-start.ensures.read))
 
 pub returns-then-not-start-clause-judged : goal.returns-then-not-start-clause-judged
-returns-then-not-start-clause-judged c before table =
+returns-then-not-start-clause-judged g c before table =
     let start = rw (c.new-input.ensures.body, c.new-input.ensures.start) at c.in_ok-start.ensures.read in
     refusal_judged c.stop.result (judge_reply before c.args.body.now) (record { at = 4; reason = WrongSide }) c.stop.ensures
     (reply_wrong_side before c.args.body.now c.in_ok-start.start c.start.new.input.at start (not_true c.in_ok-start.start.is_reply c.if-not-start.true))
 
 pub returns-in_default-clause-judged : goal.returns-in_default-clause-judged
-returns-in_default-clause-judged c before table =
+returns-in_default-clause-judged g c before table =
     let start = rw (c.new-input.ensures.body, c.new-input.ensures.start) at c.in_ok-start.ensures.read in
-    let none : procedure_of before c.in_ok-start.start.xid ≡ None = sym (table c.in_ok-start.start.xid) ∙ sym c.procedure_in.ensures ∙ c.in_default.is in
+    let none : procedure_of before c.in_ok-start.start.xid ≡ None = sym (table c.in_ok-start.start.xid) ∙ sym c.procedure_of.ensures ∙ c.in_default.is in
     refusal_judged c.stop-in_default.result (judge_reply before c.args.body.now) (record { at = 0; reason = NoCall }) c.stop-in_default.ensures
     (reply_unasked before c.args.body.now c.in_ok-start.start c.start.new.input.at start (not_false c.in_ok-start.start.is_reply c.if-not-start.false) none)
 
 pub returns-in_err-head-clause-judged : goal.returns-in_err-head-clause-judged
-returns-in_err-head-clause-judged c before table =
+returns-in_err-head-clause-judged g c before table =
     let start = rw (c.new-input.ensures.body, c.new-input.ensures.start) at c.in_ok-start.ensures.read in
     let body : c.start.new.input.body ≡ c.args.body.now = c.in_ok-start.ensures.moves.same_body ∙ c.new-input.ensures.body in
-    let asked : procedure_of before c.in_ok-start.start.xid ≡ Some c.in-Some.id = sym (table c.in_ok-start.start.xid) ∙ sym c.procedure_in.ensures ∙ c.in-Some.is in
+    let asked : procedure_of before c.in_ok-start.start.xid ≡ Some c.in-Some.id = sym (table c.in_ok-start.start.xid) ∙ sym c.procedure_of.ensures ∙ c.in-Some.is in
     error_judged answered_items _ _ c.in_err-head.field-0.0 c.from_residual-in_err-head.ensures.1
     (λ stop is. reply_bad_head before c.args.body.now c.in_ok-start.start c.in-Some.id stop c.start.new.input.at start (not_false c.in_ok-start.start.is_reply c.if-not-start.false) asked (rw body at (c.in_err-head.ensures.read stop is)))
 
 pub returns-in_err-results-clause-judged : goal.returns-in_err-results-clause-judged
-returns-in_err-results-clause-judged c before table =
+returns-in_err-results-clause-judged g c before table =
     let start = rw (c.new-input.ensures.body, c.new-input.ensures.start) at c.in_ok-start.ensures.read in
     let body : c.start.new.input.body ≡ c.args.body.now = c.in_ok-start.ensures.moves.same_body ∙ c.new-input.ensures.body in
     let behind : c.get.new.input.body ≡ c.args.body.now = c.in_ok-head.ensures.moves.same_body ∙ body in
-    let asked : procedure_of before c.in_ok-start.start.xid ≡ Some c.in-Some.id = sym (table c.in_ok-start.start.xid) ∙ sym c.procedure_in.ensures ∙ c.in-Some.is in
+    let asked : procedure_of before c.in_ok-start.start.xid ≡ Some c.in-Some.id = sym (table c.in_ok-start.start.xid) ∙ sym c.procedure_of.ensures ∙ c.in-Some.is in
     let begins : ReplyBegins before c.args.body.now c.in_ok-start.start c.in-Some.id c.in_ok-head.head c.start.new.input.at c.get.new.input.at =
     record { start = start; is_reply = not_false c.in_ok-start.start.is_reply c.if-not-start.false; asked = asked; read = rw body at c.in_ok-head.ensures.read } in
     error_judged answered_items _ _ c.in_err-results.field-0.0 c.from_residual-in_err-results.ensures.1
     (λ stop is. reply_bad_results before c.args.body.now c.in_ok-start.start c.in-Some.id c.in_ok-head.head c.start.new.input.at c.get.new.input.at stop begins (rw behind at (c.in_err-results.ensures.read stop is)))
 
 pub returns-in_err-end-clause-judged : goal.returns-in_err-end-clause-judged
-returns-in_err-end-clause-judged c before table =
+returns-in_err-end-clause-judged g c before table =
     let start = rw (c.new-input.ensures.body, c.new-input.ensures.start) at c.in_ok-start.ensures.read in
     let body : c.start.new.input.body ≡ c.args.body.now = c.in_ok-start.ensures.moves.same_body ∙ c.new-input.ensures.body in
     let behind : c.get.new.input.body ≡ c.args.body.now = c.in_ok-head.ensures.moves.same_body ∙ body in
-    let asked : procedure_of before c.in_ok-start.start.xid ≡ Some c.in-Some.id = sym (table c.in_ok-start.start.xid) ∙ sym c.procedure_in.ensures ∙ c.in-Some.is in
+    let asked : procedure_of before c.in_ok-start.start.xid ≡ Some c.in-Some.id = sym (table c.in_ok-start.start.xid) ∙ sym c.procedure_of.ensures ∙ c.in-Some.is in
     let begins : ReplyBegins before c.args.body.now c.in_ok-start.start c.in-Some.id c.in_ok-head.head c.start.new.input.at c.get.new.input.at =
     record { start = start; is_reply = not_false c.in_ok-start.start.is_reply c.if-not-start.false; asked = asked; read = rw body at c.in_ok-head.ensures.read } in
     let last : c.results_after.new.input.body ≡ c.args.body.now = c.in_ok-results.ensures.moves.same_body ∙ behind in
@@ -63,11 +63,11 @@ returns-in_err-end-clause-judged c before table =
     ∙ ap (λ (s : Stop). Err s) (sym c.in_err-end.ensures.err))
 
 pub returns-clause-judged : goal.returns-clause-judged
-returns-clause-judged c before table =
+returns-clause-judged g c before table =
     let start = rw (c.new-input.ensures.body, c.new-input.ensures.start) at c.in_ok-start.ensures.read in
     let body : c.start.new.input.body ≡ c.args.body.now = c.in_ok-start.ensures.moves.same_body ∙ c.new-input.ensures.body in
     let behind : c.get.new.input.body ≡ c.args.body.now = c.in_ok-head.ensures.moves.same_body ∙ body in
-    let asked : procedure_of before c.in_ok-start.start.xid ≡ Some c.in-Some.id = sym (table c.in_ok-start.start.xid) ∙ sym c.procedure_in.ensures ∙ c.in-Some.is in
+    let asked : procedure_of before c.in_ok-start.start.xid ≡ Some c.in-Some.id = sym (table c.in_ok-start.start.xid) ∙ sym c.procedure_of.ensures ∙ c.in-Some.is in
     let begins : ReplyBegins before c.args.body.now c.in_ok-start.start c.in-Some.id c.in_ok-head.head c.start.new.input.at c.get.new.input.at =
     record { start = start; is_reply = not_false c.in_ok-start.start.is_reply c.if-not-start.false; asked = asked; read = rw body at c.in_ok-head.ensures.read } in
     let last : c.results_after.new.input.body ≡ c.args.body.now = c.in_ok-results.ensures.moves.same_body ∙ behind in
@@ -84,7 +84,7 @@ asked_by xid id = ap (λ b. cond b (Some id) None) (eq-eqb xid xid refl)
 
 -- the same behind such a call, which tells that the body is a reply
 pub returns-clause-reply : goal.returns-clause-reply
-returns-clause-reply c =
+returns-clause-reply g c =
     let start = rw (c.new-input.ensures.body, c.new-input.ensures.start) at c.in_ok-start.ensures.read in
     let body : c.start.new.input.body ≡ c.args.body.now = c.in_ok-start.ensures.moves.same_body ∙ c.new-input.ensures.body in
     let behind : c.get.new.input.body ≡ c.args.body.now = c.in_ok-head.ensures.moves.same_body ∙ body in

@@ -1,4 +1,4 @@
-use Rattle.capture3.proofs.Histories.{answers, answers_none}
+use Rattle.capture3.proofs.Histories.{answers, answers_again, answers_none}
 use Rattle.capture3.proofs.entries.Entries.next.Goals as goal
 
 pub returns-in-Over-clause-answers : goal.returns-in-Over-clause-answers
@@ -8,3 +8,6 @@ pub returns-in-Reading-clause-answers : goal.returns-in-Reading-clause-answers
 returns-in-Reading-clause-answers g c given handed s =
     let read = c.read_on.ensures in
     answers g.R.Source.left c.args.self.now c.read_on.new.self given handed c.read_on.result read.some read.going read.failed (read.turns given handed s)
+
+pub returns-in-Failed-clause-answers : goal.returns-in-Failed-clause-answers
+returns-in-Failed-clause-answers g c given handed s = answers_again g.R.Source.left c.args.self.now c.in-Failed.error given handed c.in-Failed.is s
