@@ -23,6 +23,7 @@ pub mod Files
 pub mod InOrder
 pub mod Closing
 pub mod First
+pub mod Reaching
 pub mod Checks
 pub mod Ends
 pub mod Parted

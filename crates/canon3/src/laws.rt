@@ -6,6 +6,7 @@ ghost use Rattle.xdr3.specs.Item.{Item};
 ghost use Rattle.rpc_head.specs.declared.call.ProcId.{ProcId};
 ghost use Rattle.capture3.specs.Capture.{total_size};
 ghost use Rattle.capture3.specs.Entry.{Entry};
+ghost use Rattle.capture3.specs.Reached.{Reached};
 ghost use Rattle.capture3.specs.Typed.{Typed};
 ghost use Rattle.canon3.specs.Rank.{rank, distinct, with_key, IsInjectiveOn};
 ghost use Rattle.canon3.specs.Pairing.{Member, Pairs, OneToOne, IsHandle, AreBeside};
@@ -44,6 +45,12 @@ pub fn numbers_keep_layouts()
 /// just these entries, which has no more stream bytes than the file.
 pub fn canonical_form_is_a_file()
     ensures { (file : List ℕ) (entries : List Entry) (typed : Typed file entries) → AreOfTheirBytes (canonical entries) (total_size typed.connections) }
+{}
+
+/// The entries that any bytes reach are the first entries of a well-formed file, so the laws speak of
+/// them too.
+pub fn reached_entries_are_first()
+    ensures { (bytes : List ℕ) (entries : List Entry) → Reached bytes entries → AreFirst entries }
 {}
 
 /// Canonicalising again changes nothing, and a canonical form is the same as what it is made of.

@@ -114,7 +114,7 @@ typed_within file entries h =
 
 -- ---- what is not whole
 
-begun_size : (before : ℕ) (bytes stream : List ℕ) → BeginsStream before bytes stream → before + length stream ≤ max_bytes
+pub begun_size : (before : ℕ) (bytes stream : List ℕ) → BeginsStream before bytes stream → before + length stream ≤ max_bytes
 begun_size before bytes stream (inl b) = b.fits
 begun_size before bytes stream (inr b) = omega (arith, b.fits)
 
@@ -160,7 +160,7 @@ rule_more bytes shown (ConnectionIsTooMany b none one full is) = ap (λ (r : Ref
 rule_more bytes shown (WithinConnection b one shows) = connection_more b.version _ b.rest shown shows
 rule_more bytes shown (ByteBehindEnd b none one is) = ap (λ (r : Refusal). r.more) is
 
-longest_more : (bytes front : List ℕ) (more : List Entry) → IsLongestClean bytes front more → more ≡ []
+pub longest_more : (bytes front : List ℕ) (more : List Entry) → IsLongestClean bytes front more → more ≡ []
 longest_more bytes front more h = elim h.longest [ inl l ↦ l.1 | inr r ↦ r.5 ∙ rule_more (front ++ r.0 ∷ []) r.2 r.4.rule ]
 
 pub reached_within : (bytes : List ℕ) (entries : List Entry) → Reached bytes entries → AreWithinLimits entries
