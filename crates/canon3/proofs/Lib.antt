@@ -26,3 +26,4 @@ pub mod First
 pub mod Checks
 pub mod Ends
 pub mod Parted
+pub mod Written

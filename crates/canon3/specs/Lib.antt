@@ -11,3 +11,4 @@ pub mod Following
 pub mod Parting
 pub mod Laws
 pub mod Examples
+pub mod Written

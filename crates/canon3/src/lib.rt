@@ -8,6 +8,7 @@ mod numbers;
 mod plan;
 mod sink;
 mod summary;
+mod writing;
 #[cfg(test)]
 mod tests;
 
