@@ -27,3 +27,5 @@ pub mod Checks
 pub mod Ends
 pub mod Parted
 pub mod Written
+pub mod Tables
+pub mod Visiting

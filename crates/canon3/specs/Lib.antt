@@ -12,3 +12,4 @@ pub mod Parting
 pub mod Laws
 pub mod Examples
 pub mod Written
+pub mod Numbered

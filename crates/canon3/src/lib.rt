@@ -4,6 +4,7 @@
 pub mod examples;
 mod handles;
 pub mod laws;
+mod numbered;
 mod numbers;
 mod plan;
 mod sink;
