@@ -1,8 +1,9 @@
 -- Each visit adds its item to the message that is written with numbers.
-use Rattle.std.proofs.Common.{◌≡◌, ◌≢◌, ℕ, ◌+◌, ◌<◌, ◌≤◌, ◌^◌, List, [], ◌∷◌, ◌++◌, length, length-append, append_assoc, append-nil, refl, sym, ap, ap₂, ◌∙◌, subst, arith, min, Result, Ok, Err}
-use Rattle.std.specs.Prelude.{bytes_eq, OnErr}
+use Rattle.std.proofs.Common.{◌≡◌, ◌≢◌, ℕ, ◌+◌, ◌<◌, ◌≤◌, ◌^◌, List, [], ◌∷◌, ◌++◌, length, length-append, append_assoc, append-nil, refl, sym, ap, ap₂, ◌∙◌, subst, arith, min, Result, Ok, Err, ◌⊎◌, inl, inr, Bool, true}
+use Rattle.std.specs.Prelude.{bytes_eq, OnErr, OnOk, ◌==◌}
 use Rattle.std.specs.List.{flat_map}
 use Rattle.std.proofs.lemmas.Grind.{flat_map-append}
+use Rattle.std.proofs.lemmas.Bool.Decides.{Decides-eqb}
 use Rattle.std.proofs.lemmas.Slice.Eq.{bytes_eq-Decides}
 use Rattle.byteorder.specs.Endian.{big_bytes}
 use Rattle.xdr3.specs.Item.{Item, Word, Hyper, Fixed, WriteVerf, Opaque, Rest, Handle, word_bytes, zero_spelling}
@@ -21,6 +22,12 @@ use Rattle.canon3.specs.Values.{handle_in, verifier_in, handles_in, verifiers_in
 use Rattle.canon3.proofs.Following.{items_after-push}
 use Rattle.canon3.proofs.Numbering.{plain_handle, plain_verifier, plain_numbered}
 use Rattle.canon3.proofs.Ranks.{member-append_right, rank-le-length}
+
+pub is_none : (l : List ℕ) (b : Bool) → b ≡ (length l == 0) → b ≡ true → l ≡ []
+is_none [] b e t = refl
+is_none (x ∷ l) b e t =
+    let none : length (x ∷ l) ≡ 0 = (Decides-eqb (length (x ∷ l)) 0).0 (sym e ∙ t) in
+    absurd (omega arith)
 
 pub still_err : {T E : Type 0} {P Q : Type 0} (r : Result T E) → (P → Q) → OnErr r P → OnErr r Q
 still_err (Ok x) f p = p
@@ -156,6 +163,10 @@ module _ {S H : Type 0} (n : Numbering S H) (bytes : List ℕ) where
   adds_plain i plain later =
       adds n with_writer i i (follows_plain i n.stage plain) refl later (λ hs vs h g few. sym (plain_numbered (hs ++ handle_in i) (vs ++ verifier_in i) i plain))
 
+  pub behind_xid : (n.stage ≡ Goes) ⊎ (n.stage ≡ Failed) → (number : ℕ) → n.stage ≢ Begins number
+  behind_xid (inl e) number b = absurd cc
+  behind_xid (inr e) number b = absurd cc
+
   -- a word behind the xid
   pub adds_word : (name : List ℕ) (x : ℕ) → ((number : ℕ) → n.stage ≢ Begins number) → Adds Spells n.writer bytes (Word name x ∷ []) → Adds Stands n with_writer (Word name x ∷ [])
   adds_word name x goes = adds_plain (Word name x) tt (λ before items going spelled. is_later before items spelled)
@@ -163,6 +174,11 @@ module _ {S H : Type 0} (n : Numbering S H) (bytes : List ℕ) where
       is_later : (before : Before) (items : List Item) → IsSpelled n.stage n.writer before items → IsLater (Word name x) items
       is_later before [] s = absurd (goes before.number s.0)
       is_later before (i ∷ items) s = tt
+
+  -- the empty handle stays
+  pub adds_empty_handle : (name handle : List ℕ) → handle ≡ [] → Adds Spells n.writer bytes (Opaque Handle name handle ∷ []) → Adds Stands n with_writer (Opaque Handle name handle ∷ [])
+  adds_empty_handle name [] none = adds_plain (Opaque Handle name []) tt (λ before items going spelled. tt)
+  adds_empty_handle name (b ∷ bs) none = absurd cc
 
   xid_spelled : (name : List ℕ) (x number : ℕ) (before : Before) (items : List Item) → n.stage ≡ Begins number → ((l : List Item) → Spells n.writer l → Spells bytes (l ++ Word name number ∷ []))
       → IsSpelled n.stage n.writer before items → IsSpelled Goes bytes before (items ++ Word name x ∷ [])
@@ -219,3 +235,9 @@ module _ {S H : Type 0} (n : Numbering S H) (bytes : List ℕ) where
       (record { xids = refl; handles = λ hs h. subst (HoldsHandles n.handles) (sym (append-nil hs)) h; verifiers = given })
       refl (λ before items going spelled. tt)
       (λ hs vs h g few. ap (WriteVerf name) (is_written ∙ append-nil (big_bytes 8 number) ∙ ap (big_bytes 8) (uncapped vs verifier number few.1 (is vs g))))
+
+-- ---- after errors
+
+pub settled : {T E V : Type 0} (P : V → Type 0) (written result : Result T E) (between new : V) → result ≡ written → OnOk written (new ≡ between) → OnOk written (P between) → OnOk result (P new)
+settled P (Ok x) result between new same stays p = rw same (subst P (sym stays) p)
+settled P (Err e) result between new same stays p = rw same tt

@@ -1,5 +1,5 @@
 -- A writer of messages with numbers in place of file handles, write verifiers and xids.
-use Rattle.std.specs.Prelude.{◌≡◌, ◌≢◌, ℕ, ◌<◌, ◌^◌, List, [], ◌∷◌, ◌++◌, length, map, bytes_eq, nat_eq}
+use Rattle.std.specs.Prelude.{◌≡◌, ◌≢◌, ℕ, ◌<◌, ◌^◌, List, [], ◌∷◌, ◌++◌, length, map, min, bytes_eq, nat_eq}
 use Rattle.xdr3.specs.Item.{Item, Word, Rest, zero_spelling}
 use Rattle.nfs3_types.specs.declared.handle.Handle as declared
 use Rattle.nfs3_types.specs.Handle.{bytes_of}
@@ -8,7 +8,7 @@ use Rattle.canon3.specs.declared.numbered.Stage.{Stage}
 use Rattle.canon3.specs.declared.numbered.Stage.TheVariants.{Begins, Goes, Failed}
 use Rattle.canon3.specs.Following.{items_after, message_after}
 use Rattle.canon3.specs.Gathering.{same_handle}
-use Rattle.canon3.specs.Rank.{StandsFor}
+use Rattle.canon3.specs.Rank.{number_limit, rank, StandsFor}
 use Rattle.canon3.specs.Values.{handles_in, verifiers_in}
 
 -- the table holds the distinct ones of these handles
@@ -43,6 +43,13 @@ pub record IsBefore {S H : Type 0} (before : Before) (n : Numbering S H) (number
   pub xids : n.xids ≡ before.xids
   pub handles : HoldsHandles n.handles before.handles
   pub verifiers : StandsFor bytes_eq n.verfs before.verifiers
+
+-- a message with this xid is opened, where xs are the xids with its own
+pub record IsOpened (before : Before) (hs vs : List (List ℕ)) (xs : List ℕ) (xid : ℕ) : Type 0 where
+  pub number_is : before.number ≡ min (rank nat_eq xid xs) number_limit
+  pub xids : StandsFor nat_eq before.xids xs
+  pub handles_are : before.handles ≡ hs
+  pub verifiers_are : before.verifiers ≡ vs
 
 -- the message up to here, which begins with its xid; nothing is said where it begins with another item
 abbrev pub IsSpelled : Stage → List ℕ → Before → List Item → Type 0

@@ -4,7 +4,7 @@ ghost use Rattle.std.specs.Prelude.{◌≡◌, ◌≢◌, ◌≤◌, ◌++◌, �
 ghost use Rattle.xdr3.specs.Item.{Handle as HandleKind, Item, Opaque, Word, WriteVerf};
 ghost use Rattle.xdr3.specs.Visit.{Adds, AreWithinLimit, Keeps};
 ghost use Rattle.capture3.specs.Messages.{call_items, reply_items};
-ghost use Rattle.canon3.specs.Numbered.{Before, Holds, HoldsHandles, HasWritten, IsBefore, IsUnderWay, Stands};
+ghost use Rattle.canon3.specs.Numbered.{Before, Holds, HoldsHandles, HasWritten, IsBefore, IsOpened, IsUnderWay, Stands};
 ghost use Rattle.canon3.specs.Pairing.{Member};
 ghost use Rattle.canon3.specs.Rank.{number_limit, rank, StandsFor};
 ghost use Rattle.canon3.specs.Values.{handles_in, verifiers_in, xid_of};
@@ -54,6 +54,79 @@ fn number_of_handle<S: BuildHasher + Drop>(
 }
 
 impl<S: BuildHasher + Drop> Numbering<S> {
+    /// Before a capture.
+    pub(crate) fn new(alloc: Global, hashers: Hashers<S>) -> Numbering<S>
+        ensures holds { Holds result [] [] [] }
+        ensures empty { result.writer ≡ [] }
+    {
+        Numbering {
+            handles: Numbers::new(alloc, hashers.handles),
+            verfs: Numbers::new(alloc, hashers.verfs),
+            xids: Numbers::new(alloc, hashers.xids),
+            writer: Writer::new(alloc),
+            stage: Stage::Goes,
+        }
+    }
+
+    /// Begins a connection, whose calls have xids of their own.
+    pub(crate) fn begin(&mut self)
+        ensures { (hs vs : List (List ℕ)) (xs : List ℕ) → Holds self.old hs vs xs → Holds self.new hs vs [] }
+    {
+        self.xids.clear();
+    }
+
+    /// Writes a call in place of the message before. After an error the tables may have more values than
+    /// were written, so nothing can follow.
+    pub(crate) fn call(&mut self, call: &CallMsg<'_>) -> Result<(), AllocError>
+        requires { AreWithinLimit (call_items call.now) }
+        ensures holds { (hs vs : List (List ℕ)) (xs : List ℕ) → let items = call_items call.now in Holds self.old hs vs xs → OnOk result (Holds self.new (hs ++ handles_in items) (vs ++ verifiers_in items) (xs ++ xid_of items)) }
+        ensures written { (hs vs : List (List ℕ)) (xs : List ℕ) → let items = call_items call.now in Holds self.old hs vs xs → OnOk result (HasWritten self.new hs vs (xs ++ xid_of items) items) }
+    {
+        self.message(call.xid, call)
+    }
+
+    /// Writes a reply in place of the message before, likewise. A call of the connection has its xid.
+    pub(crate) fn reply(&mut self, reply: &ReplyMsg<'_>) -> Result<(), AllocError>
+        requires { AreWithinLimit (reply_items reply.now) }
+        ensures holds { (hs vs : List (List ℕ)) (xs : List ℕ) → let items = reply_items reply.now in Holds self.old hs vs xs → Member reply.now.xid xs → OnOk result (Holds self.new (hs ++ handles_in items) (vs ++ verifiers_in items) xs) }
+        ensures written { (hs vs : List (List ℕ)) (xs : List ℕ) → let items = reply_items reply.now in Holds self.old hs vs xs → Member reply.now.xid xs → OnOk result (HasWritten self.new hs vs xs items) }
+    {
+        self.message(reply.xid, reply)
+    }
+
+    /// Writes a message whose xid is this one.
+    fn message<M: Walk>(&mut self, xid: u32, message: &M) -> Result<(), AllocError>
+        requires { AreWithinLimit (M.items message.now) }
+        ensures { (hs vs : List (List ℕ)) (xs : List ℕ) → Holds self.old hs vs xs → OnOk result ((before : Before) × IsOpened before hs vs (xs ++ xid ∷ []) xid × IsUnderWay self.new before (M.items message.now)) }
+    {
+        let number = match self.xids.number_of(xid) {
+            Ok(number) => number,
+            Err(error) => return Err(error),
+        };
+        self.open(number);
+        match message.walk(self) {
+            Ok(()) => self.unless_failed(),
+            Err(error) => Err(error),
+        }
+    }
+
+    /// Leaves the message before.
+    fn open(&mut self, number: u32)
+        ensures { (before : Before) → IsBefore before self.old number → IsUnderWay self.new before [] }
+    {
+        self.writer.clear();
+        self.stage = Stage::Begins(number);
+    }
+
+    fn unless_failed(&self) -> Result<(), AllocError>
+        ensures { OnOk result (self.now.stage ≢ Stage.Failed) }
+    {
+        match self.stage {
+            Stage::Failed => Err(AllocError),
+            Stage::Begins(_) | Stage::Goes => Ok(()),
+        }
+    }
+
     /// Writes the xid's number in place of the xid `n`.
     fn write_xid(&mut self, name: &'static str, n: u32, number: u32) -> Result<(), AllocError>
         requires { self.old.stage ≡ Stage.Begins number }
