@@ -29,3 +29,4 @@ pub mod Parted
 pub mod Written
 pub mod Tables
 pub mod Visiting
+pub mod Opening

@@ -43,7 +43,7 @@ listed-append : (xs : List (List ℕ)) (items more : List Item) → listed xs (i
 listed-append [] items more = refl
 listed-append (x ∷ xs) items more = ap (λ (l : List Item). Rest [] x ∷ l) (listed-append xs items more)
 
-behind-append : (before : Before) (items more : List Item) → behind before (items ++ more) ≡ behind before items ++ more
+pub behind-append : (before : Before) (items more : List Item) → behind before (items ++ more) ≡ behind before items ++ more
 behind-append before items more =
     ap (λ (l : List Item). Word [] before.number ∷ Rest [] before.xids ∷ l)
     (ap (listed before.handles) (listed-append before.verifiers items more) ∙ listed-append before.handles (listed before.verifiers items) more)
