@@ -1,10 +1,10 @@
 -- A whole message that is written with numbers.
-use Rattle.std.proofs.Common.{◌≡◌, ◌≢◌, ℕ, ◌<◌, ◌≤◌, ◌^◌, Bool, true, false, ◌||◌, List, [], ◌∷◌, ◌++◌, length, refl, sym, ap, ◌∙◌, subst, arith, min}
+use Rattle.std.proofs.Common.{◌≡◌, ◌≢◌, ℕ, ◌<◌, ◌≤◌, ◌^◌, Bool, true, false, ◌||◌, List, [], ◌∷◌, ◌++◌, length, refl, sym, ap, ◌∙◌, subst, arith, min, inl, inr, ⊎_elim}
 use Rattle.std.specs.Prelude.{nat_eq, bytes_eq}
 use Rattle.std.specs.List.{list_any}
 use Rattle.std.proofs.lemmas.Bool.Decides.{Decides-eqb}
-use Rattle.xdr3.specs.Item.{Item, Word, zero_spelling}
-use Rattle.xdr3.specs.Visit.{Adds}
+use Rattle.xdr3.specs.Item.{Item, Word, Hyper, zero_spelling}
+use Rattle.xdr3.specs.Visit.{Adds, AreWithinLimit, body_limit}
 use Rattle.canon3.specs.declared.numbered.Numbering.{Numbering}
 use Rattle.canon3.specs.declared.numbered.Stage.TheVariants.{Failed}
 use Rattle.canon3.specs.Following.{items_after, message_after}
@@ -27,13 +27,28 @@ module _ {S H : Type 0} (old opened walked : Numbering S H) where
   is_written table number xid items hs vs xs holds number_is stands opens adds going =
       let before : Before = record { number = number; xids = table; handles = hs; verifiers = vs } in
       let start : IsUnderWay opened before [] = opens before (record { number_is = refl; xids = refl; handles = holds.handles; verifiers = holds.verifiers }) in
-      let (after, all, are, u) = adds (behind before []) (λ still. (before, [], refl, start)) going in
-      let same = behind-same before after items all (behind-append before [] items ∙ are) in
-      (
+      let end = adds (behind before []) (λ still. inl (record { before = before; items = []; are = refl; under_way = start })) going in
+      ⊎_elim
+      (λ b.
+      let same = behind-same before b.before items b.items (behind-append before [] items ∙ b.are) in (
         before,
         record { number_is = number_is; xids = stands; handles_are = refl; verifiers_are = refl },
-        subst (λ b. IsUnderWay walked b items) (sym same.0) (subst (IsUnderWay walked after) (sym same.1) u),
-      )
+        subst (λ k. IsUnderWay walked k items) (sym same.0) (subst (IsUnderWay walked b.before) (sym same.1) b.under_way),
+      ))
+      (λ l. let are : behind before [] ++ items ≡ Hyper [] 0 ∷ l.items = l.are in absurd cc)
+      end
+
+  -- whatever was there before
+  pub is_short : (items : List Item) → opened.writer ≡ [] → AreWithinLimit items → Adds Stands opened walked items → walked.stage ≢ Failed → length walked.writer ≤ body_limit
+  unfolding Adds AreWithinLimit
+  is_short items empty within adds going =
+      ⊎_elim
+      (λ b. let are : (Hyper [] 0 ∷ []) ++ items ≡ behind b.before b.items = b.are in absurd cc)
+      (λ l.
+      let are : (Hyper [] 0 ∷ []) ++ items ≡ Hyper [] 0 ∷ l.items = l.are in
+      let same : items ≡ l.items = cc in
+      omega (arith, l.size, ap (λ (k : List Item). length (zero_spelling k)) same, within))
+      (adds (Hyper [] 0 ∷ []) (λ still. inr (record { items = []; are = refl; size = omega (arith, ap length empty) })) going)
 
 -- ---- a call
 
@@ -64,8 +79,8 @@ module _ {S H : Type 0} (n : Numbering S H) (name : List ℕ) (xid : ℕ) (rest 
       let last : Member xid (xs ++ xid ∷ []) = member-append_right xs here in
       subst (λ (l : List Item). HasWritten n hs vs (xs ++ xid_of l) l) (sym is)
       (written_after (xs ++ xid ∷ []) before o.handles_are o.verifiers_are
-          (λ few. omega (arith, o.number_is, few, rank-le-length nat_eq Decides-eqb last))
-          (subst (IsUnderWay n before) is u))
+      (λ few. omega (arith, o.number_is, few, rank-le-length nat_eq Decides-eqb last))
+      (subst (IsUnderWay n before) is u))
 
   -- ---- a reply
 
@@ -94,5 +109,5 @@ module _ {S H : Type 0} (n : Numbering S H) (name : List ℕ) (xid : ℕ) (rest 
   reply_written items xs is m (before, o, u) =
       subst (λ (l : List Item). HasWritten n hs vs xs l) (sym is)
       (written_after xs before o.handles_are o.verifiers_are
-          (λ few. omega (arith, o.number_is, few, rank-append nat_eq Decides-eqb (xid ∷ []) m, rank-le-length nat_eq Decides-eqb m))
-          (subst (IsUnderWay n before) is u))
+      (λ few. omega (arith, o.number_is, few, rank-append nat_eq Decides-eqb (xid ∷ []) m, rank-le-length nat_eq Decides-eqb m))
+      (subst (IsUnderWay n before) is u))

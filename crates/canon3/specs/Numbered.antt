@@ -1,6 +1,6 @@
 -- A writer of messages with numbers in place of file handles, write verifiers and xids.
-use Rattle.std.specs.Prelude.{◌≡◌, ◌≢◌, ℕ, ◌<◌, ◌^◌, List, [], ◌∷◌, ◌++◌, length, map, min, bytes_eq, nat_eq}
-use Rattle.xdr3.specs.Item.{Item, Word, Rest, zero_spelling}
+use Rattle.std.specs.Prelude.{◌≡◌, ◌≢◌, ◌⊎◌, ℕ, ◌<◌, ◌≤◌, ◌^◌, List, [], ◌∷◌, ◌++◌, length, map, min, bytes_eq, nat_eq}
+use Rattle.xdr3.specs.Item.{Item, Word, Hyper, Rest, zero_spelling}
 use Rattle.nfs3_types.specs.declared.handle.Handle as declared
 use Rattle.nfs3_types.specs.Handle.{bytes_of}
 use Rattle.canon3.specs.declared.numbered.Numbering.{Numbering}
@@ -57,7 +57,7 @@ IsSpelled stage bytes before [] = (stage ≡ Begins before.number) × (bytes ≡
 IsSpelled stage bytes before (Word name x ∷ items) =
     (stage ≡ Goes)
     × (AreFew (before.handles ++ handles_in items) (before.verifiers ++ verifiers_in items)
-        → bytes ≡ zero_spelling (Word name before.number ∷ items_after before.handles before.verifiers items))
+    → bytes ≡ zero_spelling (Word name before.number ∷ items_after before.handles before.verifiers items))
 IsSpelled stage bytes before _ = Unit {0}
 
 pub record IsUnderWay {S H : Type 0} (n : Numbering S H) (before : Before) (items : List Item) : Type 0 where
@@ -74,6 +74,19 @@ listed (x ∷ xs) items = Rest [] x ∷ listed xs items
 abbrev pub behind : Before → List Item → List Item
 behind before items = Word [] before.number ∷ Rest [] before.xids ∷ listed before.handles (listed before.verifiers items)
 
+-- a message under way, and what was there before it
+pub record IsBehind {S H : Type 0} (n : Numbering S H) (all : List Item) : Type 0 where
+  pub before : Before
+  pub items : List Item
+  pub are : all ≡ behind before items
+  pub under_way : IsUnderWay n before items
+
+-- Whatever was there before, the bytes are no more than those of the items. One item in front of these tells that no more is said.
+pub record IsNoLonger {S H : Type 0} (n : Numbering S H) (all : List Item) : Type 0 where
+  pub items : List Item
+  pub are : all ≡ Hyper [] 0 ∷ items
+  pub size : length n.writer ≤ length (zero_spelling items)
+
 -- nothing is said of one that has failed
 abbrev pub Stands : {S H : Type 0} → Numbering S H → List Item → Type 0
-Stands n all = n.stage ≢ Failed → (before : Before) × (items : List Item) × (all ≡ behind before items) × IsUnderWay n before items
+Stands n all = n.stage ≢ Failed → IsBehind n all ⊎ IsNoLonger n all

@@ -9,9 +9,9 @@ mod numbers;
 mod plan;
 mod sink;
 mod summary;
-mod writing;
 #[cfg(test)]
 mod tests;
+mod writing;
 
 pub use numbers::Numbers;
 pub use sink::{MemSink, Sink, ToWrite};

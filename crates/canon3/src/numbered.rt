@@ -2,16 +2,22 @@
 
 ghost use Rattle.std.specs.Prelude.{◌≡◌, ◌≢◌, ◌≤◌, ◌++◌, ◌∷◌, ℕ, List, [], bytes_eq, length, min, IfOk, OnErr, OnOk};
 ghost use Rattle.xdr3.specs.Item.{Handle as HandleKind, Item, Opaque, Word, WriteVerf};
-ghost use Rattle.xdr3.specs.Visit.{Adds, AreWithinLimit, Keeps};
+ghost use Rattle.xdr3.specs.Visit.{Adds, AreWithinLimit, Keeps, body_limit};
 ghost use Rattle.capture3.specs.Messages.{call_items, reply_items};
+ghost use Rattle.std.specs.Io.KnownBytes.{Appends};
+ghost use Rattle.capture3.specs.Device.{Counts};
+ghost use Rattle.canon3.specs.Bytes.{chunk_bytes, record_bytes};
+ghost use Rattle.canon3.specs.Written.{AppendsFront};
 ghost use Rattle.canon3.specs.Numbered.{Before, Holds, HoldsHandles, HasWritten, IsBefore, IsOpened, IsUnderWay, Stands};
 ghost use Rattle.canon3.specs.Pairing.{Member};
 ghost use Rattle.canon3.specs.Rank.{number_limit, rank, StandsFor};
 ghost use Rattle.canon3.specs.Values.{handles_in, verifiers_in, xid_of};
 
 use crate::numbers::Numbers;
+use crate::sink::Sink;
+use crate::writing::write_record;
 use byteorder::{BigEndian, ByteOrder};
-use capture3::{CallMsg, Hashers, ReplyMsg};
+use capture3::{CallMsg, DeviceFailed, Hashers, ReplyMsg};
 use nfs3_types::Handle;
 use std::alloc::{AllocError, Global};
 use std::hash::BuildHasher;
@@ -79,6 +85,7 @@ impl<S: BuildHasher + Drop> Numbering<S> {
     /// were written, so nothing can follow.
     pub(crate) fn call(&mut self, call: &CallMsg<'_>) -> Result<(), AllocError>
         requires { AreWithinLimit (call_items call.now) }
+        ensures short { OnOk result (length self.new.writer ≤ body_limit) }
         ensures holds { (hs vs : List (List ℕ)) (xs : List ℕ) → let items = call_items call.now in Holds self.old hs vs xs → OnOk result (Holds self.new (hs ++ handles_in items) (vs ++ verifiers_in items) (xs ++ xid_of items)) }
         ensures written { (hs vs : List (List ℕ)) (xs : List ℕ) → let items = call_items call.now in Holds self.old hs vs xs → OnOk result (HasWritten self.new hs vs (xs ++ xid_of items) items) }
     {
@@ -88,16 +95,29 @@ impl<S: BuildHasher + Drop> Numbering<S> {
     /// Writes a reply in place of the message before, likewise. A call of the connection has its xid.
     pub(crate) fn reply(&mut self, reply: &ReplyMsg<'_>) -> Result<(), AllocError>
         requires { AreWithinLimit (reply_items reply.now) }
+        ensures short { OnOk result (length self.new.writer ≤ body_limit) }
         ensures holds { (hs vs : List (List ℕ)) (xs : List ℕ) → let items = reply_items reply.now in Holds self.old hs vs xs → Member reply.now.xid xs → OnOk result (Holds self.new (hs ++ handles_in items) (vs ++ verifiers_in items) xs) }
         ensures written { (hs vs : List (List ℕ)) (xs : List ℕ) → let items = reply_items reply.now in Holds self.old hs vs xs → Member reply.now.xid xs → OnOk result (HasWritten self.new hs vs xs items) }
     {
         self.message(reply.xid, reply)
     }
 
+    /// Hands the message to a sink, as one chunk. At most 16,777,216 bytes in it, as after `call` and
+    /// `reply`. After an error a front of the chunk was written.
+    pub(crate) fn hand_over<W: Sink>(&self, sink: &mut W) -> Result<(), DeviceFailed>
+        requires { length self.now.writer ≤ body_limit }
+        ensures ok { OnOk result (Appends (W.written sink.old) (W.written sink.new) (chunk_bytes (record_bytes self.now.writer))) }
+        ensures err { OnErr result (AppendsFront (W.written sink.old) (W.written sink.new) (chunk_bytes (record_bytes self.now.writer))) }
+        ensures count { Counts (W.failures sink.old) (W.failures sink.new) result }
+    {
+        write_record(sink, self.writer.bytes())
+    }
+
     /// Writes a message whose xid is this one.
     fn message<M: Walk>(&mut self, xid: u32, message: &M) -> Result<(), AllocError>
         requires { AreWithinLimit (M.items message.now) }
-        ensures { (hs vs : List (List ℕ)) (xs : List ℕ) → Holds self.old hs vs xs → OnOk result ((before : Before) × IsOpened before hs vs (xs ++ xid ∷ []) xid × IsUnderWay self.new before (M.items message.now)) }
+        ensures short { OnOk result (length self.new.writer ≤ body_limit) }
+        ensures written { (hs vs : List (List ℕ)) (xs : List ℕ) → Holds self.old hs vs xs → OnOk result ((before : Before) × IsOpened before hs vs (xs ++ xid ∷ []) xid × IsUnderWay self.new before (M.items message.now)) }
     {
         let number = match self.xids.number_of(xid) {
             Ok(number) => number,
@@ -112,7 +132,8 @@ impl<S: BuildHasher + Drop> Numbering<S> {
 
     /// Leaves the message before.
     fn open(&mut self, number: u32)
-        ensures { (before : Before) → IsBefore before self.old number → IsUnderWay self.new before [] }
+        ensures empty { self.new.writer ≡ [] }
+        ensures opens { (before : Before) → IsBefore before self.old number → IsUnderWay self.new before [] }
     {
         self.writer.clear();
         self.stage = Stage::Begins(number);
@@ -185,6 +206,10 @@ impl<S: BuildHasher + Drop> Numbering<S> {
 
 #[tactic(auto, unfolding(xdr3::specs::Visit::Adds, xdr3::specs::Visit::Keeps))]
 impl<S: BuildHasher + Drop> Visit for Numbering<S> {
+    ghost use Rattle.std.specs.Io.KnownBytes.{Appends};
+    ghost use Rattle.capture3.specs.Device.{Counts};
+    ghost use Rattle.canon3.specs.Bytes.{chunk_bytes, record_bytes};
+    ghost use Rattle.canon3.specs.Written.{AppendsFront};
     ghost use Rattle.canon3.specs.Numbered.{Stands};
 
     ghost stands = { Stands };

@@ -9,9 +9,9 @@ use Rattle.canon3.proofs.numbered.Numbering.call.Goals as goal
 pub returns-clause-holds : goal.returns-clause-holds
 unfolding followed_by
 returns-clause-holds g c hs vs xs h =
-    still_ok c.message.result (call_holds c.message.new.self names.xid c.args.call.now.xid _ hs vs (call_items c.args.call.now) xs refl) (c.message.ensures hs vs xs h)
+    still_ok c.message.result (call_holds c.message.new.self names.xid c.args.call.now.xid _ hs vs (call_items c.args.call.now) xs refl) (c.message.ensures.written hs vs xs h)
 
 pub returns-clause-written : goal.returns-clause-written
 unfolding followed_by
 returns-clause-written g c hs vs xs h =
-    still_ok c.message.result (call_written c.message.new.self names.xid c.args.call.now.xid _ hs vs (call_items c.args.call.now) xs refl) (c.message.ensures hs vs xs h)
+    still_ok c.message.result (call_written c.message.new.self names.xid c.args.call.now.xid _ hs vs (call_items c.args.call.now) xs refl) (c.message.ensures.written hs vs xs h)

@@ -9,9 +9,9 @@ use Rattle.canon3.proofs.numbered.Numbering.reply.Goals as goal
 pub returns-clause-holds : goal.returns-clause-holds
 unfolding followed_by
 returns-clause-holds g c hs vs xs h m =
-    still_ok c.message.result (reply_holds c.message.new.self names.xid c.args.reply.now.xid [] hs vs (reply_items c.args.reply.now) xs m) (c.message.ensures hs vs xs h)
+    still_ok c.message.result (reply_holds c.message.new.self names.xid c.args.reply.now.xid [] hs vs (reply_items c.args.reply.now) xs m) (c.message.ensures.written hs vs xs h)
 
 pub returns-clause-written : goal.returns-clause-written
 unfolding followed_by
 returns-clause-written g c hs vs xs h m =
-    still_ok c.message.result (reply_written c.message.new.self names.xid c.args.reply.now.xid _ hs vs (reply_items c.args.reply.now) xs refl m) (c.message.ensures hs vs xs h)
+    still_ok c.message.result (reply_written c.message.new.self names.xid c.args.reply.now.xid _ hs vs (reply_items c.args.reply.now) xs refl m) (c.message.ensures.written hs vs xs h)
