@@ -7,10 +7,10 @@ use Rattle.xdr3.specs.Item.{Item, Word, Hyper, zero_spelling}
 use Rattle.xdr3.specs.Visit.{Adds, AreWithinLimit, body_limit}
 use Rattle.canon3.specs.declared.numbered.Numbering.{Numbering}
 use Rattle.canon3.specs.declared.numbered.Stage.TheVariants.{Failed}
-use Rattle.canon3.specs.Following.{items_after, message_after}
+use Rattle.canon3.specs.Following.{items_after}
 use Rattle.canon3.specs.Numbered.{Before, Holds, HoldsHandles, HasWritten, IsBefore, IsOpened, IsUnderWay, behind, Stands}
 use Rattle.canon3.specs.Pairing.{Member, here, there}
-use Rattle.canon3.specs.Rank.{distinct, number_limit, rank, StandsFor, with_key}
+use Rattle.canon3.specs.Rank.{distinct, number_limit, rank, StandsFor}
 use Rattle.canon3.specs.Values.{handles_in, verifiers_in, xid_of}
 use Rattle.canon3.proofs.Ranks.{any-distinct, distinct-push, equivalence, itself, member-append_right, rank-append, rank-le-length}
 use Rattle.canon3.proofs.Visiting.{behind-append, behind-same}

@@ -1,5 +1,5 @@
 -- Each visit adds its item to the message that is written with numbers.
-use Rattle.std.proofs.Common.{◌≡◌, ◌≢◌, ℕ, ◌+◌, ◌<◌, ◌≤◌, ◌^◌, List, [], ◌∷◌, ◌++◌, length, length-append, append_assoc, append-nil, refl, sym, ap, ap₂, ◌∙◌, subst, arith, min, Result, Ok, Err, ◌⊎◌, inl, inr, ⊎_elim, Bool, true}
+use Rattle.std.proofs.Common.{◌≡◌, ◌≢◌, ℕ, ◌<◌, ◌≤◌, ◌^◌, List, [], ◌∷◌, ◌++◌, length, length-append, append_assoc, append-nil, refl, sym, ap, ap₂, ◌∙◌, subst, arith, min, Result, Ok, Err, ◌⊎◌, inl, inr, ⊎_elim, Bool, true}
 use Rattle.std.specs.Prelude.{bytes_eq, OnErr, OnOk, ◌==◌}
 use Rattle.std.specs.List.{flat_map}
 use Rattle.std.proofs.lemmas.Grind.{flat_map-append}
@@ -7,7 +7,7 @@ use Rattle.std.proofs.lemmas.Bool.Decides.{Decides-eqb}
 use Rattle.std.proofs.lemmas.Slice.Eq.{bytes_eq-Decides}
 use Rattle.byteorder.specs.Endian.{big_bytes}
 use Rattle.byteorder.specs.Numbers.{length-bytes_high_first}
-use Rattle.xdr3.specs.Item.{Item, Word, Hyper, Fixed, WriteVerf, Opaque, Rest, Handle, word_bytes, zero_spelling_of, zero_spelling}
+use Rattle.xdr3.specs.Item.{Item, Word, WriteVerf, Opaque, Rest, Handle, word_bytes, zero_spelling_of, zero_spelling}
 use Rattle.xdr3.specs.Visit.{Adds, Keeps}
 use Rattle.nfs3_types.specs.declared.handle.Handle as declared
 use Rattle.canon3.specs.declared.numbered.Numbering.{Numbering}
@@ -15,7 +15,7 @@ use Rattle.canon3.specs.declared.numbered.Stage.{Stage}
 use Rattle.canon3.specs.declared.numbered.Stage.TheVariants.{Begins, Goes, Failed}
 use Rattle.canon3.specs.Canonical.{numbered_item}
 use Rattle.canon3.specs.Following.{items_after}
-use Rattle.canon3.specs.Numbered.{AreFew, Before, HoldsHandles, IsBehind, IsNoLonger, IsSpelled, IsUnderWay, listed, behind, Stands}
+use Rattle.canon3.specs.Numbered.{AreFew, Before, HoldsHandles, IsBehind, IsSpelled, IsUnderWay, listed, behind, Stands}
 use Rattle.canon3.specs.Pairing.{here}
 use Rattle.canon3.specs.Rank.{number_limit, rank, StandsFor}
 use Rattle.canon3.specs.Renaming.{IsPlain}

@@ -1,4 +1,4 @@
-use Rattle.std.proofs.Common.{refl, false}
+use Rattle.std.proofs.Common.{refl}
 use Rattle.xdr3.specs.Item.{followed_by}
 use Rattle.rpc_head.specs.Names.{names}
 use Rattle.capture3.specs.Messages.{call_items}

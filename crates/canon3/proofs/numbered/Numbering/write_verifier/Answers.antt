@@ -1,4 +1,4 @@
-use Rattle.std.proofs.Common.{◌∙◌, ℕ, List, ap, ◌++◌, [], arith}
+use Rattle.std.proofs.Common.{◌∙◌, ap, ◌++◌, [], arith}
 use Rattle.byteorder.specs.Endian.{big_bytes}
 use Rattle.canon3.proofs.Gathering.{still_ok}
 use Rattle.canon3.proofs.Visiting.{adds_verifier}

@@ -1,4 +1,4 @@
-use Rattle.std.proofs.Common.{◌≡◌, List, ℕ, [], ◌∷◌}
+use Rattle.std.proofs.Common.{◌≡◌, [], ◌∷◌}
 use Rattle.xdr3.specs.Item.{Handle, Opaque}
 use Rattle.xdr3.specs.Visit.{Adds}
 use Rattle.canon3.specs.Numbered.{Stands}
