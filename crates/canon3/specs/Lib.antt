@@ -13,3 +13,4 @@ pub mod Laws
 pub mod Examples
 pub mod Written
 pub mod Numbered
+pub mod Writing

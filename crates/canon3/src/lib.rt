@@ -2,6 +2,7 @@
 #![tactic(auto)]
 
 pub mod examples;
+mod form;
 mod handles;
 pub mod laws;
 mod numbered;
