@@ -30,3 +30,4 @@ pub mod Written
 pub mod Tables
 pub mod Visiting
 pub mod Opening
+pub mod Entering
