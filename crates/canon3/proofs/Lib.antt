@@ -27,3 +27,8 @@ pub mod Reaching
 pub mod Checks
 pub mod Ends
 pub mod Parted
+pub mod Written
+pub mod Tables
+pub mod Visiting
+pub mod Opening
+pub mod Entering

@@ -11,3 +11,6 @@ pub mod Following
 pub mod Parting
 pub mod Laws
 pub mod Examples
+pub mod Written
+pub mod Numbered
+pub mod Writing

@@ -2,14 +2,17 @@
 #![tactic(auto)]
 
 pub mod examples;
+mod form;
 mod handles;
 pub mod laws;
+mod numbered;
 mod numbers;
 mod plan;
 mod sink;
 mod summary;
 #[cfg(test)]
 mod tests;
+mod writing;
 
 pub use numbers::Numbers;
 pub use sink::{MemSink, Sink, ToWrite};

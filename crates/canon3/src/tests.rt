@@ -1,5 +1,9 @@
+use super::form::write_entry;
+use super::numbered::Numbering;
+use super::writing::{write_all, write_record};
 use super::{MemSink, Numbers, Sink, ToWrite};
-use capture3::DeviceFailed;
+use capture3::{DeviceFailed, Hashers, parse};
+use std::alloc::{AllocError, Global};
 use std::hash::{BuildHasherDefault, FoldHasher, Hash};
 use std::test::Fail;
 
@@ -66,5 +70,74 @@ fn a_sink_over_a_writer(rt: HostRuntime) -> Result<(), Fail> {
     assert_eq!(rt; sink.write_some(b"abc"), Ok(3));
     assert_eq!(rt; sink.flush_all(), Ok(()));
     assert_eq!(rt; sink.inner().as_slice(), b"abc".as_slice());
+    Ok(())
+}
+
+#[test]
+fn all_bytes_in_pieces(rt: HostRuntime) -> Result<(), Fail> {
+    let mut sink = MemSink::new(rt.alloc(), 7, 3, 0)?;
+    assert_eq!(rt; write_all(&mut sink, b"abcde"), Ok(()));
+    assert_eq!(rt; write_all(&mut sink, b"fgh"), Err(DeviceFailed));
+    assert_eq!(rt; sink.bytes(), b"abcdefg".as_slice());
+    Ok(())
+}
+
+#[test]
+fn a_record_in_one_chunk(rt: HostRuntime) -> Result<(), Fail> {
+    let mut sink = MemSink::new(rt.alloc(), 99, 5, 0)?;
+    assert_eq!(rt; write_record(&mut sink, b"abc"), Ok(()));
+    assert_eq!(rt; sink.bytes(), b"\0\0\0\x07\x80\0\0\x03abc".as_slice());
+    Ok(())
+}
+
+// A COMMIT call and its reply, from its xid, its file handle behind its length, and its verifier.
+fn commit(
+    alloc: Global,
+    xid: [u8; 4],
+    handle: [u8; 8],
+    verifier: [u8; 8],
+) -> Result<Vec<u8>, AllocError> {
+    let mut bytes = Vec::new(alloc);
+    bytes.extend_from_slice(b"NFS3CAP1\0\0\0\x01\0\0\0\x40\x80\0\0\x3c")?;
+    bytes.extend_from_slice(&xid)?;
+    bytes.extend_from_slice(b"\0\0\0\0\0\0\0\x02\0\x01\x86\xa3\0\0\0\x03\0\0\0\x15")?;
+    bytes.extend_from_slice(&[0; 16])?;
+    bytes.extend_from_slice(&handle)?;
+    bytes.extend_from_slice(&[0; 12])?;
+    bytes.extend_from_slice(b"\0\0\0\0\0\0\0\x30\x80\0\0\x2c")?;
+    bytes.extend_from_slice(&xid)?;
+    bytes.extend_from_slice(b"\0\0\0\x01")?;
+    bytes.extend_from_slice(&[0; 28])?;
+    bytes.extend_from_slice(&verifier)?;
+    bytes.extend_from_slice(&[0; 8])?;
+    Ok(bytes)
+}
+
+fn hashers() -> Hashers<BuildHasherDefault<FoldHasher>> {
+    Hashers {
+        calls: BuildHasherDefault::default(),
+        xids: BuildHasherDefault::default(),
+        handles: BuildHasherDefault::default(),
+        verfs: BuildHasherDefault::default(),
+    }
+}
+
+#[test]
+fn entries_with_numbers(rt: HostRuntime) -> Result<(), Fail> {
+    let (xid, handle) = ([0xde, 0xad, 0xbe, 0xef], [0, 0, 0, 1, 0xaa, 0, 0, 0]);
+    let bytes = commit(rt.alloc(), xid, handle, [8; 8])?;
+    let numbered = commit(
+        rt.alloc(),
+        [0, 0, 0, 1],
+        [0, 0, 0, 4, 0, 0, 0, 1],
+        [0, 0, 0, 0, 0, 0, 0, 1],
+    )?;
+    let mut numbering = Numbering::new(rt.alloc(), hashers());
+    let mut sink = MemSink::new(rt.alloc(), 999, 9, 0)?;
+    assert_eq!(rt; write_all(&mut sink, b"NFS3CAP1"), Ok(()));
+    for entry in parse(rt.alloc(), &bytes)?.iter() {
+        write_entry(rt.alloc(), &mut numbering, &mut sink, entry)?;
+    }
+    assert_eq!(rt; sink.bytes(), numbered.as_slice());
     Ok(())
 }

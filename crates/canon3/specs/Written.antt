@@ -1,0 +1,13 @@
+-- What a sink that fails has taken of bytes.
+use Rattle.std.specs.Prelude.{◌≡◌, ℕ, List, ◌++◌, Option}
+use Rattle.std.specs.Io.KnownBytes.{Appends}
+
+-- known bytes grow by a front of these
+abbrev pub AppendsFront : Option (List ℕ) → Option (List ℕ) → List ℕ → Type 0
+AppendsFront old new bytes = (front : List ℕ) × (back : List ℕ) × (bytes ≡ front ++ back) × Appends old new front
+
+-- the sink took the bytes up to the rest
+pub record HasTaken (old new : Option (List ℕ)) (bytes rest : List ℕ) : Type 0 where
+  pub front : List ℕ
+  pub split : bytes ≡ front ++ rest
+  pub appended : Appends old new front

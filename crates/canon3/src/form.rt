@@ -1,0 +1,144 @@
+// The canonical form, entry by entry.
+
+ghost use Rattle.std.specs.Prelude.{◌≡◌, ◌≤◌, ◌++◌, ℕ, List, length, IfErr, OnErr, OnOk};
+ghost use Rattle.std.specs.Io.KnownBytes.{Appends};
+ghost use Rattle.xdr3.specs.Item.{Item, word_bytes};
+ghost use Rattle.xdr3.specs.Visit.{body_limit};
+ghost use Rattle.capture3.specs.Bodies.{IsCall, IsReply, xid_in};
+ghost use Rattle.capture3.specs.Device.{Counts};
+ghost use Rattle.capture3.specs.Entry as spec;
+ghost use Rattle.capture3.specs.Kept.{IsKept};
+ghost use Rattle.canon3.specs.Bytes.{chunk_bytes, record_bytes};
+ghost use Rattle.canon3.specs.Numbered.{Holds, HasWritten};
+ghost use Rattle.canon3.specs.Pairing.{Member};
+ghost use Rattle.canon3.specs.Values.{handles_in, verifiers_in, xid_of};
+ghost use Rattle.canon3.specs.Writing.{CountsWriting, HasFollowed, IsInTurn, IsOfWriting};
+
+use crate::numbered::Numbering;
+use crate::sink::Sink;
+use crate::writing::write_all;
+use byteorder::{BigEndian, ByteOrder};
+use capture3::{Entry, Error, KeptCall, KeptReply};
+use std::alloc::{AllocError, Global};
+use std::hash::BuildHasher;
+
+/// Writes an entry with the numbers of its values. After an error the entry may be cut, and nothing can
+/// follow.
+///
+/// # Errors
+///
+/// `Write` where a write failed, and `Memory` where none was to be had.
+pub(crate) fn write_entry<S: BuildHasher + Drop, W: Sink>(
+    alloc: Global,
+    numbering: &mut Numbering<S>,
+    sink: &mut W,
+    entry: &Entry,
+) -> Result<(), Error>
+    ensures follows { (one : spec.Entry) (hs vs : List (List ℕ)) (xs : List ℕ) → IsKept entry.now one → Holds numbering.old hs vs xs → IsInTurn xs one → OnOk result (HasFollowed numbering.new (W.written sink.old) (W.written sink.new) hs vs xs one) }
+    ensures count { CountsWriting (W.failures sink.old) (W.failures sink.new) result }
+    ensures error { IfErr result IsOfWriting }
+{
+    match entry {
+        Entry::Begin => {
+            numbering.begin();
+            write_word(sink, 1)
+        }
+        Entry::Call(call) => write_call(alloc, numbering, sink, call),
+        Entry::Reply(reply) => write_reply(alloc, numbering, sink, reply),
+        Entry::Turn | Entry::Close | Entry::End => write_word(sink, 0),
+    }
+}
+
+fn write_call<S: BuildHasher + Drop, W: Sink>(
+    alloc: Global,
+    numbering: &mut Numbering<S>,
+    sink: &mut W,
+    call: &KeptCall,
+) -> Result<(), Error>
+    ensures follows { (items : List Item) (hs vs : List (List ℕ)) (xs : List ℕ) → IsCall call.now.body.items items → Holds numbering.old hs vs xs → OnOk result (HasFollowed numbering.new (W.written sink.old) (W.written sink.new) hs vs xs (spec.Call items)) }
+    ensures count { CountsWriting (W.failures sink.old) (W.failures sink.new) result }
+    ensures error { IfErr result IsOfWriting }
+{
+    match number_call(alloc, numbering, call) {
+        Ok(()) => hand_over(numbering, sink),
+        Err(_) => Err(Error::Memory),
+    }
+}
+
+fn write_reply<S: BuildHasher + Drop, W: Sink>(
+    alloc: Global,
+    numbering: &mut Numbering<S>,
+    sink: &mut W,
+    reply: &KeptReply,
+) -> Result<(), Error>
+    ensures follows { (items : List Item) (hs vs : List (List ℕ)) (xs : List ℕ) → IsReply reply.now.body.items (record { id = reply.now.id; items = items }) → Holds numbering.old hs vs xs → Member (xid_in items) xs → OnOk result (HasFollowed numbering.new (W.written sink.old) (W.written sink.new) hs vs xs (spec.Reply reply.now.id items)) }
+    ensures count { CountsWriting (W.failures sink.old) (W.failures sink.new) result }
+    ensures error { IfErr result IsOfWriting }
+{
+    match number_reply(alloc, numbering, reply) {
+        Ok(()) => hand_over(numbering, sink),
+        Err(_) => Err(Error::Memory),
+    }
+}
+
+/// Spells a kept call with the numbers of its values.
+fn number_call<S: BuildHasher + Drop>(
+    alloc: Global,
+    numbering: &mut Numbering<S>,
+    call: &KeptCall,
+) -> Result<(), AllocError>
+    ensures short { OnOk result (length numbering.new.writer ≤ body_limit) }
+    ensures holds { (items : List Item) (hs vs : List (List ℕ)) (xs : List ℕ) → IsCall call.now.body.items items → Holds numbering.old hs vs xs → OnOk result (Holds numbering.new (hs ++ handles_in items) (vs ++ verifiers_in items) (xs ++ xid_of items)) }
+    ensures written { (items : List Item) (hs vs : List (List ℕ)) (xs : List ℕ) → IsCall call.now.body.items items → Holds numbering.old hs vs xs → OnOk result (HasWritten numbering.new hs vs (xs ++ xid_of items) items) }
+{
+    let message = match call.read(alloc) {
+        Ok(message) => message,
+        Err(error) => return Err(error),
+    };
+    numbering.call(&message)
+}
+
+/// Spells a kept reply with the numbers of its values.
+fn number_reply<S: BuildHasher + Drop>(
+    alloc: Global,
+    numbering: &mut Numbering<S>,
+    reply: &KeptReply,
+) -> Result<(), AllocError>
+    ensures short { OnOk result (length numbering.new.writer ≤ body_limit) }
+    ensures holds { (items : List Item) (hs vs : List (List ℕ)) (xs : List ℕ) → IsReply reply.now.body.items (record { id = reply.now.id; items = items }) → Holds numbering.old hs vs xs → Member (xid_in items) xs → OnOk result (Holds numbering.new (hs ++ handles_in items) (vs ++ verifiers_in items) xs) }
+    ensures written { (items : List Item) (hs vs : List (List ℕ)) (xs : List ℕ) → IsReply reply.now.body.items (record { id = reply.now.id; items = items }) → Holds numbering.old hs vs xs → Member (xid_in items) xs → OnOk result (HasWritten numbering.new hs vs xs items) }
+{
+    let message = match reply.read(alloc) {
+        Ok(message) => message,
+        Err(error) => return Err(error),
+    };
+    numbering.reply(&message)
+}
+
+fn hand_over<S: BuildHasher + Drop, W: Sink>(
+    numbering: &Numbering<S>,
+    sink: &mut W,
+) -> Result<(), Error>
+    requires { length numbering.now.writer ≤ body_limit }
+    ensures bytes { OnOk result (Appends (W.written sink.old) (W.written sink.new) (chunk_bytes (record_bytes numbering.now.writer))) }
+    ensures count { CountsWriting (W.failures sink.old) (W.failures sink.new) result }
+    ensures error { IfErr result (λ error. error ≡ Error.Write) }
+{
+    match numbering.hand_over(sink) {
+        Ok(()) => Ok(()),
+        Err(_) => Err(Error::Write),
+    }
+}
+
+fn write_word<W: Sink>(sink: &mut W, n: u32) -> Result<(), Error>
+    ensures bytes { OnOk result (Appends (W.written sink.old) (W.written sink.new) (word_bytes n)) }
+    ensures count { CountsWriting (W.failures sink.old) (W.failures sink.new) result }
+    ensures error { IfErr result (λ error. error ≡ Error.Write) }
+{
+    let mut word = [0u8; 4];
+    BigEndian::write_u32(&mut word, n);
+    match write_all(sink, &word) {
+        Ok(()) => Ok(()),
+        Err(_) => Err(Error::Write),
+    }
+}
