@@ -58,10 +58,11 @@ PrintsError errors.Memory = Prints 3 [] (codes "out of memory" ++ newline)
 abbrev pub ended_of : List ℕ → List ℕ
 ended_of text = if slice_index text (length text - 1) == 10 then text else text ++ newline
 
--- status 0 for counts, and 4 for a command line that has none of the program's forms
+-- status 0 for counts, and 4 for a command line that is refused
 abbrev pub PrintsOutcome : Outcome → Report → Type 0
 PrintsOutcome (Counted (Ok summary)) = Prints 0 (counts_of summary) []
 PrintsOutcome (Counted (Err error)) = PrintsError error
 PrintsOutcome (Unopened name) = Prints 3 [] (unopened_of name.now)
 PrintsOutcome (Line (lines.Usage text)) = Prints 4 [] (ended_of (string_bytes text))
+PrintsOutcome (Line lines.SameName) = Prints 4 [] (codes "output names an input" ++ newline)
 PrintsOutcome (Line lines.Memory) = PrintsError errors.Memory

@@ -35,6 +35,7 @@ fn run(rt: &HostRuntime) -> Result<Report, AllocError> {
     };
     match job(alloc, &words) {
         Ok(Job::Check(name)) => report(alloc, &checked(rt, name)),
+        Ok(Job::Canon(_input, _output)) => report(alloc, &Outcome::Counted(Err(Error::Write))),
         Err(fault) => report(alloc, &Outcome::Line(fault)),
     }
 }

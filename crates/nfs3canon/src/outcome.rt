@@ -6,7 +6,10 @@ use capture3::Error;
 /// What a command line asks for.
 #[derive(Clone, Copy, Debug, PartialEq, Eq)]
 pub enum Job<'a> {
+    /// The capture of this name.
     Check(&'a str),
+    /// The capture of the first name. Its canonical form goes to a file of the second.
+    Canon(&'a str, &'a str),
 }
 
 /// Why a command line is refused.
@@ -14,6 +17,8 @@ pub enum Job<'a> {
 pub enum LineFault {
     /// It has none of the program's forms. The text says which there are.
     Usage(String),
+    /// The output is an input.
+    SameName,
     /// No memory was to be had.
     Memory,
 }

@@ -18,6 +18,13 @@ pub fn report(alloc: Global, outcome: &Outcome) -> Result<Report, AllocError>
         Outcome::Counted(Err(error)) => failed(alloc, error),
         Outcome::Unopened(name) => refused(alloc, 3, unopened(alloc, name)?),
         Outcome::Line(LineFault::Usage(text)) => refused(alloc, 4, ended(text)?),
+        Outcome::Line(LineFault::SameName) => {
+            refused(
+                alloc,
+                4,
+                String::from_str(alloc, "output names an input\n")?,
+            )
+        }
         Outcome::Line(LineFault::Memory) => failed(alloc, &Error::Memory),
     }
 }
