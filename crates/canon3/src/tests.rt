@@ -132,7 +132,8 @@ fn entries_with_numbers(rt: HostRuntime) -> Result<(), Fail> {
         [0, 0, 0, 4, 0, 0, 0, 1],
         [0, 0, 0, 0, 0, 0, 0, 1],
     )?;
-    let mut numbering = Numbering::new(rt.alloc(), hashers());
+    let hashers = hashers();
+    let mut numbering = Numbering::new(rt.alloc(), hashers.handles, hashers.verfs, hashers.xids);
     let mut sink = MemSink::new(rt.alloc(), 999, 9, 0)?;
     assert_eq!(rt; write_all(&mut sink, b"NFS3CAP1"), Ok(()));
     for entry in parse(rt.alloc(), &bytes)?.iter() {
