@@ -106,7 +106,7 @@ few_distinct bytes entries typed =
     let all = ap (λ (l : List (List ℕ)). length (distinct bytes_eq l)) (handles_of_all entries) in
     omega (arith, few, all, length-with_keys bytes_eq nat_list_eq_equiv (handles entries) [])
 
-summary_is : (bytes : List ℕ) (summary : Summary) (entries : List Entry) → Typed bytes entries → Sums summary entries → IsSummary bytes summary
+pub summary_is : (bytes : List ℕ) (summary : Summary) (entries : List Entry) → Typed bytes entries → Sums summary entries → IsSummary bytes summary
 summary_is bytes summary entries typed sums = record {
   entries = entries;
   typed = typed;
