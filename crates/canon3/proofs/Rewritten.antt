@@ -1,5 +1,5 @@
 -- What was rewritten, entry by entry.
-use Rattle.std.proofs.Common.{◌≡◌, ◌≢◌, ◌<◌, ◌^◌, ℕ, Bool, true, false, List, [], ◌∷◌, ◌++◌, length, refl, sym, ap, ◌∙◌, subst, append-nil, min, ⊎_elim, inl, Option, Result, Ok, Err, IfOk, IfErr, arith}
+use Rattle.std.proofs.Common.{◌≡◌, ◌<◌, ◌^◌, ℕ, Bool, true, false, List, [], ◌∷◌, ◌++◌, length, refl, sym, ◌∙◌, subst, append-nil, ⊎_elim, Option, Result, Ok, Err, IfOk, IfErr, arith}
 use Rattle.std.specs.Prelude.{IsTrue, OnErr, OnOk}
 use Rattle.std.specs.Io.KnownBytes.{Appends, Consumes}
 use Rattle.std.proofs.KnownBytes.{Appends-nil, Appends-trans, Consumes-nil}
@@ -13,13 +13,12 @@ use Rattle.capture3.specs.Entry.{Entry}
 use Rattle.capture3.specs.Reached.{Reached}
 use Rattle.capture3.proofs.Emits.{reached_by_machine}
 use Rattle.canon3.specs.declared.rewriting.Rewriting.{Rewriting}
-use Rattle.canon3.specs.declared.summary.Counts.{Counts}
 use Rattle.canon3.specs.Bytes.{bytes_of}
 use Rattle.canon3.specs.Canonical.{canonical}
 use Rattle.canon3.specs.Following.{open_xids}
 use Rattle.canon3.specs.Laws.{AreFirst}
 use Rattle.canon3.specs.Numbered.{AreFew, Holds}
-use Rattle.canon3.specs.Rewriting.{are_some, GoesOn, HasRewritten, IsDone, IsOver, IsStoppedBy, IsUnderWay, magic_unless, RewritesGiven}
+use Rattle.canon3.specs.Rewriting.{are_some, GoesOn, HasRewritten, IsDone, IsStoppedBy, magic_unless, RewritesGiven}
 use Rattle.canon3.specs.Summing.{AreCounted}
 use Rattle.canon3.specs.Values.{handles, handles_in, items_of, verifiers, verifiers_in}
 use Rattle.canon3.specs.Writing.{HasFollowed, IsCut, IsOfWriting}

@@ -1,4 +1,4 @@
-use Rattle.std.proofs.Common.{Option, ℕ, List, subst}
+use Rattle.std.proofs.Common.{subst}
 use Rattle.std.specs.Prelude.{OnErr, OnOk}
 use Rattle.capture3.specs.Entry.{Entry}
 use Rattle.canon3.specs.Writing.{HasFollowed, IsCut, IsInTurn}
