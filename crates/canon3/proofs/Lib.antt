@@ -32,3 +32,5 @@ pub mod Tables
 pub mod Visiting
 pub mod Opening
 pub mod Entering
+pub mod Growing
+pub mod Rewritten

@@ -20,11 +20,11 @@ use Rattle.capture3.specs.Entry.{Entry}
 use Rattle.capture3.specs.FirstFault.{FirstFault}
 use Rattle.capture3.specs.Kept.{IsKept}
 use Rattle.capture3.specs.Typed.{Typed}
+use Rattle.canon3.specs.declared.summary.Counts.{Counts}
 use Rattle.canon3.specs.declared.summary.Summary.{Summary}
 use Rattle.canon3.specs.declared.summary.Tally.{Tally}
 use Rattle.canon3.specs.Rank.{distinct, number_limit}
-use Rattle.canon3.specs.Gathering.{Gathers}
-use Rattle.canon3.specs.Summing.{all_items, Concludes, GoesOn, IsDone, is_begin, is_call, is_reply, IsSummary, keeps_begin, keeps_call, keeps_reply, Sums, Tallies}
+use Rattle.canon3.specs.Summing.{all_items, AreCounted, Concludes, GoesOn, IsDone, is_begin, is_call, is_reply, IsSummary, keeps_begin, keeps_call, keeps_reply, Sums, Tallies}
 use Rattle.canon3.specs.Values.{handles, handles_in, items_of}
 use Rattle.canon3.proofs.Gathering.{handles_of_all}
 use Rattle.canon3.proofs.InOrder.{typed_in_order}
@@ -73,16 +73,14 @@ reply_same (variants.Reply reply) entry is = sym (ap is_reply is.2)
 reply_same variants.Close entry is = sym (ap is_reply is)
 reply_same variants.End entry is = sym (ap is_reply is)
 
-module _ {S H : Type 0} (old new : Tally S H) (one : kept.Entry) where
-  -- a kept entry is added
-  pub tallied_more : (entry : Entry) (entries : List Entry) → IsKept one entry → new.connections ≡ old.connections + cond (keeps_begin one) 1 0 → new.calls ≡ old.calls + cond (keeps_call one) 1 0
-      → new.replies ≡ old.replies + cond (keeps_reply one) 1 0 → Gathers new.handles.numbers (all_items entries ++ items_of entry) → Tallies old entries → Tallies new (entries ++ entry ∷ [])
-  tallied_more entry entries is begins calls replies gathers t = record {
-    connections = counts_behind is_begin old.connections new.connections entries entry (begins ∙ ap (λ b. old.connections + cond b 1 0) (begin_same one entry is)) t.connections;
-    calls = counts_behind is_call old.calls new.calls entries entry (calls ∙ ap (λ b. old.calls + cond b 1 0) (call_same one entry is)) t.calls;
-    replies = counts_behind is_reply old.replies new.replies entries entry (replies ∙ ap (λ b. old.replies + cond b 1 0) (reply_same one entry is)) t.replies;
-    handles = subst (λ (l : List Item). Gathers new.handles.numbers l) (sym (items_behind entries entry)) gathers;
-  }
+-- a kept entry is counted
+pub counted_more : (old new : Counts) (one : kept.Entry) (entry : Entry) (entries : List Entry) → IsKept one entry → new.connections ≡ old.connections + cond (keeps_begin one) 1 0 → new.calls ≡ old.calls + cond (keeps_call one) 1 0
+    → new.replies ≡ old.replies + cond (keeps_reply one) 1 0 → AreCounted old entries → AreCounted new (entries ++ entry ∷ [])
+counted_more old new one entry entries is begins calls replies t = record {
+  connections = counts_behind is_begin old.connections new.connections entries entry (begins ∙ ap (λ b. old.connections + cond b 1 0) (begin_same one entry is)) t.connections;
+  calls = counts_behind is_call old.calls new.calls entries entry (calls ∙ ap (λ b. old.calls + cond b 1 0) (call_same one entry is)) t.calls;
+  replies = counts_behind is_reply old.replies new.replies entries entry (replies ∙ ap (λ b. old.replies + cond b 1 0) (reply_same one entry is)) t.replies;
+}
 
 -- ---- along a reader
 
@@ -108,7 +106,7 @@ few_distinct bytes entries typed =
     let all = ap (λ (l : List (List ℕ)). length (distinct bytes_eq l)) (handles_of_all entries) in
     omega (arith, few, all, length-with_keys bytes_eq nat_list_eq_equiv (handles entries) [])
 
-summary_is : (bytes : List ℕ) (summary : Summary) (entries : List Entry) → Typed bytes entries → Sums summary entries → IsSummary bytes summary
+pub summary_is : (bytes : List ℕ) (summary : Summary) (entries : List Entry) → Typed bytes entries → Sums summary entries → IsSummary bytes summary
 summary_is bytes summary entries typed sums = record {
   entries = entries;
   typed = typed;

@@ -14,3 +14,4 @@ pub mod Examples
 pub mod Written
 pub mod Numbered
 pub mod Writing
+pub mod Rewriting

@@ -1,5 +1,5 @@
 -- What a capture has of each kind.
-use Rattle.std.specs.Prelude.{◌≡◌, ℕ, Bool, true, false, Option, List, bytes_eq, count_by, length, min, Result, Ok, Err}
+use Rattle.std.specs.Prelude.{◌≡◌, ℕ, ◌+◌, Bool, true, false, Option, List, bytes_eq, count_by, length, min, Result, Ok, Err}
 use Rattle.std.specs.Io.KnownBytes.{Consumes, IsAtEnd}
 use Rattle.std.specs.List.{flat_map}
 use Rattle.std.specs.declared.hash.BuildHasher as BuildHasher
@@ -12,6 +12,7 @@ use Rattle.capture3.specs.declared.entries.Entries.{Entries}
 use Rattle.capture3.specs.Entries.{IsMetBy, StandsFor}
 use Rattle.capture3.specs.Entry.{Entry, Begin, Call, Reply}
 use Rattle.capture3.specs.Typed.{Typed}
+use Rattle.canon3.specs.declared.summary.Counts.{Counts}
 use Rattle.canon3.specs.declared.summary.Summary.{Summary}
 use Rattle.canon3.specs.declared.summary.Tally.{Tally}
 use Rattle.canon3.specs.Gathering.{Gathers}
@@ -57,14 +58,21 @@ abbrev pub keeps_reply : kept.Entry → Bool
 keeps_reply (variants.Reply reply) = true
 keeps_reply _ = false
 
+abbrev pub total : Counts → ℕ
+total counts = counts.connections + counts.calls + counts.replies
+
+-- what was counted along these entries
+pub record AreCounted (counts : Counts) (entries : List Entry) : Type 0 where
+  pub connections : counts.connections ≡ count_by is_begin entries
+  pub calls : counts.calls ≡ count_by is_call entries
+  pub replies : counts.replies ≡ count_by is_reply entries
+
 -- what was counted and gathered along these entries
 pub record Tallies {S H : Type 0} (tally : Tally S H) (entries : List Entry) : Type 0 where
-  pub connections : tally.connections ≡ count_by is_begin entries
-  pub calls : tally.calls ≡ count_by is_call entries
-  pub replies : tally.replies ≡ count_by is_reply entries
+  pub counts : AreCounted tally.counts entries
   pub handles : Gathers tally.handles.numbers (all_items entries)
 
--- the same of a summary, whose numbers have a limit
+-- what a summary says of these entries; the number of handles has a limit
 pub record Sums (summary : Summary) (entries : List Entry) : Type 0 where
   pub connections : summary.connections ≡ count_by is_begin entries
   pub calls : summary.calls ≡ count_by is_call entries

@@ -12,7 +12,8 @@ ghost use Rattle.canon3.specs.Bytes.{chunk_bytes, record_bytes};
 ghost use Rattle.canon3.specs.Numbered.{Holds, HasWritten};
 ghost use Rattle.canon3.specs.Pairing.{Member};
 ghost use Rattle.canon3.specs.Values.{handles_in, verifiers_in, xid_of};
-ghost use Rattle.canon3.specs.Writing.{CountsWriting, HasFollowed, IsInTurn, IsOfWriting};
+ghost use Rattle.canon3.specs.Writing.{CountsWriting, HasFollowed, IsCut, IsInTurn, IsOfWriting};
+ghost use Rattle.canon3.specs.Written.{AppendsFront};
 
 use crate::numbered::Numbering;
 use crate::sink::Sink;
@@ -22,8 +23,8 @@ use capture3::{Entry, Error, KeptCall, KeptReply};
 use std::alloc::{AllocError, Global};
 use std::hash::BuildHasher;
 
-/// Writes an entry with the numbers of its values. After an error the entry may be cut, and nothing can
-/// follow.
+/// Writes an entry with the numbers of its values. After an error a front of its bytes was written, and
+/// nothing can follow.
 ///
 /// # Errors
 ///
@@ -35,6 +36,7 @@ pub(crate) fn write_entry<S: BuildHasher + Drop, W: Sink>(
     entry: &Entry,
 ) -> Result<(), Error>
     ensures follows { (one : spec.Entry) (hs vs : List (List ℕ)) (xs : List ℕ) → IsKept entry.now one → Holds numbering.old hs vs xs → IsInTurn xs one → OnOk result (HasFollowed numbering.new (W.written sink.old) (W.written sink.new) hs vs xs one) }
+    ensures cut { (one : spec.Entry) (hs vs : List (List ℕ)) (xs : List ℕ) → IsKept entry.now one → Holds numbering.old hs vs xs → IsInTurn xs one → OnErr result (IsCut (W.written sink.old) (W.written sink.new) hs vs xs one) }
     ensures count { CountsWriting (W.failures sink.old) (W.failures sink.new) result }
     ensures error { IfErr result IsOfWriting }
 {
@@ -56,6 +58,7 @@ fn write_call<S: BuildHasher + Drop, W: Sink>(
     call: &KeptCall,
 ) -> Result<(), Error>
     ensures follows { (items : List Item) (hs vs : List (List ℕ)) (xs : List ℕ) → IsCall call.now.body.items items → Holds numbering.old hs vs xs → OnOk result (HasFollowed numbering.new (W.written sink.old) (W.written sink.new) hs vs xs (spec.Call items)) }
+    ensures cut { (items : List Item) (hs vs : List (List ℕ)) (xs : List ℕ) → IsCall call.now.body.items items → Holds numbering.old hs vs xs → OnErr result (IsCut (W.written sink.old) (W.written sink.new) hs vs xs (spec.Call items)) }
     ensures count { CountsWriting (W.failures sink.old) (W.failures sink.new) result }
     ensures error { IfErr result IsOfWriting }
 {
@@ -72,6 +75,7 @@ fn write_reply<S: BuildHasher + Drop, W: Sink>(
     reply: &KeptReply,
 ) -> Result<(), Error>
     ensures follows { (items : List Item) (hs vs : List (List ℕ)) (xs : List ℕ) → IsReply reply.now.body.items (record { id = reply.now.id; items = items }) → Holds numbering.old hs vs xs → Member (xid_in items) xs → OnOk result (HasFollowed numbering.new (W.written sink.old) (W.written sink.new) hs vs xs (spec.Reply reply.now.id items)) }
+    ensures cut { (items : List Item) (hs vs : List (List ℕ)) (xs : List ℕ) → IsReply reply.now.body.items (record { id = reply.now.id; items = items }) → Holds numbering.old hs vs xs → Member (xid_in items) xs → OnErr result (IsCut (W.written sink.old) (W.written sink.new) hs vs xs (spec.Reply reply.now.id items)) }
     ensures count { CountsWriting (W.failures sink.old) (W.failures sink.new) result }
     ensures error { IfErr result IsOfWriting }
 {
@@ -121,6 +125,7 @@ fn hand_over<S: BuildHasher + Drop, W: Sink>(
 ) -> Result<(), Error>
     requires { length numbering.now.writer ≤ body_limit }
     ensures bytes { OnOk result (Appends (W.written sink.old) (W.written sink.new) (chunk_bytes (record_bytes numbering.now.writer))) }
+    ensures front { OnErr result (AppendsFront (W.written sink.old) (W.written sink.new) (chunk_bytes (record_bytes numbering.now.writer))) }
     ensures count { CountsWriting (W.failures sink.old) (W.failures sink.new) result }
     ensures error { IfErr result (λ error. error ≡ Error.Write) }
 {
@@ -132,6 +137,7 @@ fn hand_over<S: BuildHasher + Drop, W: Sink>(
 
 fn write_word<W: Sink>(sink: &mut W, n: u32) -> Result<(), Error>
     ensures bytes { OnOk result (Appends (W.written sink.old) (W.written sink.new) (word_bytes n)) }
+    ensures front { OnErr result (AppendsFront (W.written sink.old) (W.written sink.new) (word_bytes n)) }
     ensures count { CountsWriting (W.failures sink.old) (W.failures sink.new) result }
     ensures error { IfErr result (λ error. error ≡ Error.Write) }
 {

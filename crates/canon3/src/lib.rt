@@ -8,6 +8,7 @@ pub mod laws;
 mod numbered;
 mod numbers;
 mod plan;
+mod rewriting;
 mod sink;
 mod summary;
 #[cfg(test)]
@@ -15,5 +16,6 @@ mod tests;
 mod writing;
 
 pub use numbers::Numbers;
+pub use rewriting::canon;
 pub use sink::{MemSink, Sink, ToWrite};
 pub use summary::{Summary, check};

@@ -17,7 +17,7 @@ use crate::numbers::Numbers;
 use crate::sink::Sink;
 use crate::writing::write_record;
 use byteorder::{BigEndian, ByteOrder};
-use capture3::{CallMsg, DeviceFailed, Hashers, ReplyMsg};
+use capture3::{CallMsg, DeviceFailed, ReplyMsg};
 use nfs3_types::Handle;
 use std::alloc::{AllocError, Global};
 use std::hash::BuildHasher;
@@ -61,14 +61,14 @@ fn number_of_handle<S: BuildHasher + Drop>(
 
 impl<S: BuildHasher + Drop> Numbering<S> {
     /// Before a capture.
-    pub(crate) fn new(alloc: Global, hashers: Hashers<S>) -> Numbering<S>
+    pub(crate) fn new(alloc: Global, handles: S, verfs: S, xids: S) -> Numbering<S>
         ensures holds { Holds result [] [] [] }
         ensures empty { result.writer ≡ [] }
     {
         Numbering {
-            handles: Numbers::new(alloc, hashers.handles),
-            verfs: Numbers::new(alloc, hashers.verfs),
-            xids: Numbers::new(alloc, hashers.xids),
+            handles: Numbers::new(alloc, handles),
+            verfs: Numbers::new(alloc, verfs),
+            xids: Numbers::new(alloc, xids),
             writer: Writer::new(alloc),
             stage: Stage::Goes,
         }

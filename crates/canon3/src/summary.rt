@@ -1,13 +1,15 @@
 // Whether a capture is well formed, and what it has.
 
-ghost use Rattle.std.specs.Prelude.{◌≡◌, ◌≢◌, ◌<◌, ◌≤◌, ◌+◌, ◌^◌, ◌++◌, ◌∷◌, ℕ, List, [], Option, None, Some, cond, IfErr, IfOk, IsTrue, OnOk};
+ghost use Rattle.std.specs.Prelude.{◌≡◌, ◌≢◌, ◌<◌, ◌≤◌, ◌+◌, ◌^◌, ◌++◌, ◌∷◌, ℕ, List, [], Option, None, Some, bytes_eq, cond, length, min, IfErr, IfOk, IsTrue, OnOk};
 ghost use Rattle.capture3.specs.declared.fault.Fault.{Fault};
 ghost use Rattle.capture3.specs.Entries.{CountsReading, entries_left, failure_of, StandsFor};
 ghost use Rattle.capture3.specs.Entry as spec;
 ghost use Rattle.capture3.specs.FirstFault.{FirstFault};
 ghost use Rattle.capture3.specs.Kept.{IsKept};
 ghost use Rattle.capture3.specs.Position.{most_entries};
-ghost use Rattle.canon3.specs.Summing.{Concludes, GoesOn, IsOver, IsSummary, IsUnderWay, keeps_begin, keeps_call, keeps_reply, Sums, Tallies};
+ghost use Rattle.canon3.specs.Rank.{distinct, number_limit};
+ghost use Rattle.canon3.specs.Summing.{all_items, AreCounted, Concludes, GoesOn, IsOver, IsSummary, IsUnderWay, keeps_begin, keeps_call, keeps_reply, Sums, Tallies, total};
+ghost use Rattle.canon3.specs.Values.{handles_in};
 
 use crate::handles::HandleTable;
 use capture3::{Entries, Entry, Error, Hashers, Source, new_block};
@@ -67,23 +69,75 @@ fn summed<R: Source, S: BuildHasher + Drop>(
     }
 }
 
-/// What was met so far.
+/// How many connections, calls and replies came.
 #[derive(Drop)]
-struct Tally<S: BuildHasher + Drop> {
+pub(crate) struct Counts {
     connections: u32,
     calls: u32,
     replies: u32,
+}
+
+impl Counts {
+    pub(crate) fn new() -> Counts
+        ensures counted { AreCounted result [] }
+        ensures none { total result ≡ 0 }
+    {
+        Counts {
+            connections: 0,
+            calls: 0,
+            replies: 0,
+        }
+    }
+
+    pub(crate) fn add(&mut self, entry: &Entry)
+        requires { total self.old + 1 < 2 ^ 32 }
+        ensures few { total self.new ≤ total self.old + 1 }
+        ensures counted { (one : spec.Entry) (entries : List spec.Entry) → IsKept entry.now one → AreCounted self.old entries → AreCounted self.new (entries ++ one ∷ []) }
+    {
+        self.count(entry);
+    }
+
+    fn count(&mut self, entry: &Entry)
+        requires { total self.old + 1 < 2 ^ 32 }
+        ensures connections { self.new.connections ≡ self.old.connections + cond (keeps_begin entry.now) 1 0 }
+        ensures calls { self.new.calls ≡ self.old.calls + cond (keeps_call entry.now) 1 0 }
+        ensures replies { self.new.replies ≡ self.old.replies + cond (keeps_reply entry.now) 1 0 }
+    {
+        match entry {
+            Entry::Begin => self.connections += 1,
+            Entry::Call(_) => self.calls += 1,
+            Entry::Reply(_) => self.replies += 1,
+            Entry::Turn | Entry::Close | Entry::End => {}
+        }
+    }
+
+    /// The summary with so many distinct handles.
+    pub(crate) fn summary(&self, handles: u32) -> Summary
+        ensures { (entries : List spec.Entry) → AreCounted self.now entries → handles ≡ min (length (distinct bytes_eq (handles_in (all_items entries)))) number_limit → Sums result entries }
+    {
+        Summary {
+            connections: self.connections,
+            calls: self.calls,
+            replies: self.replies,
+            handles,
+        }
+    }
+}
+
+/// What was met so far.
+#[derive(Drop)]
+struct Tally<S: BuildHasher + Drop> {
+    counts: Counts,
     handles: HandleTable<S>,
 }
 
 impl<S: BuildHasher + Drop> Tally<S> {
     fn new(alloc: Global, hasher: S) -> Tally<S>
-        ensures { Tallies result [] }
+        ensures tallies { Tallies result [] }
+        ensures none { total result.counts ≡ 0 }
     {
         Tally {
-            connections: 0,
-            calls: 0,
-            replies: 0,
+            counts: Counts::new(),
             handles: HandleTable::new(alloc, hasher),
         }
     }
@@ -95,7 +149,7 @@ impl<S: BuildHasher + Drop> Tally<S> {
         entries: &mut Entries<'_, R, S>,
     ) -> Result<(), Error>
         requires going { failure_of entries.old ≡ None }
-        requires room { self.old.connections + self.old.calls + self.old.replies + entries_left entries.old ≤ most_entries }
+        requires room { total self.old.counts + entries_left entries.old ≤ most_entries }
         ensures over { (first : Option (List ℕ)) → IsUnderWay R.left first entries.old self.old → IsOver R.left first entries.new self.new result }
         ensures read { CountsReading (R.failures entries.old.source.now) (R.failures entries.new.source.now) result }
         ensures write { IfErr result (λ error. error ≢ Error.Write) }
@@ -112,11 +166,11 @@ impl<S: BuildHasher + Drop> Tally<S> {
         entries: &mut Entries<'_, R, S>,
     ) -> Result<bool, Error>
         requires going { failure_of entries.old ≡ None }
-        requires room { self.old.connections + self.old.calls + self.old.replies + entries_left entries.old ≤ most_entries }
+        requires room { total self.old.counts + entries_left entries.old ≤ most_entries }
         ensures goes_on { (first : Option (List ℕ)) → IsUnderWay R.left first entries.old self.old → GoesOn R.left first entries.new self.new result }
         ensures fewer { IfOk result (λ more. IsTrue more → entries_left entries.new < entries_left entries.old) }
         ensures going { OnOk result (failure_of entries.new ≡ None) }
-        ensures room { IfOk result (λ more. IsTrue more → self.new.connections + self.new.calls + self.new.replies + entries_left entries.new ≤ most_entries) }
+        ensures room { IfOk result (λ more. IsTrue more → total self.new.counts + entries_left entries.new ≤ most_entries) }
         ensures read { CountsReading (R.failures entries.old.source.now) (R.failures entries.new.source.now) result }
         ensures write { IfErr result (λ error. error ≢ Error.Write) }
         ensures same_reference { entries.new.source.ghost_name ≡ entries.old.source.ghost_name }
@@ -130,9 +184,9 @@ impl<S: BuildHasher + Drop> Tally<S> {
 
     /// Adds the entry, and says that it came.
     fn added(&mut self, alloc: Global, entry: &Entry) -> Result<bool, Error>
-        requires { self.old.connections + self.old.calls + self.old.replies + 1 < 2 ^ 32 }
+        requires { total self.old.counts + 1 < 2 ^ 32 }
         ensures more { IfOk result IsTrue }
-        ensures few { self.new.connections + self.new.calls + self.new.replies ≤ self.old.connections + self.old.calls + self.old.replies + 1 }
+        ensures few { total self.new.counts ≤ total self.old.counts + 1 }
         ensures tallies { (one : spec.Entry) (entries : List spec.Entry) → IsKept entry.now one → Tallies self.old entries → OnOk result (Tallies self.new (entries ++ one ∷ [])) }
         ensures memory { IfErr result (λ error. error ≡ Error.Memory) }
     {
@@ -141,37 +195,17 @@ impl<S: BuildHasher + Drop> Tally<S> {
     }
 
     fn add(&mut self, alloc: Global, entry: &Entry) -> Result<(), AllocError>
-        requires { self.old.connections + self.old.calls + self.old.replies + 1 < 2 ^ 32 }
-        ensures few { self.new.connections + self.new.calls + self.new.replies ≤ self.old.connections + self.old.calls + self.old.replies + 1 }
+        requires { total self.old.counts + 1 < 2 ^ 32 }
+        ensures few { total self.new.counts ≤ total self.old.counts + 1 }
         ensures tallies { (one : spec.Entry) (entries : List spec.Entry) → IsKept entry.now one → Tallies self.old entries → OnOk result (Tallies self.new (entries ++ one ∷ [])) }
     {
-        self.count(entry);
+        self.counts.add(entry);
         self.handles.gather(alloc, entry)
-    }
-
-    fn count(&mut self, entry: &Entry)
-        requires { self.old.connections + self.old.calls + self.old.replies + 1 < 2 ^ 32 }
-        ensures connections { self.new.connections ≡ self.old.connections + cond (keeps_begin entry.now) 1 0 }
-        ensures calls { self.new.calls ≡ self.old.calls + cond (keeps_call entry.now) 1 0 }
-        ensures replies { self.new.replies ≡ self.old.replies + cond (keeps_reply entry.now) 1 0 }
-        ensures handles { self.new.handles ≡ self.old.handles }
-    {
-        match entry {
-            Entry::Begin => self.connections += 1,
-            Entry::Call(_) => self.calls += 1,
-            Entry::Reply(_) => self.replies += 1,
-            Entry::Turn | Entry::Close | Entry::End => {}
-        }
     }
 
     fn summary(&self) -> Summary
         ensures { (entries : List spec.Entry) → Tallies self.now entries → Sums result entries }
     {
-        Summary {
-            connections: self.connections,
-            calls: self.calls,
-            replies: self.replies,
-            handles: self.handles.len(),
-        }
+        self.counts.summary(self.handles.len())
     }
 }

@@ -1,11 +1,12 @@
 use super::form::write_entry;
 use super::numbered::Numbering;
 use super::writing::{write_all, write_record};
-use super::{MemSink, Numbers, Sink, ToWrite};
-use capture3::{DeviceFailed, Hashers, parse};
+use super::{MemSink, Numbers, Sink, Summary, ToWrite, canon};
+use capture3::{DeviceFailed, Error, Fault, Hashers, MemSource, Place, parse};
 use std::alloc::{AllocError, Global};
 use std::hash::{BuildHasherDefault, FoldHasher, Hash};
 use std::test::Fail;
+use xdr3::Reason;
 
 fn numbers_of<K: Copy + Eq + Hash>(rt: &HostRuntime, keys: [K; 4]) -> Result<[u32; 5], Fail> {
     let mut numbers = Numbers::new(rt.alloc(), BuildHasherDefault::<FoldHasher>::default());
@@ -122,22 +123,105 @@ fn hashers() -> Hashers<BuildHasherDefault<FoldHasher>> {
     }
 }
 
-#[test]
-fn entries_with_numbers(rt: HostRuntime) -> Result<(), Fail> {
+// The same with values that are not their numbers, and with their numbers.
+fn commits(alloc: Global) -> Result<(Vec<u8>, Vec<u8>), AllocError> {
     let (xid, handle) = ([0xde, 0xad, 0xbe, 0xef], [0, 0, 0, 1, 0xaa, 0, 0, 0]);
-    let bytes = commit(rt.alloc(), xid, handle, [8; 8])?;
+    let bytes = commit(alloc, xid, handle, [8; 8])?;
+    let one = [0, 0, 0, 1];
     let numbered = commit(
-        rt.alloc(),
-        [0, 0, 0, 1],
+        alloc,
+        one,
         [0, 0, 0, 4, 0, 0, 0, 1],
         [0, 0, 0, 0, 0, 0, 0, 1],
     )?;
-    let mut numbering = Numbering::new(rt.alloc(), hashers());
+    Ok((bytes, numbered))
+}
+
+#[test]
+fn entries_with_numbers(rt: HostRuntime) -> Result<(), Fail> {
+    let (bytes, numbered) = commits(rt.alloc())?;
+    let hashers = hashers();
+    let mut numbering = Numbering::new(rt.alloc(), hashers.handles, hashers.verfs, hashers.xids);
     let mut sink = MemSink::new(rt.alloc(), 999, 9, 0)?;
     assert_eq!(rt; write_all(&mut sink, b"NFS3CAP1"), Ok(()));
     for entry in parse(rt.alloc(), &bytes)?.iter() {
         write_entry(rt.alloc(), &mut numbering, &mut sink, entry)?;
     }
+    assert_eq!(rt; sink.bytes(), numbered.as_slice());
+    Ok(())
+}
+
+// In blocks of 7 bytes, where the read with this number fails.
+fn canon_of(
+    rt: &HostRuntime,
+    file: &[u8],
+    fail: u64,
+    sink: &mut MemSink,
+) -> Result<Summary, Error> {
+    canon(
+        rt.alloc(),
+        hashers(),
+        &mut MemSource::new(file, 7, fail),
+        sink,
+    )
+}
+
+#[test]
+fn a_capture_in_its_canonical_form(rt: HostRuntime) -> Result<(), Fail> {
+    let (bytes, numbered) = commits(rt.alloc())?;
+    let mut sink = MemSink::new(rt.alloc(), 999, 9, 0)?;
+    let summary = Summary {
+        connections: 1,
+        calls: 1,
+        replies: 1,
+        handles: 1,
+    };
+    assert_eq!(rt; canon_of(&rt, &bytes, 0, &mut sink), Ok(summary));
+    assert_eq!(rt; sink.bytes(), numbered.as_slice());
+    Ok(())
+}
+
+#[test]
+fn a_capture_that_is_cut_up_to_there(rt: HostRuntime) -> Result<(), Fail> {
+    let (bytes, numbered) = commits(rt.alloc())?;
+    let mut sink = MemSink::new(rt.alloc(), 999, 9, 0)?;
+    let n = bytes.len() - 4;
+    let fault = Fault {
+        place: Place::File { at: n as u64 },
+        reason: Reason::CaptureCut,
+    };
+    assert_eq!(rt;
+        canon_of(&rt, &bytes[..n], 0, &mut sink),
+        Err(Error::Refused(fault))
+    );
+    assert_eq!(rt; sink.bytes(), &numbered[..n]);
+    Ok(())
+}
+
+#[test]
+fn entries_before_a_failed_read(rt: HostRuntime) -> Result<(), Fail> {
+    let (bytes, numbered) = commits(rt.alloc())?;
+    let mut sink = MemSink::new(rt.alloc(), 999, 9, 0)?;
+    assert_eq!(rt; canon_of(&rt, &bytes, 12, &mut sink), Err(Error::Read));
+    assert_eq!(rt; sink.bytes(), &numbered[..12]);
+    Ok(())
+}
+
+#[test]
+fn a_front_where_room_is_wanting(rt: HostRuntime) -> Result<(), Fail> {
+    let (bytes, numbered) = commits(rt.alloc())?;
+    let mut sink = MemSink::new(rt.alloc(), 50, 9, 0)?;
+    assert_eq!(rt; canon_of(&rt, &bytes, 0, &mut sink), Err(Error::Write));
+    assert_eq!(rt; sink.bytes(), &numbered[..50]);
+    Ok(())
+}
+
+// Nine writes come before it.
+#[test]
+fn a_failed_flush(rt: HostRuntime) -> Result<(), Fail> {
+    let (bytes, numbered) = commits(rt.alloc())?;
+    let mut sink = MemSink::new(rt.alloc(), 999, 999, 10)?;
+    assert_eq!(rt; canon_of(&rt, &bytes, 0, &mut sink), Err(Error::Write));
     assert_eq!(rt; sink.bytes(), numbered.as_slice());
     Ok(())
 }
