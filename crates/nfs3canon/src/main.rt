@@ -7,14 +7,14 @@ mod printed;
 #[cfg(test)]
 mod tests;
 
-use canon3::check;
+use canon3::{ToWrite, canon, check};
 use capture3::{Error, FromRead, Hashers};
 use command::job;
 use outcome::{Job, LineFault, Outcome, Report};
 use printed::report;
 use std::alloc::AllocError;
 use std::hash::RandomState;
-use std::io::Write;
+use std::io::{BufWriter, Write};
 use std::process::ExitCode;
 use std::{env, fs, io};
 
@@ -35,7 +35,7 @@ fn run(rt: &HostRuntime) -> Result<Report, AllocError> {
     };
     match job(alloc, &words) {
         Ok(Job::Check(name)) => report(alloc, &checked(rt, name)),
-        Ok(Job::Canon(_input, _output)) => report(alloc, &Outcome::Counted(Err(Error::Write))),
+        Ok(Job::Canon(input, output)) => report(alloc, &rewritten(rt, input, output)),
         Err(fault) => report(alloc, &Outcome::Line(fault)),
     }
 }
@@ -58,6 +58,28 @@ fn checked<'a>(rt: &HostRuntime, name: &'a str) -> Outcome<'a> {
         Ok(file) => Outcome::Counted(check(rt.alloc(), hashers, &mut FromRead::new(file))),
         Err(_) => Outcome::Unopened(name),
     }
+}
+
+/// The output is made, or emptied, once the input is open.
+fn rewritten<'a>(rt: &HostRuntime, input: &'a str, output: &'a str) -> Outcome<'a> {
+    let Ok(hashers) = hashers(rt) else {
+        return Outcome::Counted(Err(Error::Read));
+    };
+    let Ok(source) = fs::open(rt, input) else {
+        return Outcome::Unopened(input);
+    };
+    let Ok(sink) = fs::create(rt, output) else {
+        return Outcome::Unopened(output);
+    };
+    Outcome::Counted(match BufWriter::new(rt.alloc(), sink) {
+        Ok(sink) => canon(
+            rt.alloc(),
+            hashers,
+            &mut FromRead::new(source),
+            &mut ToWrite::new(sink),
+        ),
+        Err(_) => Err(Error::Memory),
+    })
 }
 
 fn print_report(rt: &HostRuntime, report: &Report) -> io::Result<()> {

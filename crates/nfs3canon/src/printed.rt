@@ -1,7 +1,7 @@
 // What the program prints of an outcome.
 
-ghost use Rattle.std.specs.Prelude.{◌≡◌, [], IfOk, string_bytes};
-ghost use Rattle.nfs3canon.specs.Printed.{Prints, PrintsError, PrintsOutcome, counts_of, ended_of, fault_of, side_of, unopened_of};
+ghost use Rattle.std.specs.Prelude.{◌≡◌, ◌++◌, [], IfOk, codes, string_bytes};
+ghost use Rattle.nfs3canon.specs.Printed.{Prints, PrintsError, PrintsOutcome, counts_of, ended_of, fault_of, newline, side_of, unopened_of};
 
 use crate::outcome::{LineFault, Outcome, Report};
 use canon3::Summary;
@@ -18,13 +18,7 @@ pub fn report(alloc: Global, outcome: &Outcome) -> Result<Report, AllocError>
         Outcome::Counted(Err(error)) => failed(alloc, error),
         Outcome::Unopened(name) => refused(alloc, 3, unopened(alloc, name)?),
         Outcome::Line(LineFault::Usage(text)) => refused(alloc, 4, ended(text)?),
-        Outcome::Line(LineFault::SameName) => {
-            refused(
-                alloc,
-                4,
-                String::from_str(alloc, "output names an input\n")?,
-            )
-        }
+        Outcome::Line(LineFault::SameName) => same_name(alloc),
         Outcome::Line(LineFault::Memory) => failed(alloc, &Error::Memory),
     }
 }
@@ -49,6 +43,16 @@ fn refused(alloc: Global, status: u8, err: String) -> Result<Report, AllocError>
         out: Vec::new(alloc),
         err: err.into_bytes(),
     })
+}
+
+fn same_name(alloc: Global) -> Result<Report, AllocError>
+    ensures { IfOk result (Prints 4 [] (codes "output names an input" ++ newline)) }
+{
+    refused(
+        alloc,
+        4,
+        String::from_str(alloc, "output names an input\n")?,
+    )
 }
 
 fn failed(alloc: Global, error: &Error) -> Result<Report, AllocError>
