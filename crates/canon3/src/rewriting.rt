@@ -24,15 +24,16 @@ use capture3::{Entries, Entry, Error, Hashers, Source, new_block};
 use std::alloc::Global;
 use std::hash::BuildHasher;
 
-/// Reads a capture to its end, writes its canonical form as it comes, and flushes the sink. It holds one
-/// block of the source's bytes, one record, the calls of the open connection, and the values that have
-/// numbers.
+/// Reads a capture to its end, writes its canonical form as it comes, and flushes the sink: each file
+/// handle that is not empty (RFC 1813, section 2.5), write verifier and xid (RFC 5531, section 9) is
+/// written as its number. It holds one block of the source's bytes, one record, the calls of the open
+/// connection, and the values that have numbers.
 ///
 /// # Errors
 ///
-/// `Refused` with the first fault of a capture that is not well formed, `Read` where a read failed,
-/// `Write` where a write or the flush failed, and `Memory` where none was to be had. The canonical form
-/// of the entries before a fault or a failed read is written whole.
+/// `Refused` with the first fault of a capture that is not well formed, and `Read` where a read failed:
+/// the form of the entries before it is written whole. `Write` where a write or the flush failed, and
+/// `Memory` where none was to be had: a front of the form is written. After an error nothing is flushed.
 pub fn canon<R: Source, W: Sink, S: BuildHasher + Drop>(
     alloc: Global,
     hashers: Hashers<S>,
@@ -54,7 +55,7 @@ pub fn canon<R: Source, W: Sink, S: BuildHasher + Drop>(
     result
 }
 
-/// What a new reader hands out, up to its end.
+/// Writes what a new reader hands out, with numbers that stand for nothing yet.
 fn rewritten<R: Source, W: Sink, S: BuildHasher + Drop>(
     alloc: Global,
     numbering: Numbering<S>,
