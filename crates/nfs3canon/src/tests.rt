@@ -332,6 +332,11 @@ fn endings_without_a_capture(rt: HostRuntime) -> Result<(), Fail> {
         (Outcome::Counted(Err(Error::Memory)), 3, "out of memory\n"),
         (Outcome::Unopened("a b"), 3, "open failed: a b\n"),
         (Outcome::Line(LineFault::Memory), 3, "out of memory\n"),
+        (
+            Outcome::Line(LineFault::SameName),
+            4,
+            "output names an input\n",
+        ),
     ];
     for (outcome, status, line) in &endings {
         let report = report(rt.alloc(), outcome)?;
@@ -349,6 +354,8 @@ fn command_lines(rt: HostRuntime) -> Result<(), Fail> {
         "nfs3canon",
         "nfs3canon check",
         "nfs3canon check a b",
+        "nfs3canon canon a",
+        "nfs3canon canon a b c",
         "nfs3canon show a",
         "nfs3canon help",
     ];
@@ -361,6 +368,10 @@ fn command_lines(rt: HostRuntime) -> Result<(), Fail> {
     }
     let words = words_of(alloc, "nfs3canon check a")?;
     assert!(rt; matches!(job(alloc, &words), Ok(Job::Check("a"))));
+    let words = words_of(alloc, "nfs3canon canon a b")?;
+    assert!(rt; matches!(job(alloc, &words), Ok(Job::Canon("a", "b"))));
+    let words = words_of(alloc, "nfs3canon canon a a")?;
+    assert!(rt; matches!(job(alloc, &words), Err(LineFault::SameName)));
     Ok(())
 }
 
