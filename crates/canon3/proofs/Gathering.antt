@@ -1,5 +1,5 @@
 -- Tables that gather the handles of items.
-use Rattle.std.proofs.Common.{◌≡◌, ◌≢◌, ℕ, Bool, true, false, List, [], ◌∷◌, ◌++◌, length, map, refl, sym, ap, ◌∙◌, append-nil, ◌≤◌, Result, Ok, Err, arith}
+use Rattle.std.proofs.Common.{◌≡◌, ◌≢◌, ℕ, ◌+◌, Bool, true, false, List, [], ◌∷◌, ◌++◌, length, map, refl, sym, ap, ◌∙◌, append-nil, ◌≤◌, Result, Ok, Err, arith}
 use Rattle.std.specs.Prelude.{bytes_eq, if◌then◌else◌, ◌||◌, OnOk}
 use Rattle.std.specs.List.{list_any}
 use Rattle.std.proofs.lemmas.List.{length-map, map-append}
@@ -19,7 +19,7 @@ use Rattle.capture3.specs.Judging.{read_whole}
 use Rattle.capture3.proofs.Layouts.{whole_read}
 use Rattle.capture3.specs.Entry.{Entry}
 use Rattle.canon3.specs.Gathering.{Gathers, same_handle}
-use Rattle.canon3.specs.Rank.{distinct, with_key, with_keys, StandsFor}
+use Rattle.canon3.specs.Rank.{before, distinct, rank, with_key, with_keys, StandsFor}
 use Rattle.canon3.specs.Summing.{all_items}
 use Rattle.canon3.specs.Values.{handle_in, handles, handles_in, items_of}
 
@@ -46,6 +46,17 @@ module _ {K L : Type 0} (same : L → L → Bool) (f : K → L) where
 
   pub distinct_mapped : (l : List K) → length (distinct same_by l) ≡ length (distinct same (map f l))
   distinct_mapped l = sym (length-map (distinct same_by l) f) ∙ ap length (keys_mapped [] l)
+
+  before_mapped : (x : K) (l : List K) → map f (before same_by x l) ≡ before same (f x) (map f l)
+  before_mapped x [] = refl
+  before_mapped x (y ∷ l) = by_found (same (f x) (f y)) ∙ ap (λ (k : List L). if same (f x) (f y) then [] else f y ∷ k) (before_mapped x l)
+    where
+      by_found : (b : Bool) → map f (if b then [] else y ∷ before same_by x l) ≡ (if b then [] else f y ∷ map f (before same_by x l))
+      by_found true = refl
+      by_found false = refl
+
+  pub rank_mapped : (x : K) (l : List K) → rank same_by x l ≡ rank same (f x) (map f l)
+  rank_mapped x l = ap (λ n. 1 + n) (distinct_mapped (before same_by x l) ∙ ap (λ (k : List L). length (distinct same k)) (before_mapped x l))
 
 -- ---- along items
 

@@ -8,7 +8,8 @@ use Rattle.xdr3.specs.Visit.{Adds, AreWithinLimit, body_limit}
 use Rattle.canon3.specs.declared.numbered.Numbering.{Numbering}
 use Rattle.canon3.specs.declared.numbered.Stage.TheVariants.{Failed}
 use Rattle.canon3.specs.Following.{items_after}
-use Rattle.canon3.specs.Numbered.{Before, Holds, HoldsHandles, HasWritten, IsBefore, IsOpened, IsUnderWay, behind, Stands}
+use Rattle.canon3.specs.Gathering.{HoldsHandles}
+use Rattle.canon3.specs.Numbered.{Before, Holds, HasWritten, IsBefore, IsOpened, IsUnderWay, behind, Stands}
 use Rattle.canon3.specs.Pairing.{Member, here, there}
 use Rattle.canon3.specs.Rank.{distinct, number_limit, rank, StandsFor}
 use Rattle.canon3.specs.Values.{handles_in, verifiers_in, xid_of}

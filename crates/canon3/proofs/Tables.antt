@@ -4,27 +4,9 @@ use Rattle.std.specs.Prelude.{if◌then◌else◌, bytes_eq, IfOk}
 use Rattle.std.proofs.lemmas.List.{map-append}
 use Rattle.nfs3_types.specs.declared.handle.Handle as declared
 use Rattle.nfs3_types.specs.Handle.{bytes_of}
-use Rattle.canon3.specs.Gathering.{same_handle}
-use Rattle.canon3.specs.Numbered.{HoldsHandles}
+use Rattle.canon3.specs.Gathering.{HoldsHandles, same_handle}
 use Rattle.canon3.specs.Rank.{before, distinct, number_limit, rank, StandsFor}
-use Rattle.canon3.proofs.Gathering.{distinct_mapped}
-
-module _ {K L : Type 0} (same : L → L → Bool) (f : K → L) where
-  abbrev same_by : K → K → Bool
-  same_by x y = same (f x) (f y)
-
-  before_mapped : (x : K) (l : List K) → map f (before same_by x l) ≡ before same (f x) (map f l)
-  before_mapped x [] = refl
-  before_mapped x (y ∷ l) = by_found (same (f x) (f y)) ∙ ap (λ (k : List L). if same (f x) (f y) then [] else f y ∷ k) (before_mapped x l)
-    where
-      by_found : (b : Bool) → map f (if b then [] else y ∷ before same_by x l) ≡ (if b then [] else f y ∷ map f (before same_by x l))
-      by_found true = refl
-      by_found false = refl
-
-  pub rank_mapped : (x : K) (l : List K) → rank same_by x l ≡ rank same (f x) (map f l)
-  rank_mapped x l = ap (λ n. 1 + n) (distinct_mapped same f (before same_by x l) ∙ ap (λ (k : List L). length (distinct same k)) (before_mapped x l))
-
--- ---- handles
+use Rattle.canon3.proofs.Gathering.{rank_mapped}
 
 mapped_more : (given : List declared.Handle) (handle : declared.Handle) (hs : List (List ℕ)) (bytes : List ℕ) → map bytes_of given ≡ hs → bytes_of handle ≡ bytes → map bytes_of (given ++ handle ∷ []) ≡ hs ++ bytes ∷ []
 mapped_more given handle hs bytes are is = map-append bytes_of given (handle ∷ []) ∙ ap₂ (λ (l : List (List ℕ)) (b : List ℕ). l ++ b ∷ []) are is

@@ -15,7 +15,8 @@ use Rattle.canon3.specs.declared.numbered.Stage.{Stage}
 use Rattle.canon3.specs.declared.numbered.Stage.TheVariants.{Begins, Goes, Failed}
 use Rattle.canon3.specs.Canonical.{numbered_item}
 use Rattle.canon3.specs.Following.{items_after}
-use Rattle.canon3.specs.Numbered.{AreFew, Before, HoldsHandles, IsBehind, IsSpelled, IsUnderWay, listed, behind, Stands}
+use Rattle.canon3.specs.Gathering.{HoldsHandles}
+use Rattle.canon3.specs.Numbered.{AreFew, Before, IsBehind, IsSpelled, IsUnderWay, listed, behind, Stands}
 use Rattle.canon3.specs.Pairing.{here}
 use Rattle.canon3.specs.Rank.{number_limit, rank, StandsFor}
 use Rattle.canon3.specs.Renaming.{IsPlain}

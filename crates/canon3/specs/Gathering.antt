@@ -1,5 +1,5 @@
 -- Which handles a table holds.
-use Rattle.std.specs.Prelude.{◌≡◌, Bool, List, map, bytes_eq}
+use Rattle.std.specs.Prelude.{◌≡◌, ℕ, Bool, List, map, bytes_eq}
 use Rattle.xdr3.specs.Item.{Item}
 use Rattle.nfs3_types.specs.declared.handle.Handle.{Handle}
 use Rattle.nfs3_types.specs.Handle.{bytes_of}
@@ -10,6 +10,10 @@ use Rattle.canon3.specs.Values.{handles_in}
 abbrev pub same_handle : Handle → Handle → Bool
 same_handle a b = bytes_eq (bytes_of a) (bytes_of b)
 
--- the table holds the distinct ones of the handles of the items that are not empty
+-- the table holds the distinct ones of the handles with these bytes
+abbrev pub HoldsHandles : List Handle → List (List ℕ) → Type 0
+HoldsHandles table hs = (given : List Handle) × StandsFor same_handle table given × (map bytes_of given ≡ hs)
+
+-- the same of the handles of items that are not empty
 abbrev pub Gathers : List Handle → List Item → Type 0
-Gathers table items = (given : List Handle) × StandsFor same_handle table given × (map bytes_of given ≡ handles_in items)
+Gathers table items = HoldsHandles table (handles_in items)

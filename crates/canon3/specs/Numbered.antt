@@ -7,13 +7,9 @@ use Rattle.canon3.specs.declared.numbered.Numbering.{Numbering}
 use Rattle.canon3.specs.declared.numbered.Stage.{Stage}
 use Rattle.canon3.specs.declared.numbered.Stage.TheVariants.{Begins, Goes, Failed}
 use Rattle.canon3.specs.Following.{items_after, message_after}
-use Rattle.canon3.specs.Gathering.{same_handle}
+use Rattle.canon3.specs.Gathering.{HoldsHandles}
 use Rattle.canon3.specs.Rank.{number_limit, rank, StandsFor}
 use Rattle.canon3.specs.Values.{handles_in, verifiers_in}
-
--- the table holds the distinct ones of these handles
-abbrev pub HoldsHandles : List declared.Handle → List (List ℕ) → Type 0
-HoldsHandles table hs = (given : List declared.Handle) × StandsFor same_handle table given × (map bytes_of given ≡ hs)
 
 -- no more of each than a table has numbers for
 abbrev pub AreFew : (hs vs : List (List ℕ)) → Type 0
