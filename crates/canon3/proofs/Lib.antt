@@ -34,3 +34,7 @@ pub mod Opening
 pub mod Entering
 pub mod Growing
 pub mod Rewritten
+pub mod SpellingLemmas
+pub mod ProgressLemmas
+pub mod AgreementLemmas
+pub mod ComparisonLemmas

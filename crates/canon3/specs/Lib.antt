@@ -15,3 +15,6 @@ pub mod Written
 pub mod Numbered
 pub mod Writing
 pub mod Rewriting
+pub mod Progress
+pub mod Spelling
+pub mod Comparison

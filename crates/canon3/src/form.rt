@@ -86,7 +86,7 @@ fn write_reply<S: BuildHasher + Drop, W: Sink>(
 }
 
 /// Spells a kept call with the numbers of its values.
-fn number_call<S: BuildHasher + Drop>(
+pub(crate) fn number_call<S: BuildHasher + Drop>(
     alloc: Global,
     numbering: &mut Numbering<S>,
     call: &KeptCall,
@@ -103,7 +103,7 @@ fn number_call<S: BuildHasher + Drop>(
 }
 
 /// Spells a kept reply with the numbers of its values.
-fn number_reply<S: BuildHasher + Drop>(
+pub(crate) fn number_reply<S: BuildHasher + Drop>(
     alloc: Global,
     numbering: &mut Numbering<S>,
     reply: &KeptReply,

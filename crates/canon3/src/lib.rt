@@ -1,6 +1,7 @@
 //! Counts of a capture, what it is up to renaming, and where its canonical form is written to.
 #![tactic(auto)]
 
+mod comparison;
 pub mod examples;
 mod form;
 mod handles;
@@ -8,14 +9,20 @@ pub mod laws;
 mod numbered;
 mod numbers;
 mod plan;
+mod progress;
 mod rewriting;
 mod sink;
+mod spelling;
 mod summary;
 #[cfg(test)]
 mod tests;
+mod verdict;
 mod writing;
 
+pub use comparison::same;
 pub use numbers::Numbers;
 pub use rewriting::canon;
 pub use sink::{MemSink, Sink, ToWrite};
 pub use summary::{Summary, check};
+pub use verdict::{SameError, Verdict, Which};
+pub use writing::write_all;

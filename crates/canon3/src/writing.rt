@@ -15,7 +15,7 @@ use record_mark::{BODY_LIMIT, header};
 
 /// Writes all of the bytes, in as many pieces as the sink takes them. After an error a front of them was
 /// written.
-pub(crate) fn write_all<W: Sink>(sink: &mut W, bytes: &[u8]) -> Result<(), DeviceFailed>
+pub fn write_all<W: Sink>(sink: &mut W, bytes: &[u8]) -> Result<(), DeviceFailed>
     ensures ok { OnOk result (Appends (W.written sink.old) (W.written sink.new) bytes.now) }
     ensures err { OnErr result (AppendsFront (W.written sink.old) (W.written sink.new) bytes.now) }
     ensures count { Counts (W.failures sink.old) (W.failures sink.new) result }

@@ -1,0 +1,191 @@
+-- A comparison of two captures, entry by entry.
+use Rattle.std.proofs.Common.{◌≡◌, ◌≢◌, ℕ, Bool, true, false, ◌<◌, ◌^◌, List, [], ◌∷◌, ◌++◌, length, append-nil, Option, None, Some, Result, Ok, Err, refl, sym, ap, ◌∙◌, subst, arith}
+use Rattle.std.specs.Io.KnownBytes.{Consumes, IsAtEnd}
+use Rattle.std.specs.Result.{IsErr, IsErrAnd}
+use Rattle.std.proofs.KnownBytes.{Consumes-all, Consumes-trans}
+use Rattle.std.specs.declared.hash.BuildHasher as BuildHasher
+use Rattle.std.specs.declared.hash.Hasher as Hasher
+use Rattle.capture3.specs.declared.entry.Entry as kept
+use Rattle.capture3.specs.declared.entries.Entries.{Entries}
+use Rattle.capture3.specs.declared.fault.Error.{Error}
+use Rattle.capture3.specs.declared.fault.Error.TheVariants as errors
+use Rattle.capture3.specs.declared.fault.Place.{Place}
+use Rattle.capture3.specs.Entries.{Answers, IsMetBy, StandsFor}
+use Rattle.capture3.specs.Entry.{Entry}
+use Rattle.capture3.specs.Kept.{IsKept}
+use Rattle.capture3.specs.Typed.{IsWellFormed, Typed}
+use Rattle.canon3.specs.declared.comparison.Comparison.{Comparison}
+use Rattle.canon3.specs.declared.comparison.Finding.{Finding}
+use Rattle.canon3.specs.declared.comparison.Finding.TheVariants as findings
+use Rattle.canon3.specs.declared.numbered.Numbering.{Numbering}
+use Rattle.canon3.specs.declared.spelling.Spelling.{Spelling}
+use Rattle.canon3.specs.declared.progress.Progress.{Progress}
+use Rattle.canon3.specs.declared.verdict.SameError.{SameError}
+use Rattle.canon3.specs.declared.verdict.Verdict.{Verdict}
+use Rattle.canon3.specs.declared.verdict.Verdict.TheVariants as verdicts
+use Rattle.canon3.specs.declared.verdict.Which.TheVariants.{First, Second}
+use Rattle.canon3.specs.Comparison.{Agree, Decides, HasGiven, HasGivenOn, HaveEnded, HaveParted, IsCompared, IsFound, IsReadAfter, IsReadOut, IsRefused, Meets, met_second, PartWith, ReadsOn, StepsOn, Stops}
+use Rattle.canon3.specs.Following.{open_xids}
+use Rattle.canon3.specs.Laws.{AreFirst}
+use Rattle.canon3.specs.Numbered.{AreFew, Holds}
+use Rattle.canon3.specs.Renaming.{Same}
+use Rattle.canon3.specs.Spelling.{HasSpelled, spelling_of}
+use Rattle.canon3.specs.Progress.{HasPassed, place_from, side_in}
+use Rattle.canon3.specs.Values.{handles, handles_in, items_of, verifiers, verifiers_in}
+use Rattle.canon3.proofs.AgreementLemmas.{agree_more, differ_here, mark_alike, no_more, not_same, parting, place_there, typed_first}
+use Rattle.canon3.proofs.First.{first_in_order, same_from_bytes}
+use Rattle.canon3.proofs.Growing.{bytes_behind, few_xids, handles_push, open-append, verifiers_push}
+use Rattle.canon3.proofs.Rewritten.{first_reached}
+use Rattle.canon3.proofs.ProgressLemmas.{place_is}
+
+-- ---- one capture
+
+module _ {S H : Type 0} (n : Numbering S H) (form : Spelling) (a : List Entry) (e : Entry) (first : AreFirst (a ++ e ∷ [])) (s : HasSpelled n form (handles a) (verifiers a) (open_xids [] a) e) where
+  are_few : AreFew (handles a ++ handles_in (items_of e)) (verifiers a ++ verifiers_in (items_of e))
+  are_few =
+      let order = first_in_order (a ++ e ∷ []) first in
+      (subst (λ (l : List (List ℕ)). length l < 2 ^ 32) (handles_push a e) order.few_handles, subst (λ (l : List (List ℕ)). length l < 2 ^ 32) (verifiers_push a e) order.few_verifiers)
+
+  pub told : length (a ++ e ∷ []) < 2 ^ 32 → spelling_of form n.writer ≡ bytes_behind a (e ∷ [])
+  told few = s.spelled are_few (few_xids a e few)
+
+  pub held_more : Holds n (handles (a ++ e ∷ [])) (verifiers (a ++ e ∷ [])) (open_xids [] (a ++ e ∷ []))
+  held_more =
+      subst (λ (xs : List ℕ). Holds n (handles (a ++ e ∷ [])) (verifiers (a ++ e ∷ [])) xs) (sym (open-append a (e ∷ []) []))
+      (subst (λ (hs : List (List ℕ)). Holds n hs (verifiers (a ++ e ∷ [])) (open_xids (open_xids [] a) (e ∷ []))) (sym (handles_push a e))
+      (subst (λ (vs : List (List ℕ)). Holds n (handles a ++ handles_in (items_of e)) vs (open_xids (open_xids [] a) (e ∷ []))) (sym (verifiers_push a e)) s.holds))
+
+-- ---- an entry of each
+
+module _ {S H : Type 0} (n m : Numbering S H) (form other_form : Spelling) (a b : List Entry) (e f : Entry) (first : AreFirst (a ++ e ∷ [])) (second : AreFirst (b ++ f ∷ [])) (few : length (a ++ e ∷ []) < 2 ^ 32) (other_few : length (b ++ f ∷ []) < 2 ^ 32)
+    (s : HasSpelled n form (handles a) (verifiers a) (open_xids [] a) e) (t : HasSpelled m other_form (handles b) (verifiers b) (open_xids [] b) f) (g : Agree a b) where
+  pub compared_more : (progress : Progress) → spelling_of form n.writer ≡ spelling_of other_form m.writer → HasPassed progress (a ++ e ∷ []) → IsCompared (record { first = n; second = m; progress = progress }) (a ++ e ∷ []) (b ++ f ∷ [])
+  compared_more progress alike behind = record {
+    agree = agree_more a b e f first second g (sym (told n form a e first s few) ∙ (alike ∙ told m other_form b f second t other_few));
+    first = held_more n form a e first s;
+    second = held_more m other_form b f second t;
+    progress = behind;
+  }
+
+  pub parts_here : (progress : Progress) (place : Place) → spelling_of form n.writer ≢ spelling_of other_form m.writer → HasPassed progress a → place ≡ place_from progress (side_in e) (side_in f) → PartWith a b e f place
+  parts_here progress place unlike behind is =
+      let differ : bytes_behind a (e ∷ []) ≢ bytes_behind b (f ∷ []) = λ same. unlike (told n form a e first s few ∙ (same ∙ sym (told m other_form b f second t other_few))) in
+      record {
+        agree = g;
+        differ = differ_here a b e f first second g differ;
+        place_is = rw is (place_is progress a behind e f (λ same none. differ (mark_alike a b e none ∙ ap (λ k. bytes_behind b (k ∷ [])) same)) (place_there a b e f first second g));
+      }
+
+-- ---- what a reader answers
+
+rest_of : (file given : List ℕ) (left : Option (List ℕ)) → Consumes (Some file) left given → (rest : List ℕ) × (left ≡ Some rest) × (file ≡ given ++ rest)
+rest_of file given None consumed = absurd consumed
+rest_of file given (Some rest) consumed = (rest, refl, consumed)
+
+pub met_refused : (file given : List ℕ) (handed : List Entry) (left : Option (List ℕ)) (error : Error) → Consumes (Some file) left given → IsMetBy error left given handed → IsRefused file error
+met_refused file given handed left (errors.Refused fault) consumed met =
+    let (rest, is, whole) = rest_of file given left consumed in
+    rw whole (met rest is).0
+met_refused file given handed left errors.Read consumed met = tt
+met_refused file given handed left errors.Write consumed met = tt
+met_refused file given handed left errors.Memory consumed met = tt
+
+pub all_typed : (file given : List ℕ) (handed : List Entry) (left : Option (List ℕ)) → Consumes (Some file) left given → IsAtEnd left → Typed given handed → Typed file handed
+all_typed file given handed left consumed ended typed =
+    let all : given ≡ file = Consumes-all (Some file) left given [] given consumed ended refl in
+    subst (λ (l : List ℕ). Typed l handed) all typed
+
+pub first_stops : (file other : List ℕ) (error : Error) → IsRefused file error → Stops file other error First
+first_stops file other (errors.Refused fault) met = met
+first_stops file other errors.Read met = tt
+first_stops file other errors.Write met = tt
+first_stops file other errors.Memory met = tt
+
+pub second_stops : (file other : List ℕ) (error : Error) → IsWellFormed file → IsRefused other error → Stops file other error Second
+second_stops file other (errors.Refused fault) whole met = (whole, met)
+second_stops file other errors.Read whole met = tt
+second_stops file other errors.Write whole met = tt
+second_stops file other errors.Memory whole met = tt
+
+-- ---- along a reader
+
+module _ {R S H : Type 0} {builds : BuildHasher.Ghosts S H} {hashes : Hasher.Ghosts H} (left : R → Option (List ℕ)) (file : List ℕ) (old new : Entries R S H builds hashes) (handed : List Entry) where
+  -- what a call of it says of the file
+  abbrev pub Hands : Result (Option kept.Entry) Error → Type 0
+  Hands (Ok (Some one)) = (entry : Entry) × IsKept one entry × AreFirst (handed ++ entry ∷ []) × (length (handed ++ entry ∷ []) < 2 ^ 32) × HasGiven left file new (handed ++ entry ∷ [])
+  Hands (Ok None) = Typed file handed × HasGiven left file new handed
+  Hands (Err error) = IsRefused file error
+
+  pub hands : (h : HasGiven left file old handed) (result : Result (Option kept.Entry) Error) → Answers left old new h.given handed result → Hands result
+  hands h (Ok (Some one)) a =
+      let (entry, is, reached, stands) = a.hands_out in
+      let few : length (handed ++ entry ∷ []) < 2 ^ 32 = omega (arith, stands.few) in
+      (entry, is, first_reached (h.given ++ a.more) (handed ++ entry ∷ []) reached, few, record { given = h.given ++ a.more; consumed = Consumes-trans (Some file) (left old.source.now) (left new.source.now) h.given a.more h.consumed a.consumed; stands = stands })
+  hands h (Ok None) a =
+      let consumed = Consumes-trans (Some file) (left old.source.now) (left new.source.now) h.given a.more h.consumed a.consumed in
+      let (typed, ended, stands) = a.hands_out in
+      (all_typed file (h.given ++ a.more) handed (left new.source.now) consumed ended typed, record { given = h.given ++ a.more; consumed = consumed; stands = stands })
+  hands h (Err error) a =
+      met_refused file (h.given ++ a.more) handed (left new.source.now) error (Consumes-trans (Some file) (left old.source.now) (left new.source.now) h.given a.more h.consumed a.consumed) a.hands_out.0
+
+module _ {R S H : Type 0} {builds : BuildHasher.Ghosts S H} {hashes : Hasher.Ghosts H} (left : R → Option (List ℕ)) (file : List ℕ) (reader : Entries R S H builds hashes) (handed : List Entry) where
+  pub given_on : HasGiven left file reader handed → HasGivenOn left file reader handed
+  given_on h = record { more = []; all = subst (HasGiven left file reader) (sym (append-nil handed)) h }
+
+  pub is_read_out : (more : Bool) → more ≡ false → ReadsOn left file reader handed (Ok more) → (rest : List Entry) × Typed file (handed ++ rest)
+  is_read_out false ends done = done
+  is_read_out true ends done = absurd (cc)
+
+pub passed_on : (file : List ℕ) (handed : List Entry) (error : Error) (result : Result (Unit {0}) Error) → IsErr result × IsErrAnd result (λ e. e ≡ error) → IsRefused file error → IsReadOut file handed result
+passed_on file handed error (Ok x) (bad, is) met = absurd is
+passed_on file handed error (Err e) (bad, is) met = subst (IsRefused file) (sym is) met
+
+-- a new reader
+pub fresh : {R S H : Type 0} {builds : BuildHasher.Ghosts S H} {hashes : Hasher.Ghosts H} (left : R → Option (List ℕ)) (file : List ℕ) (reader : Entries R S H builds hashes) → left reader.source.now ≡ Some file → StandsFor left reader [] [] → HasGiven left file reader []
+fresh left file reader tells stands = record { given = []; consumed = subst (λ (o : Option (List ℕ)). Consumes (Some file) o []) (sym tells) refl; stands = stands }
+
+-- ---- along two readers
+
+pub turned : (a b : List Entry) → Agree a b → Agree b a
+turned a b g = record { many = sym g.many; bytes = sym g.bytes }
+
+module _ {R S H : Type 0} {builds : BuildHasher.Ghosts S H} {hashes : Hasher.Ghosts H} (left : R → Option (List ℕ)) (file other : List ℕ) (reader : Entries R S H builds hashes) (comparison : Comparison S H) (a b : List Entry) (e : Entry) where
+  pub refused_meets : (error : Error) → IsRefused other error → Meets left file other reader comparison a b e (met_second error)
+  refused_meets (errors.Refused fault) met = met
+  refused_meets errors.Read met = tt
+  refused_meets errors.Write met = tt
+  refused_meets errors.Memory met = tt
+
+  -- the second has not ended before the first
+  pub not_ended : AreFirst (a ++ e ∷ []) → Agree a b → Typed other b → ⊥
+  not_ended first g typed =
+      let none : e ∷ [] ≡ [] = no_more other b a (e ∷ []) typed first (turned a b g) in
+      absurd (cc)
+
+module _ {A B S H : Type 0} {builds : BuildHasher.Ghosts S H} {hashes : Hasher.Ghosts H} (left : A → Option (List ℕ)) (left_other : B → Option (List ℕ)) (file other : List ℕ) (first : Entries A S H builds hashes) (second : Entries B S H builds hashes) (comparison : Comparison S H) where
+  pub stepped : (a b : List Entry) (e : Entry) → HasGiven left file first (a ++ e ∷ []) → (result : Result (Option Finding) SameError) → Meets left_other file other second comparison a b e result → StepsOn left left_other file other first second comparison result
+  stepped a b e given (Ok None) m = record { a = a ++ e ∷ []; b = b ++ m.f ∷ []; first_given = given; second_given = m.given; compared = m.compared }
+  stepped a b e given (Ok (Some findings.Ended)) m = absurd m
+  stepped a b e given (Ok (Some (findings.Parted place))) m = record { a = a; b = b; e = e; f = m.f; first_given = given; second_given = m.given; parts = m.parts }
+  stepped a b e given (Ok (Some (findings.Refused fault))) m = ((a ++ e ∷ [], given), m)
+  stepped a b e given (Err error) m = m
+
+module _ {A B S H : Type 0} {builds : BuildHasher.Ghosts S H} {hashes : Hasher.Ghosts H} (left : A → Option (List ℕ)) (left_other : B → Option (List ℕ)) (file other : List ℕ) (first : Entries A S H builds hashes) (second : Entries B S H builds hashes) where
+  pub first_of : (finding : Finding) → IsFound left left_other file other first second finding → (a : List Entry) × HasGiven left file first a
+  first_of findings.Ended found = (found.a, found.first_given)
+  first_of (findings.Parted place) found = (found.a ++ found.e ∷ [], found.first_given)
+  first_of (findings.Refused fault) found = found.0
+
+  -- the second has no more either
+  pub ended_decides : (h : HaveEnded left left_other file other first second) (result : Result Verdict SameError) → IsReadAfter other h.b verdicts.Same result → Decides file other result
+  ended_decides h (Ok answer) (same, more, typed) =
+      let none : more ≡ [] = no_more file h.a h.b more h.typed (typed_first other (h.b ++ more) [] (subst (Typed other) (sym (append-nil (h.b ++ more))) typed)) h.agree in
+      let whole : Typed other h.b = subst (Typed other) (ap (λ (l : List Entry). h.b ++ l) none ∙ append-nil h.b) typed in
+      let alike : Same h.a h.b = same_from_bytes h.a h.b (typed_first file h.a [] (subst (Typed file) (sym (append-nil h.a)) h.typed)) (typed_first other h.b more typed) h.agree.bytes in
+      rw same (h.a, h.b, h.typed, whole, alike)
+  ended_decides h (Err error) (is, met) = rw is (second_stops file other error.error (h.a, h.typed) met)
+
+  pub parted_decides : (place : Place) (h : HaveParted left left_other file other first second place) (result : Result Verdict SameError) → (more : List Entry) × Typed file ((h.a ++ h.e ∷ []) ++ more) → IsReadAfter other (h.b ++ h.f ∷ []) (verdicts.Differ place) result → Decides file other result
+  parted_decides place h (Ok answer) (more, typed) (same, rest, other_typed) =
+      rw same ((h.a ++ h.e ∷ []) ++ more, (h.b ++ h.f ∷ []) ++ rest, typed, other_typed, not_same file other h.a h.b h.e h.f more rest place h.parts typed other_typed, parting file other h.a h.b h.e h.f more rest place h.parts typed other_typed)
+  parted_decides place h (Err error) (more, typed) (is, met) = rw is (second_stops file other error.error ((h.a ++ h.e ∷ []) ++ more, typed) met)

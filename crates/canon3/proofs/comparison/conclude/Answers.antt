@@ -1,0 +1,47 @@
+use Rattle.std.proofs.Common.{[], ◌∷◌, ◌++◌, subst, sym}
+use Rattle.canon3.specs.declared.verdict.Which.TheVariants.{First}
+use Rattle.canon3.specs.Comparison.{CountsReadingOf, IsFound}
+use Rattle.canon3.proofs.ComparisonLemmas.{ended_decides, first_of, first_stops, given_on, parted_decides}
+use Rattle.canon3.proofs.comparison.conclude.Goals as goal
+
+pub returns-in-Ended-clause-decides : goal.returns-in-Ended-clause-decides
+returns-in-Ended-clause-decides g c file other found =
+    let left = g.A.Source.left in
+    let left_other = g.B.Source.left in
+    let first = c.args.first.now in
+    let second = c.args.second.now in
+    let h = subst (IsFound left left_other file other first second) c.in-Ended.is found in
+    ended_decides left left_other file other first second h c.read_second.result (c.read_second.ensures.out other h.b h.second_given)
+
+pub returns-in-Ended-clause-read_first : goal.returns-in-Ended-clause-read_first
+returns-in-Ended-clause-read_first g c =
+    let old = g.A.Source.failures c.args.first.now.source.now in
+    subst (λ n. CountsReadingOf First old n c.read_second.result) (sym c.in-Ok.ensures.read) (c.read_second.ensures.never_first old)
+
+pub returns-in-Parted-clause-decides : goal.returns-in-Parted-clause-decides
+returns-in-Parted-clause-decides g c file other found =
+    let left = g.A.Source.left in
+    let left_other = g.B.Source.left in
+    let first = c.args.first.now in
+    let second = c.args.second.now in
+    let h = subst (IsFound left left_other file other first second) c.in-Parted.is found in
+    parted_decides left left_other file other first second c.in-Parted.place h c.read_second-in-Parted.result (c.in-Ok.ensures.out file (h.a ++ h.e ∷ []) (given_on left file first (h.a ++ h.e ∷ []) h.first_given))
+    (c.read_second-in-Parted.ensures.out other (h.b ++ h.f ∷ []) h.second_given)
+
+pub returns-in-Parted-clause-read_first : goal.returns-in-Parted-clause-read_first
+returns-in-Parted-clause-read_first g c =
+    let old = g.A.Source.failures c.args.first.now.source.now in
+    subst (λ n. CountsReadingOf First old n c.read_second-in-Parted.result) (sym c.in-Ok.ensures.read) (c.read_second-in-Parted.ensures.never_first old)
+
+pub returns-in-Refused-clause-decides : goal.returns-in-Refused-clause-decides
+returns-in-Refused-clause-decides g c file other found =
+    let left = g.A.Source.left in
+    let h = subst (IsFound left g.B.Source.left file other c.args.first.now c.args.second.now) c.in-Refused.is found in
+    let (more, typed) = c.in-Ok.ensures.out file h.0.0 (given_on left file c.args.first.now h.0.0 h.0.1) in
+    ((h.0.0 ++ more, typed), h.1)
+
+pub returns-in-Err-clause-decides : goal.returns-in-Err-clause-decides
+returns-in-Err-clause-decides g c file other found =
+    let left = g.A.Source.left in
+    let (a, given) = first_of left g.B.Source.left file other c.args.first.now c.args.second.now c.args.finding found in
+    first_stops file other c.in-Err.error (c.in-Err.ensures.out file a (given_on left file c.args.first.now a given))

@@ -1,0 +1,16 @@
+use Rattle.std.proofs.Common.{◌≡◌, List, ℕ, None}
+use Rattle.capture3.specs.Entries.{entries_left, failure_of}
+use Rattle.capture3.specs.Entry.{Entry}
+use Rattle.canon3.specs.Comparison.{HasGivenOn}
+use Rattle.canon3.proofs.comparison.read_out.Given as goal
+
+abbrev pub invariant-loop : goal.invariant-loop
+invariant-loop g l = record {
+  going : failure_of l.entries ≡ None;
+  given : (file : List ℕ) (handed : List Entry) → HasGivenOn g.R.Source.left file l.fn.entries handed → HasGivenOn g.R.Source.left file l.entries handed;
+  read : g.R.Source.failures l.entries.source.now ≡ g.R.Source.failures l.fn.entries.source.now;
+  same_reference : l.entries.source.ghost_name ≡ l.fn.entries.source.ghost_name;
+}
+
+abbrev pub decreases-loop : goal.decreases-loop
+decreases-loop g l = entries_left l.entries

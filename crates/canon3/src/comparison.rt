@@ -1,0 +1,366 @@
+// Whether two captures are the same up to renaming.
+
+ghost use Rattle.std.specs.Prelude.{◌≡◌, ◌≢◌, ◌<◌, ◌≤◌, ◌+◌, ◌^◌, ◌++◌, ◌∷◌, ℕ, List, [], length, None, Some, IfErr, IfOk, IsTrue, OnOk};
+ghost use Rattle.capture3.specs.Entries.{CountsReading, entries_left, failure_of, StandsFor};
+ghost use Rattle.capture3.specs.Entry as spec;
+ghost use Rattle.capture3.specs.Kept.{IsKept};
+ghost use Rattle.capture3.specs.Position.{most_entries};
+ghost use Rattle.canon3.specs.Comparison.{Compares, CountsReadingOf, Decides, FindsOut, HasGiven, HasGivenOn, IsCompared, IsFound, IsReadAfter, IsReadOut, IsUnderWay, Meets, met_second, ReadsOn, refusal_in, StepsOn};
+ghost use Rattle.canon3.specs.Laws.{AreFirst};
+ghost use Rattle.canon3.specs.Progress.{steps_of};
+
+use crate::numbered::Numbering;
+use crate::progress::Progress;
+use crate::spelling::{are_alike, number_entry};
+use crate::verdict::{SameError, Verdict, Which};
+use capture3::{Entries, Entry, Error, Fault, Hashers, Place, Source, new_block};
+use std::alloc::Global;
+use std::hash::BuildHasher;
+
+/// Whether two captures are the same up to one-to-one renamings of file handles, write verifiers and xids;
+/// where they are not, the first record at which they part. It takes one entry of each in turn, and once
+/// they part, or the second is refused, reads on to the ends.
+///
+/// # Errors
+///
+/// `Refused` with the first fault of the first capture that is not well formed, `Read` where a read failed,
+/// and `Memory` where none was to be had; never `Write`.
+pub fn same<A: Source, B: Source, S: BuildHasher + Drop>(
+    alloc: Global,
+    first_hashers: Hashers<S>,
+    second_hashers: Hashers<S>,
+    first: &mut A,
+    second: &mut B,
+) -> Result<Verdict, SameError>
+    ensures decides { (file other : List ℕ) → A.left first.old ≡ Some file → B.left second.old ≡ Some other
+        → Decides file other result }
+    ensures read_first { CountsReadingOf Which.First (A.failures first.old) (A.failures first.new) result }
+    ensures read_second { CountsReadingOf Which.Second (B.failures second.old) (B.failures second.new) result }
+    ensures write { IfErr result (λ error. error.error ≢ Error.Write) }
+{
+    let block = match new_block(alloc) {
+        Ok(block) => block,
+        Err(_) => return Err(wanting(Which::First)),
+    };
+    let other_block = match new_block(alloc) {
+        Ok(block) => block,
+        Err(_) => return Err(wanting(Which::Second)),
+    };
+    let mut entries = Entries::through(alloc, first_hashers.calls, first, block);
+    let mut others = Entries::through(alloc, second_hashers.calls, second, other_block);
+    let comparison = Comparison {
+        first: Numbering::new(
+            alloc,
+            first_hashers.handles,
+            first_hashers.verfs,
+            first_hashers.xids,
+        ),
+        second: Numbering::new(
+            alloc,
+            second_hashers.handles,
+            second_hashers.verfs,
+            second_hashers.xids,
+        ),
+        progress: Progress::new(),
+    };
+    let result = compared(alloc, comparison, &mut entries, &mut others);
+    entries.into_source();
+    others.into_source();
+    result
+}
+
+/// No memory was to be had for this one.
+fn wanting(which: Which) -> SameError
+    ensures which { result.which ≡ which }
+    ensures error { result.error ≡ Error.Memory }
+{
+    SameError {
+        which,
+        error: Error::Memory,
+    }
+}
+
+/// What two new readers hand out.
+fn compared<A: Source, B: Source, S: BuildHasher + Drop>(
+    alloc: Global,
+    mut comparison: Comparison<S>,
+    first: &mut Entries<'_, A, S>,
+    second: &mut Entries<'_, B, S>,
+) -> Result<Verdict, SameError>
+    requires new { IsCompared comparison [] [] }
+    requires none { steps_of comparison.progress ≡ 0 }
+    requires fresh_first { StandsFor A.left first.old [] [] }
+    requires fresh_second { StandsFor B.left second.old [] [] }
+    requires going_first { failure_of first.old ≡ None }
+    requires going_second { failure_of second.old ≡ None }
+    ensures decides { (file other : List ℕ) → A.left first.old.source.now ≡ Some file
+        → B.left second.old.source.now ≡ Some other → Decides file other result }
+    ensures read_first { CountsReadingOf Which.First (A.failures first.old.source.now)
+        (A.failures first.new.source.now) result }
+    ensures read_second { CountsReadingOf Which.Second (B.failures second.old.source.now)
+        (B.failures second.new.source.now) result }
+    ensures write { IfErr result (λ error. error.error ≢ Error.Write) }
+    ensures same_first { first.new.source.ghost_name ≡ first.old.source.ghost_name }
+    ensures same_second { second.new.source.ghost_name ≡ second.old.source.ghost_name }
+{
+    match comparison.find(alloc, first, second) {
+        Ok(finding) => conclude(finding, first, second),
+        Err(error) => Err(error),
+    }
+}
+
+/// What ends a comparison, if the rest of both captures is well formed.
+#[derive(Clone, Copy)]
+enum Finding {
+    /// Both ended, and were the same up to there.
+    Ended,
+    /// They part here.
+    Parted(Place),
+    /// The second capture has this fault.
+    Refused(Fault),
+}
+
+/// The verdict, once both captures are read to their ends.
+fn conclude<A: Source, B: Source, S: BuildHasher + Drop>(
+    finding: Finding,
+    first: &mut Entries<'_, A, S>,
+    second: &mut Entries<'_, B, S>,
+) -> Result<Verdict, SameError>
+    requires going_first { failure_of first.old ≡ None }
+    requires going_second { failure_of second.old ≡ refusal_in (Some finding) }
+    ensures decides { (file other : List ℕ) → IsFound A.left B.left file other first.old second.old finding
+        → Decides file other result }
+    ensures read_first { CountsReadingOf Which.First (A.failures first.old.source.now)
+        (A.failures first.new.source.now) result }
+    ensures read_second { CountsReadingOf Which.Second (B.failures second.old.source.now)
+        (B.failures second.new.source.now) result }
+    ensures write { IfErr result (λ error. error.error ≢ Error.Write) }
+    ensures same_first { first.new.source.ghost_name ≡ first.old.source.ghost_name }
+    ensures same_second { second.new.source.ghost_name ≡ second.old.source.ghost_name }
+{
+    match read_out(first) {
+        Ok(()) => match finding {
+            Finding::Ended => read_second(second, Verdict::Same),
+            Finding::Parted(place) => read_second(second, Verdict::Differ(place)),
+            Finding::Refused(fault) => Err(SameError {
+                which: Which::Second,
+                error: Error::Refused(fault),
+            }),
+        },
+        Err(error) => Err(SameError {
+            which: Which::First,
+            error,
+        }),
+    }
+}
+
+/// The verdict, once the second capture is read to its end.
+fn read_second<R: Source, S: BuildHasher + Drop>(
+    entries: &mut Entries<'_, R, S>,
+    verdict: Verdict,
+) -> Result<Verdict, SameError>
+    requires going { failure_of entries.old ≡ None }
+    ensures out { (file : List ℕ) (handed : List spec.Entry) → HasGiven R.left file entries.old handed
+        → IsReadAfter file handed verdict result }
+    ensures read { CountsReadingOf Which.Second (R.failures entries.old.source.now)
+        (R.failures entries.new.source.now) result }
+    ensures never_first { (old : ℕ) → CountsReadingOf Which.First old old result }
+    ensures write { IfErr result (λ error. error.error ≢ Error.Write) }
+    ensures same_reference { entries.new.source.ghost_name ≡ entries.old.source.ghost_name }
+{
+    match read_out(entries) {
+        Ok(()) => Ok(verdict),
+        Err(error) => Err(SameError {
+            which: Which::Second,
+            error,
+        }),
+    }
+}
+
+/// Reads all entries that are left.
+fn read_out<R: Source, S: BuildHasher + Drop>(entries: &mut Entries<'_, R, S>) -> Result<(), Error>
+    requires going { failure_of entries.old ≡ None }
+    ensures out { (file : List ℕ) (handed : List spec.Entry) → HasGivenOn R.left file entries.old handed
+        → IsReadOut file handed result }
+    ensures read { CountsReading (R.failures entries.old.source.now) (R.failures entries.new.source.now) result }
+    ensures write { IfErr result (λ error. error ≢ Error.Write) }
+    ensures same_reference { entries.new.source.ghost_name ≡ entries.old.source.ghost_name }
+{
+    while read_next(entries)? {}
+    Ok(())
+}
+
+/// Reads the next entry. False stands for the end.
+fn read_next<R: Source, S: BuildHasher + Drop>(
+    entries: &mut Entries<'_, R, S>,
+) -> Result<bool, Error>
+    requires going { failure_of entries.old ≡ None }
+    ensures on { (file : List ℕ) (handed : List spec.Entry) → HasGivenOn R.left file entries.old handed
+        → ReadsOn R.left file entries.new handed result }
+    ensures fewer { IfOk result (λ more. IsTrue more → entries_left entries.new < entries_left entries.old) }
+    ensures going { OnOk result (failure_of entries.new ≡ None) }
+    ensures read { CountsReading (R.failures entries.old.source.now) (R.failures entries.new.source.now) result }
+    ensures write { IfErr result (λ error. error ≢ Error.Write) }
+    ensures same_reference { entries.new.source.ghost_name ≡ entries.old.source.ghost_name }
+{
+    match entries.next() {
+        Ok(Some(_)) => Ok(true),
+        Ok(None) => Ok(false),
+        Err(error) => Err(error),
+    }
+}
+
+/// Two captures that are read side by side, each with numbers of its own.
+#[derive(Drop)]
+struct Comparison<S: BuildHasher + Drop> {
+    first: Numbering<S>,
+    second: Numbering<S>,
+    progress: Progress,
+}
+
+impl<S: BuildHasher + Drop> Comparison<S> {
+    /// Takes one entry of each in turn, up to where they end, they part, or the second is refused.
+    fn find<A: Source, B: Source>(
+        &mut self,
+        alloc: Global,
+        first: &mut Entries<'_, A, S>,
+        second: &mut Entries<'_, B, S>,
+    ) -> Result<Finding, SameError>
+        requires going_first { failure_of first.old ≡ None }
+        requires going_second { failure_of second.old ≡ None }
+        requires room { steps_of self.old.progress + entries_left first.old ≤ most_entries }
+        ensures found { (file other : List ℕ)
+            → IsUnderWay A.left B.left file other first.old second.old self.old
+            → FindsOut A.left B.left file other first.new second.new result }
+        ensures going_first { OnOk result (failure_of first.new ≡ None) }
+        ensures going_second { IfOk result (λ finding. failure_of second.new ≡ refusal_in (Some finding)) }
+        ensures read_first { CountsReadingOf Which.First (A.failures first.old.source.now)
+            (A.failures first.new.source.now) result }
+        ensures read_second { CountsReadingOf Which.Second (B.failures second.old.source.now)
+            (B.failures second.new.source.now) result }
+        ensures write { IfErr result (λ error. error.error ≢ Error.Write) }
+        ensures same_first { first.new.source.ghost_name ≡ first.old.source.ghost_name }
+        ensures same_second { second.new.source.ghost_name ≡ second.old.source.ghost_name }
+    {
+        loop {
+            match self.step(alloc, first, second) {
+                Ok(None) => {}
+                Ok(Some(finding)) => return Ok(finding),
+                Err(error) => return Err(error),
+            }
+        }
+    }
+
+    /// Takes one entry of each. None stands for a pair that is alike.
+    fn step<A: Source, B: Source>(
+        &mut self,
+        alloc: Global,
+        first: &mut Entries<'_, A, S>,
+        second: &mut Entries<'_, B, S>,
+    ) -> Result<Option<Finding>, SameError>
+        requires going_first { failure_of first.old ≡ None }
+        requires going_second { failure_of second.old ≡ None }
+        requires room { steps_of self.old.progress + entries_left first.old ≤ most_entries }
+        ensures steps { (file other : List ℕ)
+            → IsUnderWay A.left B.left file other first.old second.old self.old
+            → StepsOn A.left B.left file other first.new second.new self.new result }
+        ensures fewer { IfOk result (λ next. next ≡ None → entries_left first.new < entries_left first.old) }
+        ensures going_first { OnOk result (failure_of first.new ≡ None) }
+        ensures going_second { IfOk result (λ next. failure_of second.new ≡ refusal_in next) }
+        ensures room { IfOk result
+            (λ next. next ≡ None → steps_of self.new.progress + entries_left first.new ≤
+            most_entries) }
+        ensures read_first { CountsReadingOf Which.First (A.failures first.old.source.now)
+            (A.failures first.new.source.now) result }
+        ensures read_second { CountsReadingOf Which.Second (B.failures second.old.source.now)
+            (B.failures second.new.source.now) result }
+        ensures write { IfErr result (λ error. error.error ≢ Error.Write) }
+        ensures same_first { first.new.source.ghost_name ≡ first.old.source.ghost_name }
+        ensures same_second { second.new.source.ghost_name ≡ second.old.source.ghost_name }
+    {
+        match first.next() {
+            Ok(Some(entry)) => self.meet(alloc, &entry, second),
+            Ok(None) => Ok(Some(Finding::Ended)),
+            Err(error) => Err(SameError {
+                which: Which::First,
+                error,
+            }),
+        }
+    }
+
+    /// Takes the second's entry beside the first's.
+    fn meet<B: Source>(
+        &mut self,
+        alloc: Global,
+        entry: &Entry,
+        second: &mut Entries<'_, B, S>,
+    ) -> Result<Option<Finding>, SameError>
+        requires going { failure_of second.old ≡ None }
+        requires room { steps_of self.old.progress + 1 < 2 ^ 32 }
+        ensures meets { (file other : List ℕ) (a b : List spec.Entry) (e : spec.Entry) → IsKept entry.now e
+            → AreFirst (a ++ e ∷ []) → length (a ++ e ∷ []) < 2 ^ 32 → IsCompared self.old a b
+            → HasGiven B.left other second.old b
+            → Meets B.left file other second.new self.new a b e result }
+        ensures going { IfOk result (λ next. failure_of second.new ≡ refusal_in next) }
+        ensures few { steps_of self.new.progress ≤ steps_of self.old.progress + 1 }
+        ensures read { CountsReadingOf Which.Second (B.failures second.old.source.now)
+            (B.failures second.new.source.now) result }
+        ensures never_first { (old : ℕ) → CountsReadingOf Which.First old old result }
+        ensures write { IfErr result (λ error. error.error ≢ Error.Write) }
+        ensures same_reference { second.new.source.ghost_name ≡ second.old.source.ghost_name }
+    {
+        match second.next() {
+            Ok(Some(other)) => match self.compare(alloc, entry, &other) {
+                Ok(None) => Ok(None),
+                Ok(Some(place)) => Ok(Some(Finding::Parted(place))),
+                Err(error) => Err(error),
+            },
+            Ok(None) => Ok(Some(Finding::Ended)),
+            Err(error) => refused(error),
+        }
+    }
+
+    /// Numbers an entry of each, and compares what they are written as. None stands for a pair that is alike.
+    fn compare(
+        &mut self,
+        alloc: Global,
+        entry: &Entry,
+        other: &Entry,
+    ) -> Result<Option<Place>, SameError>
+        requires room { steps_of self.old.progress + 1 < 2 ^ 32 }
+        ensures compares { (a b : List spec.Entry) (e f : spec.Entry) → IsKept entry.now e → IsKept other.now f
+            → AreFirst (a ++ e ∷ []) → AreFirst (b ++ f ∷ []) → length (a ++ e ∷ []) < 2 ^ 32
+            → length (b ++ f ∷ []) < 2 ^ 32 → IsCompared self.old a b
+            → IfOk result (Compares self.new a b e f) }
+        ensures few { steps_of self.new.progress ≤ steps_of self.old.progress + 1 }
+        ensures memory { IfErr result (λ error. error.error ≡ Error.Memory) }
+    {
+        let form = match number_entry(alloc, &mut self.first, entry) {
+            Ok(form) => form,
+            Err(_) => return Err(wanting(Which::First)),
+        };
+        let other_form = match number_entry(alloc, &mut self.second, other) {
+            Ok(form) => form,
+            Err(_) => return Err(wanting(Which::Second)),
+        };
+        let message = self.first.writer.bytes();
+        if are_alike(form, message, other_form, self.second.writer.bytes()) {
+            self.progress.pass(entry);
+            return Ok(None);
+        }
+        Ok(Some(self.progress.place(entry, other)))
+    }
+}
+
+/// What a second capture's error is: a refusal waits until the first capture is read to its end.
+fn refused(error: Error) -> Result<Option<Finding>, SameError>
+    ensures { result ≡ met_second error }
+{
+    match error {
+        Error::Refused(fault) => Ok(Some(Finding::Refused(fault))),
+        Error::Read | Error::Write | Error::Memory => Err(SameError {
+            which: Which::Second,
+            error,
+        }),
+    }
+}
