@@ -1,3 +1,5 @@
+mod comparisons;
+
 use super::form::write_entry;
 use super::numbered::Numbering;
 use super::writing::{write_all, write_record};

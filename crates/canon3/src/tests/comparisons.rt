@@ -1,0 +1,104 @@
+// Comparisons of captures in memory.
+
+use super::{commit, hashers};
+use crate::{SameError, Verdict, Which, same};
+use capture3::{Error, Fault, MemSource, Place, Side};
+use std::alloc::{AllocError, Global};
+use std::test::Fail;
+use xdr3::Reason;
+
+/// Each is read byte by byte, and the read of the second with this number fails.
+fn compared(alloc: Global, first: &[u8], second: &[u8], fail: u64) -> Result<Verdict, SameError> {
+    same(
+        alloc,
+        hashers(),
+        hashers(),
+        &mut MemSource::new(first, 1, 0),
+        &mut MemSource::new(second, 1, fail),
+    )
+}
+
+/// Two captures of one COMMIT each, which differ in xid, file handle and write verifier alone.
+fn runs(alloc: Global) -> Result<(Vec<u8>, Vec<u8>), AllocError> {
+    let first = commit(alloc, [0, 0, 0, 5], [0, 0, 0, 2, 0xaa, 0xbb, 0, 0], [1; 8])?;
+    let second = commit(alloc, [0, 0, 0, 9], [0, 0, 0, 1, 0xcc, 0, 0, 0], [0; 8])?;
+    Ok((first, second))
+}
+
+fn refused(which: Which, place: Place, reason: Reason) -> Result<Verdict, SameError> {
+    Err(SameError {
+        which,
+        error: Error::Refused(Fault { place, reason }),
+    })
+}
+
+fn record(side: Side, byte: u32) -> Place {
+    Place::Record {
+        conn: 1,
+        side,
+        rec_no: 1,
+        byte,
+    }
+}
+
+#[test]
+fn runs_that_are_the_same(rt: HostRuntime) -> Result<(), Fail> {
+    let (first, second) = runs(rt.alloc())?;
+    assert_eq!(rt; compared(rt.alloc(), &first, &second, 0), Ok(Verdict::Same));
+    Ok(())
+}
+
+/// The count of the second's COMMIT, which ends its call at byte 80 of the file, is another.
+#[test]
+fn runs_that_part(rt: HostRuntime) -> Result<(), Fail> {
+    let (first, mut second) = runs(rt.alloc())?;
+    second[79] = 1;
+    assert_eq!(rt;
+        compared(rt.alloc(), &first, &second, 0),
+        Ok(Verdict::Differ(record(Side::Client, 0)))
+    );
+    Ok(())
+}
+
+#[test]
+fn a_second_run_that_is_cut(rt: HostRuntime) -> Result<(), Fail> {
+    let (first, mut second) = runs(rt.alloc())?;
+    second.truncate(140);
+    assert_eq!(rt;
+        compared(rt.alloc(), &first, &second, 0),
+        refused(Which::Second, Place::File { at: 140 }, Reason::CaptureCut)
+    );
+    Ok(())
+}
+
+/// The message types are at bytes 24 and 96 of the files: the second's fault is met long before the first's.
+#[test]
+fn the_first_runs_fault_goes_before(rt: HostRuntime) -> Result<(), Fail> {
+    let (mut first, mut second) = runs(rt.alloc())?;
+    second[27] = 2;
+    assert_eq!(rt;
+        compared(rt.alloc(), &first, &second, 0),
+        refused(Which::Second, record(Side::Client, 4), Reason::BadEnum)
+    );
+    first[99] = 2;
+    assert_eq!(rt;
+        compared(rt.alloc(), &first, &second, 0),
+        refused(Which::First, record(Side::Server, 4), Reason::BadEnum)
+    );
+    Ok(())
+}
+
+/// A failed read is answered when it is met, also where the first run would be refused later.
+#[test]
+fn a_failed_read_of_the_second(rt: HostRuntime) -> Result<(), Fail> {
+    let (mut first, second) = runs(rt.alloc())?;
+    first[27] = 2;
+    assert_eq!(rt;
+        compared(rt.alloc(), &first, &second, 1),
+        Err(SameError {
+            which: Which::Second,
+            error: Error::Read
+        })
+    );
+    Ok(())
+}
