@@ -183,8 +183,6 @@ fn write_one<W: Sink, E: EntryWriter>(
     ensures count { CountsWriting (W.failures sink.old) (W.failures sink.new) result }
     ensures error { IfErr result IsOfWriting }
 {
-    match writer.write(alloc, sink, entry) {
-        Ok(()) => Ok(true),
-        Err(error) => Err(error),
-    }
+    writer.write(alloc, sink, entry)?;
+    Ok(true)
 }

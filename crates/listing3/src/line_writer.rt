@@ -96,10 +96,8 @@ fn write_two<W: Sink>(sink: &mut W, first: &[u8], second: &[u8]) -> Result<(), D
         (AppendsFront (W.written sink.old) (W.written sink.new) (first.now ++ second.now)) }
     ensures count { devices.Counts (W.failures sink.old) (W.failures sink.new) result }
 {
-    match write_all(sink, first) {
-        Ok(()) => write_all(sink, second),
-        Err(error) => Err(error),
-    }
+    write_all(sink, first)?;
+    write_all(sink, second)
 }
 
 impl<S: BuildHasher + Drop> LineWriter<S> {
@@ -225,10 +223,8 @@ impl<S: BuildHasher + Drop> LineWriter<S> {
         ensures count { CountsWriting (W.failures sink.old) (W.failures sink.new) result }
         ensures error { IfErr result IsOfWriting }
     {
-        match self.compose_call(alloc, call) {
-            Ok(skip) => self.hand_over(sink, skip),
-            Err(_) => Err(Error::Memory),
-        }
+        let skip = self.compose_call(alloc, call)?;
+        self.hand_over(sink, skip)
     }
 
     fn write_reply<W: Sink>(
@@ -257,10 +253,8 @@ impl<S: BuildHasher + Drop> LineWriter<S> {
         ensures count { CountsWriting (W.failures sink.old) (W.failures sink.new) result }
         ensures error { IfErr result IsOfWriting }
     {
-        match self.compose_reply(alloc, reply) {
-            Ok(skip) => self.hand_over(sink, skip),
-            Err(_) => Err(Error::Memory),
-        }
+        let skip = self.compose_reply(alloc, reply)?;
+        self.hand_over(sink, skip)
     }
 
     /// Writes the line of an entry that is a message.
