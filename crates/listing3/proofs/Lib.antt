@@ -1,0 +1,3 @@
+-- Lemmas of listings.
+pub mod ListingLemmas
+pub mod LineLemmas

@@ -1,0 +1,4 @@
+-- What a listing of a capture says.
+pub mod Listing
+pub mod Examples
+pub mod LineWriter

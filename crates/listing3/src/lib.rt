@@ -1,0 +1,10 @@
+//! The listing of a capture: one line for each message.
+#![tactic(auto)]
+
+pub mod examples;
+mod item_text;
+mod line_writer;
+mod listing;
+mod text;
+
+pub use listing::show;
