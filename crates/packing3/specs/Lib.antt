@@ -1,0 +1,4 @@
+pub mod Packed
+pub mod Stopped
+pub mod Packing
+pub mod Streaming

@@ -1,0 +1,8 @@
+//! Recorded streams packed into a capture.
+#![tactic(auto)]
+
+mod block;
+mod packing;
+mod stream;
+
+pub use packing::Packing;
