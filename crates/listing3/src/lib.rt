@@ -3,8 +3,11 @@
 
 pub mod examples;
 mod item_text;
+pub mod laws;
 mod line_writer;
 mod listing;
+#[cfg(test)]
+mod tests;
 mod text;
 
 pub use listing::show;
