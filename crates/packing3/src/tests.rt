@@ -137,8 +137,8 @@ fn finished(rt: HostRuntime) -> Result<(), Fail> {
     is_over(&rt, rt.alloc(), &mut packing, Ok(()))
 }
 
-// The client stream of 44 bytes takes four reads of at most 15 bytes, and the server stream of 28 bytes
-// takes three: of the last of each nothing is given.
+// The client stream of 44 bytes takes four reads of at most 15 bytes, and the server stream of 28
+// bytes takes three: of the last of each nothing is given.
 #[test]
 fn a_read_fails_at_each_call(rt: HostRuntime) -> Result<(), Fail> {
     for fail in 1..8u64 {
@@ -153,8 +153,8 @@ fn a_read_fails_at_each_call(rt: HostRuntime) -> Result<(), Fail> {
     Ok(())
 }
 
-// The calls of the sink: the magic, the word 1, for each stream a length word, its bytes and the word 0,
-// the last word 0, and the flush.
+// The calls of the sink: the magic, the word 1, for each stream a length word, its bytes and the
+// word 0, the last word 0, and the flush.
 #[test]
 fn a_write_fails_at_each_call(rt: HostRuntime) -> Result<(), Fail> {
     let written = [8, 12, 16, 60, 64, 68, 96, 100, 104];
