@@ -13,14 +13,14 @@ use Rattle.packing3.specs.Packed.{ArePacked, IsPacked}
 use Rattle.packing3.specs.Stopped.{HasNoRoom, IsCutShort}
 use Rattle.packing3.specs.Streaming.{StopsInConnection}
 
--- all pairs are written, as a capture
+-- the capture of the pairs is written
 pub record HasWritten (old new : Option (List ℕ)) (pairs : List Streams) : Type 0 where
   pub file : List ℕ
   pub packed : IsPacked file pairs
   pub capture : IsCapture One file pairs
   pub appended : Appends old new file
 
--- a front of the capture of all pairs is written, and a write or the flush failed
+-- A front of it is written, and a write or the flush failed.
 pub record HasWrittenFront (old new : Option (List ℕ)) (pairs : List Streams) (error : Error) : Type 0 where
   pub file : List ℕ
   pub packed : IsPacked file pairs
@@ -36,7 +36,7 @@ module _ {W : Type 0} where
   abbrev pub ending_of : Packing W → Option (Result (Unit {0}) Error)
   ending_of packing = packing.ended
 
-  -- The sink held the old bytes when the packing began, and then took the magic and the connections of these pairs.
+  -- The sink held `old` before the start, and was given the magic and the connections of these pairs since.
   pub record StandsFor (written : W → Option (List ℕ)) (packing : Packing W) (old : Option (List ℕ)) (pairs : List Streams) : Type 0 where
     pub going : ending_of packing ≡ None
     pub front : List ℕ
@@ -46,15 +46,15 @@ module _ {W : Type 0} where
     pub streamed : packing.extent.streamed ≡ total_size pairs
     pub at : packing.extent.at ≡ length front
 
-  -- One pair more is added, whose streams are read to their ends. Or no pair has room, and nothing was read. Or an error cut short what was
-  -- read of the pair.
+  -- One pair more is added, whose sources are read to their ends. Or no pair has room, and nothing was read or written. Or an error came
+  -- while the pair was read and written.
   abbrev pub AddsStreams : (W → Option (List ℕ)) → Packing W → (old client server : Option (List ℕ)) → List Streams → Streams → Result (Unit {0}) Error → Type 0
   AddsStreams written new old client server pairs streams (Ok done) = IsAtEnd client × IsAtEnd server × StandsFor written new old (pairs ++ streams ∷ [])
   AddsStreams written new old client server pairs streams (Err error) =
       ((streams ≡ record { client = []; server = [] }) × HasNoRoom old (written new.sink) pairs error)
       ⊎ IsCutShort old (written new.sink) (pairs ++ streams ∷ []) error
 
-  -- the same, behind what the sources gave in the call
+  -- the same, with the streams that the sources gave in the call
   pub record Adds (written : W → Option (List ℕ)) (new : Packing W) (old old_client client old_server server : Option (List ℕ)) (pairs : List Streams) (result : Result (Unit {0}) Error) : Type 0 where
     pub streams : Streams
     pub from_client : Consumes old_client client streams.client
@@ -63,7 +63,7 @@ module _ {W : Type 0} where
 
   -- ---- the start
 
-  -- nothing is written where memory ran out, and else a front of the magic, by a write that failed
+  -- Memory ran out, and the sink is as it was; or a write failed, and a front of the magic is written.
   abbrev pub FailsToStart : (W → Option (List ℕ)) → W → Error → W → Type 0
   FailsToStart written sink error new = ((error ≡ errors.Memory) × (new ≡ sink)) ⊎ ((error ≡ errors.Write) × AppendsFront (written sink) (written new) (magic One))
 

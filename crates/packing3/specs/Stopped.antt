@@ -1,4 +1,4 @@
--- Packing that an error has stopped.
+-- What an error says of what was packed.
 use Rattle.std.specs.Prelude.{◌≡◌, ℕ, ◌+◌, ◌<◌, ◌≤◌, List, ◌++◌, length, Option, ⊤}
 use Rattle.std.specs.Io.KnownBytes.{Appends}
 use Rattle.xdr3.specs.declared.reason.Reason.TheVariants as reasons
@@ -11,7 +11,7 @@ use Rattle.capture3.specs.Chunks.{max_bytes}
 use Rattle.canon3.specs.Bytes.{chunk_bytes}
 use Rattle.packing3.specs.Packed.{ArePacked, IsPacked}
 
--- Next comes a chunk with which the stream bytes, so many in all that was read, pass the limit. They keep it without the chunk.
+-- A chunk comes next. With it the stream bytes of all that was read, `total`, pass the limit, and without it they keep it. The fault is at its length word.
 pub record PassesLimit (fault : Fault) (at : ℕ) (next : List ℕ) (total : ℕ) : Type 0 where
   pub chunk : List ℕ
   pub more : List ℕ
@@ -20,14 +20,14 @@ pub record PassesLimit (fault : Fault) (at : ℕ) (next : List ℕ) (total : ℕ
   pub within : total ≤ max_bytes + length chunk
   pub is : fault ≡ record { place = places.File at; reason = reasons.TooManyBytes }
 
--- What an error says behind so many bytes, where these come next, and all that was read has so many stream bytes.
+-- What an error says where `at` bytes of the file are written, and `next` are its other bytes.
 abbrev pub Tells : Error → (at : ℕ) (next : List ℕ) (total : ℕ) → Type 0
 Tells (errors.Refused fault) at next total = PassesLimit fault at next total
 Tells errors.Read at next total = ⊤
 Tells errors.Write at next total = ⊤
 Tells errors.Memory at next total = ⊥
 
--- Of the capture of all that was read a front is written.
+-- A front is written of the capture of all that was read: of what was added, and of the pair that an error stopped.
 pub record IsCutShort (old new : Option (List ℕ)) (pairs : List Streams) (error : Error) : Type 0 where
   pub file : List ℕ
   pub front : List ℕ
@@ -37,7 +37,7 @@ pub record IsCutShort (old new : Option (List ℕ)) (pairs : List Streams) (erro
   pub appended : Appends old new front
   pub told : Tells error (length front) next (total_size pairs)
 
--- The capture has all connections that it may have. What is written is these.
+-- The pairs are as many as a capture may have. They are written, and the fault is at the byte after them.
 pub record HasNoRoom (old new : Option (List ℕ)) (pairs : List Streams) (error : Error) : Type 0 where
   pub front : List ℕ
   pub packed : ArePacked front pairs

@@ -15,14 +15,16 @@ pub(crate) fn zeros(alloc: Global, count: usize) -> Result<Vec<u8>, AllocError>
     vec![in alloc; 0; count]
 }
 
-/// Fills the block by as many reads as it takes, and gives how many bytes it has: fewer than it holds
-/// only where none is left.
+/// Fills the block by as many reads as it takes, and gives how many bytes were read: fewer than it
+/// holds only where none are left.
 pub(crate) fn fill<R: Source>(source: &mut R, block: &mut [u8]) -> Result<usize, DeviceFailed>
     ensures size { length block.new ≡ length block.old }
     ensures within { IfOk result (λ n. n ≤ length block.new) }
-    ensures bytes { IfOk result (λ n. Consumes (R.left source.old) (R.left source.new) (take n block.new)) }
+    ensures bytes { IfOk result
+        (λ n. Consumes (R.left source.old) (R.left source.new) (take n block.new)) }
     ensures end { IfOk result (λ n. n < length block.new → IsAtEnd (R.left source.new)) }
-    ensures err { OnErr result (ConsumesFewer (R.left source.old) (R.left source.new) (length block.old)) }
+    ensures err { OnErr result
+        (ConsumesFewer (R.left source.old) (R.left source.new) (length block.old)) }
     ensures count { Counts (R.failures source.old) (R.failures source.new) result }
 {
     let mut filled = 0;

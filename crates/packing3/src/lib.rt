@@ -4,5 +4,7 @@
 mod block;
 mod packing;
 mod stream;
+#[cfg(test)]
+mod tests;
 
 pub use packing::Packing;

@@ -8,7 +8,8 @@ ghost use Rattle.capture3.specs.Chunks.{max_bytes};
 ghost use Rattle.canon3.specs.Writing.{CountsWriting};
 ghost use Rattle.canon3.specs.Written.{AppendsFront};
 ghost use Rattle.packing3.specs.Packed.{full_size};
-ghost use Rattle.packing3.specs.Streaming.{CountsReadings, HasConnection};
+ghost use Rattle.packing3.specs.Devices.{CountsReadings};
+ghost use Rattle.packing3.specs.Streaming.{HasConnection};
 
 use crate::block::zeros;
 use crate::stream::{Extent, FULL_CHUNK, write, write_connection};
@@ -22,9 +23,9 @@ const MAX_CONNECTIONS: u32 = 65_535;
 
 /// Packs recorded streams into a capture, one connection after another. It holds one chunk.
 ///
-/// The records of a stream are not looked at. Each chunk has 65,536 bytes but the last of a stream, which
-/// has what is left, and no chunk is empty. A capture has at most 65,535 connections, and at most
-/// 1,073,741,824 stream bytes, all its streams together.
+/// The records of a stream are not looked at. Each chunk has 65,536 bytes but the last of a stream,
+/// which has what is left, and no chunk is empty. A capture has at most 65,535 connections, and at
+/// most 1,073,741,824 stream bytes, all its streams together.
 #[derive(Drop)]
 pub struct Packing<W> {
     sink: W,
@@ -47,7 +48,8 @@ impl<W: Sink> Packing<W> {
     ///
     /// # Errors
     ///
-    /// `Memory`, and nothing was written; or `Write`, and a front of the magic was. The sink is given back.
+    /// `Memory`, and nothing is written; or `Write`, and a front of the magic is written. The sink
+    /// is given back.
     pub fn start(alloc: Global, sink: W) -> Result<Packing<W>, (Error, W)>
         ensures stands { IfOk result (λ packing. StandsFor W.written packing (W.written sink) []) }
         ensures err { IfErr result (λ failed. FailsToStart W.written sink failed.0 failed.1) }
@@ -81,13 +83,14 @@ impl<W: Sink> Packing<W> {
     ///
     /// # Errors
     ///
-    /// `Refused`, at the byte of the file that would have come next: with `TooManyConnections` before
-    /// anything is read, and with `TooManyBytes` where the next chunk would pass the limit, whose bytes
-    /// are read and not written. `Read` where a read failed, and `Write` where a write failed: a front is
-    /// written of the capture of what was read. The same is answered from then on, and also after
-    /// `finish`; nothing is read or written any more.
+    /// `Refused`, at the byte of the file after all that is written: with `TooManyConnections`
+    /// before anything is read, and with `TooManyBytes` where the next chunk would pass the limit,
+    /// whose bytes are read and not written. `Read` and `Write` where the device failed: a front is
+    /// written of the capture of what was read. After an error it is answered again, and after
+    /// `finish` what that answered, and nothing is read or written.
     pub fn add<C: Source, S: Source>(&mut self, client: &mut C, server: &mut S) -> Result<(), Error>
-        ensures adds { (old : Option (List ℕ)) (pairs : List Streams) → StandsFor W.written self.old old pairs
+        ensures adds { (old : Option (List ℕ)) (pairs : List Streams)
+            → StandsFor W.written self.old old pairs
             → Adds W.written self.new old
             (C.left client.old) (C.left client.new) (S.left server.old) (S.left server.new)
             pairs result }
@@ -122,10 +125,11 @@ impl<W: Sink> Packing<W> {
     ///
     /// # Errors
     ///
-    /// `Write` where a write or the flush failed. What the first call answered is answered from then on,
-    /// and nothing is written.
+    /// `Write` where a write or the flush failed. What it answered is answered again, and after an
+    /// error of `add` that error, and nothing is written.
     pub fn finish(&mut self) -> Result<(), Error>
-        ensures finishes { (old : Option (List ℕ)) (pairs : List Streams) → StandsFor W.written self.old old pairs
+        ensures finishes { (old : Option (List ℕ)) (pairs : List Streams)
+            → StandsFor W.written self.old old pairs
             → Finishes old (W.written self.new.sink) pairs result }
         ensures ended { ending_of self.old ≡ None → ending_of self.new ≡ Some result }
         ensures again { IsSome (ending_of self.old) → ending_of self.old ≡ Some result }
@@ -141,7 +145,7 @@ impl<W: Sink> Packing<W> {
         result
     }
 
-    /// Writes one connection, if one more has room.
+    /// Writes one connection, where one more has room.
     fn write_pair<C: Source, S: Source>(
         &mut self,
         client: &mut C,
@@ -175,8 +179,10 @@ impl<W: Sink> Packing<W> {
     }
 
     fn close(&mut self) -> Result<(), Error>
-        ensures ok { OnOk result (Appends (W.written self.old.sink) (W.written self.new.sink) (word_bytes 0)) }
-        ensures err { OnErr result (AppendsFront (W.written self.old.sink) (W.written self.new.sink) (word_bytes 0)) }
+        ensures ok { OnOk result
+            (Appends (W.written self.old.sink) (W.written self.new.sink) (word_bytes 0)) }
+        ensures err { OnErr result
+            (AppendsFront (W.written self.old.sink) (W.written self.new.sink) (word_bytes 0)) }
         ensures error { IfErr result (λ error. error ≡ Error.Write) }
         ensures write { CountsWriting (W.failures self.old.sink) (W.failures self.new.sink) result }
     {

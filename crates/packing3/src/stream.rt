@@ -7,7 +7,8 @@ ghost use Rattle.capture3.specs.Entries.{CountsReading};
 ghost use Rattle.canon3.specs.Writing.{CountsWriting};
 ghost use Rattle.canon3.specs.Written.{AppendsFront};
 ghost use Rattle.packing3.specs.Packed.{full_size};
-ghost use Rattle.packing3.specs.Streaming.{CountsReadings, HasChunk, HasConnection, HasStream, IsSmall, StopsInChunk, StopsInConnection, StopsInStream};
+ghost use Rattle.packing3.specs.Devices.{CountsReadings};
+ghost use Rattle.packing3.specs.Streaming.{HasChunk, HasConnection, HasStream, GrowsLittle, StopsInChunk, StopsInConnection, StopsInStream};
 
 use crate::block::fill;
 use canon3::{Sink, write_all};
@@ -32,7 +33,8 @@ pub(crate) struct Extent {
 impl Extent {
     /// The refusal of the word that comes next.
     pub(crate) fn refusal(&self, reason: Reason) -> Error
-        ensures { result ≡ Error.Refused (record { place = Place.File self.now.at; reason = reason }) }
+        ensures { result ≡ Error.Refused
+            (record { place = Place.File self.now.at; reason = reason }) }
     {
         Error::Refused(Fault {
             place: Place::File { at: self.at },
@@ -57,7 +59,7 @@ pub(crate) fn write_connection<C: Source, S: Source, W: Sink>(
     requires room { extent.old.streamed ≤ max_bytes }
     requires small { extent.old.at ≤ 2 ^ 50 }
     ensures room { extent.new.streamed ≤ max_bytes }
-    ensures small { IsSmall 12 extent.old extent.new }
+    ensures small { GrowsLittle 12 extent.old extent.new }
     ensures ok { OnOk result (HasConnection
         (C.left client.old) (C.left client.new) (S.left server.old) (S.left server.new)
         (W.written sink.old) (W.written sink.new) extent.old extent.new) }
@@ -75,13 +77,13 @@ pub(crate) fn write_connection<C: Source, S: Source, W: Sink>(
     write_stream(sink, block, extent, server)
 }
 
-/// Writes the source's bytes to their end: chunks, and the word 0. Each chunk fills the block but the
-/// last. The bytes that a source gave before an error are lost.
+/// Writes the source's bytes to their end: chunks, and the word 0. Each chunk fills the block but
+/// the last. The bytes that a source gave before an error are lost.
 ///
 /// # Errors
 ///
-/// `Refused` with `TooManyBytes` where the next chunk would pass the limit, whose length word and bytes
-/// are not written; `Read` and `Write` where the device failed.
+/// `Refused` with `TooManyBytes` where the next chunk would pass the limit, whose length word and
+/// bytes are not written; `Read` and `Write` where the device failed.
 fn write_stream<R: Source, W: Sink>(
     sink: &mut W,
     block: &mut [u8],
@@ -92,7 +94,7 @@ fn write_stream<R: Source, W: Sink>(
     requires room { extent.old.streamed ≤ max_bytes }
     requires small { extent.old.at ≤ 2 ^ 60 }
     ensures room { extent.new.streamed ≤ max_bytes }
-    ensures small { IsSmall 4 extent.old extent.new }
+    ensures small { GrowsLittle 4 extent.old extent.new }
     ensures ok { OnOk result (HasStream
         (R.left source.old) (R.left source.new) (W.written sink.old) (W.written sink.new)
         extent.old extent.new) }
@@ -113,8 +115,8 @@ fn write_stream<R: Source, W: Sink>(
     Ok(())
 }
 
-/// Writes the bytes that fill the block, or that are left, as one chunk, and gives how many they are; none
-/// make no chunk.
+/// Writes the bytes that fill the block, or that are left, as one chunk, and gives how many they
+/// are; none make no chunk.
 fn write_chunk<R: Source, W: Sink>(
     sink: &mut W,
     block: &mut [u8],
@@ -125,7 +127,7 @@ fn write_chunk<R: Source, W: Sink>(
     requires room { extent.old.streamed ≤ max_bytes }
     requires small { extent.old.at < 2 ^ 62 }
     ensures room { extent.new.streamed ≤ max_bytes }
-    ensures small { IsSmall 0 extent.old extent.new }
+    ensures small { GrowsLittle 0 extent.old extent.new }
     ensures ok { IfOk result (HasChunk
         (R.left source.old) (R.left source.new) (W.written sink.old) (W.written sink.new)
         extent.old extent.new) }
