@@ -1,5 +1,6 @@
 -- Scans of shapes by those of their parts.
-use Rattle.std.proofs.Common.{◌≡◌, ℕ, Bool, List, [], ◌∷◌, ◌++◌, Ok, Err, refl, sym, ap, subst, ◌∙◌, ◌≤◌, ◌+◌, length, take, arith}
+use Rattle.std.specs.Prelude.{IfErr, OnOk}
+use Rattle.std.proofs.Common.{◌≡◌, ℕ, Bool, List, [], ◌∷◌, ◌++◌, Result, Ok, Err, refl, sym, ap, subst, ◌∙◌, ◌≤◌, ◌+◌, length, take, arith}
 use Rattle.std.proofs.lemmas.List.{length-take}
 use Rattle.xdr3.specs.declared.reason.GetError.{GetError}
 use Rattle.xdr3.specs.declared.reason.Reason.{Reason}
@@ -88,3 +89,13 @@ run_fits max body bytes at to e =
 
 -- how a scan follows from those of the parts
 pub ruleset scans = (then_scans, first_stops, next_stops, chosen_scans, word_scans, word_stops, chosen_stops, nothing_scans, chosen_ends)
+
+-- the same for the last part's own answer
+
+pub last_scans : {V X : Type 0} (stands : V → List Item → Type 0) (a b : Shape) (v0 v1 v2 : View) (s0 s1 s2 : V) (r : Result X GetError) → Scans stands a v0 v1 s0 s1 → OnOk r (Scans stands b v1 v2 s1 s2) → OnOk r (Scans stands (both a b) v0 v2 s0 s2)
+last_scans stands a b v0 v1 v2 s0 s1 s2 (Ok x) first h = then_scans stands a b v0 v1 v2 s0 s1 s2 first h
+last_scans stands a b v0 v1 v2 s0 s1 s2 (Err e) first h = h
+
+pub last_stops : {V X : Type 0} (stands : V → List Item → Type 0) (a b : Shape) (v0 v1 : View) (s0 s1 : V) (r : Result X GetError) → Scans stands a v0 v1 s0 s1 → IfErr r (λ e. Stops b v1 e) → IfErr r (λ e. Stops (both a b) v0 e)
+last_stops stands a b v0 v1 s0 s1 (Ok x) first h = h
+last_stops stands a b v0 v1 s0 s1 (Err e) first h = next_stops stands a b v0 v1 s0 s1 e first h
