@@ -13,7 +13,9 @@ use Rattle.xdr3.specs.Shape.{Shape, both, choose, nothing, is_at_most}
 use Rattle.xdr3.specs.View.{MovesOn, View}
 use Rattle.xdr3.specs.Visit.{Adds}
 use Rattle.xdr3.proofs.Walks.{adds_both, adds_joined, adds_nothing}
-use Rattle.xdr3.specs.Scan.{Scans, ScansWord, Stops, StopsWord}
+use Rattle.xdr3.specs.declared.reason.GetError.TheVariants as errors
+use Rattle.xdr3.specs.Layout.{Layout, exactly, reading_layout}
+use Rattle.xdr3.specs.Scan.{Scans, ScansLayout, ScansWord, Stops, StopsLayout, StopsWord}
 
 pub moves_both : (v0 v1 v2 : View) → MovesOn v0 v1 → MovesOn v1 v2 → MovesOn v0 v2
 moves_both v0 v1 v2 a b = record {
@@ -99,3 +101,23 @@ last_scans stands a b v0 v1 v2 s0 s1 s2 (Err e) first h = h
 pub last_stops : {V X : Type 0} (stands : V → List Item → Type 0) (a b : Shape) (v0 v1 : View) (s0 s1 : V) (r : Result X GetError) → Scans stands a v0 v1 s0 s1 → IfErr r (λ e. Stops b v1 e) → IfErr r (λ e. Stops (both a b) v0 e)
 last_stops stands a b v0 v1 s0 s1 (Ok x) first h = h
 last_stops stands a b v0 v1 s0 s1 (Err e) first h = next_stops stands a b v0 v1 s0 s1 e first h
+
+-- ---- layouts
+
+pub exactly_scans : {V : Type 0} (stands : V → List Item → Type 0) (s : Shape) (v0 v1 : View) (s0 s1 : V) → Scans stands s v0 v1 s0 s1 → ScansLayout stands (exactly s) v0 v1 s0 s1
+unfolding Scans ScansLayout reading_layout
+exactly_scans stands s v0 v1 s0 s1 h = h
+
+pub exactly_stops : (s : Shape) (v0 : View) (e : GetError) → Stops s v0 e → StopsLayout (exactly s) v0 e
+unfolding Stops StopsLayout reading_layout
+exactly_stops s v0 e h = h
+
+pub memory_stops : (layout : Layout) (v0 : View) (e : GetError) → e ≡ errors.Memory → StopsLayout layout v0 e
+unfolding StopsLayout
+memory_stops layout v0 e is = λ stop stopped. absurd (no_stop stop (sym is ∙ stopped))
+  where
+    no_stop : (stop : Stop) → errors.Memory ≡ errors.Stop stop → ⊥
+    no_stop stop h = absurd (cc)
+
+-- how the scan of a layout follows from that of its shape
+pub ruleset layouts = (exactly_scans, exactly_stops, memory_stops)
