@@ -17,4 +17,4 @@ pub use credential::{AuthSys, Cred, Gids, Verf};
 pub use first_words::start;
 pub use message::Start;
 pub use reply::{Accept, Deny, ReplyHead};
-pub use scan::scan_call_head;
+pub use scan::{scan_call_head, scan_reply_head};

@@ -1,7 +1,7 @@
 // Parts of heads that a visitor is told as they are read (RFC 5531, sections 8.2 and 9, appendix A).
 
 ghost use Rattle.std.specs.Prelude.{IfErr, IfOk, OnOk};
-ghost use Rattle.rpc_head.specs.HeadScan.{ScansCallHead, credentials};
+ghost use Rattle.rpc_head.specs.HeadScan.{ScansAccept, ScansCallHead, ScansReplyHead, credentials};
 ghost use Rattle.rpc_head.specs.Shapes as shapes;
 ghost use Rattle.xdr3.specs.Scan.{Scans, ScansWord, Stops, StopsWord};
 ghost use Rattle.rpc_head.specs.Names.{names};
@@ -10,7 +10,7 @@ ghost use Rattle.xdr3.specs.Shape.{is_listed, opaque};
 
 use crate::call::ProcId;
 use crate::credential::{AuthSys, Cred, Parameters, Verf};
-use crate::reply::{Accept, Deny};
+use crate::reply::Deny;
 use crate::word::listed_or;
 use xdr3::{
     GetError, Input, Reason, Scan, Visit, scan_counted, scan_listed, scan_sized, scan_text,
@@ -119,6 +119,16 @@ fn scan_auth_stat<V: Visit>(input: &mut Input, visitor: &mut V) -> Result<u32, G
     scan_listed("auth_stat", &words, input, visitor)
 }
 
+#[inline]
+#[tactic(auto, unfolding(crate::specs::Names::names))]
+fn scan_reply_stat<V: Visit>(input: &mut Input, visitor: &mut V) -> Result<u32, GetError>
+    ensures ok { IfOk result (λ n. ScansWord V.stands names.reply_stat (is_listed shapes.reply_stats) Reason.BadEnum n
+        input.old input.new visitor.old visitor.new) }
+    ensures err { IfErr result (λ error. StopsWord (is_listed shapes.reply_stats) Reason.BadEnum input.old error) }
+{
+    scan_listed("reply_stat", &[0, 1], input, visitor)
+}
+
 // ---- credentials and verifiers
 
 /// A group of a credential (RFC 5531, appendix A).
@@ -213,21 +223,6 @@ impl<'a> Scan for Verf<'a> {
     }
 }
 
-impl Scan for Accept {
-    ghost use Rattle.rpc_head.specs.Shapes.{accept};
-
-    ghost shape = { accept };
-
-    #[tactic(auto, using(xdr3::proofs::ScanLemmas::scans), unfolding(crate::specs::Shapes::accept, crate::specs::Names::names))]
-    fn scan<V: Visit>(input: &mut Input, visitor: &mut V) -> Result<(), GetError> {
-        if scan_accept_stat(input, visitor)? == 2 {
-            scan_word("low", input, visitor)?;
-            scan_word("high", input, visitor)?;
-        }
-        Ok(())
-    }
-}
-
 impl Scan for Deny {
     ghost use Rattle.rpc_head.specs.Shapes.{deny};
 
@@ -278,4 +273,42 @@ fn scan_credentials<V: Visit>(input: &mut Input, visitor: &mut V) -> Result<(), 
 {
     Cred::scan(input, visitor)?;
     Verf::scan(input, visitor)
+}
+
+/// The head of a reply, from its reply_stat up to the results, and whether results follow: those of an
+/// accepted success (RFC 5531, section 9). After an error what the visitor holds is open.
+///
+/// # Errors
+///
+/// `Stop` with the place and the reason of the first fault, and `Memory` where the visitor ran out of it.
+#[tactic(auto, using(xdr3::proofs::ScanLemmas::scans), unfolding(crate::specs::Shapes::reply_head, crate::specs::Shapes::verifier))]
+pub fn scan_reply_head<V: Visit>(input: &mut Input, visitor: &mut V) -> Result<bool, GetError>
+    ensures ok { IfOk result (λ success. ScansReplyHead V.stands success input.old input.new
+        visitor.old visitor.new) }
+    ensures err { IfErr result (λ error. Stops shapes.reply_head input.old error) }
+{
+    let reply_stat = scan_reply_stat(input, visitor)?;
+    if reply_stat != 0 {
+        Deny::scan(input, visitor)?;
+        return Ok(false);
+    }
+    scan_verf_flavor(input, visitor)?;
+    scan_verf_body(input, visitor)?;
+    let stat = scan_accept(input, visitor)?;
+    Ok(stat == 0)
+}
+
+/// What became of an accepted call, and its accept_stat (RFC 5531, section 9).
+#[tactic(auto, using(xdr3::proofs::ScanLemmas::scans), unfolding(crate::specs::Shapes::accept, crate::specs::Names::names))]
+fn scan_accept<V: Visit>(input: &mut Input, visitor: &mut V) -> Result<u32, GetError>
+    ensures ok { IfOk result (λ stat. ScansAccept V.stands stat input.old input.new visitor.old visitor.new) }
+    ensures err { IfErr result (λ error. Stops shapes.accept input.old error) }
+{
+    let stat = scan_accept_stat(input, visitor)?;
+    if stat != 2 {
+        return Ok(stat);
+    }
+    scan_word("low", input, visitor)?;
+    scan_word("high", input, visitor)?;
+    Ok(stat)
 }
