@@ -1,8 +1,12 @@
 // Arguments and results that a visitor is told as they are read (RFC 1813, sections 3.3 and 5.2).
 
-ghost use Rattle.std.specs.Prelude.{IfErr, OnOk};
-ghost use Rattle.procs3.specs.ShapeTails.{fsinfo_limits, fsinfo_writes, fsstat_files, pathconf_names};
-ghost use Rattle.xdr3.specs.Scan.{Scans, Stops};
+ghost use Rattle.std.specs.Prelude.{IfErr, IfOk, OnOk};
+ghost use Rattle.nfs3_types.specs.Names.{names};
+ghost use Rattle.nfs3_types.specs.Shapes.{time};
+ghost use Rattle.nfs3_types.specs.Stable.{stable_words};
+ghost use Rattle.procs3.specs.ShapeTails.{directory_counts, fsinfo_limits, fsinfo_parts, fsinfo_reads, fsinfo_writes, fsstat_bytes, fsstat_files, fsstat_parts, pathconf_limits, pathconf_names, pathconf_parts, write_parts, written};
+ghost use Rattle.xdr3.specs.Scan.{Scans, ScansWord, Stops, StopsWord};
+ghost use Rattle.xdr3.specs.Shape.{boolean, fixed, hyper, is_listed, word};
 
 use crate::creation::{
     CreateArgs, CreateHow, CreateOk, Device, MkDirArgs, MkNodArgs, MkNodWhat, SymLinkArgs,
@@ -19,9 +23,117 @@ use crate::mounts::{DirPath, MountRes};
 use nfs3_types::mount3::MountOk;
 use nfs3_types::{DirOp, Guard, Handle, PostOpAttr, PostOpFh, Sattr, Wcc, scan_path, scan_time};
 use xdr3::{
-    GetError, Input, Scan, Visit, scan_boolean, scan_fixed, scan_hyper, scan_linked, scan_listed,
-    scan_text, scan_var, scan_word, scan_write_verf,
+    GetError, Input, Reason, Scan, Visit, scan_boolean, scan_fixed, scan_hyper, scan_linked,
+    scan_listed, scan_text, scan_var, scan_word, scan_write_verf,
 };
+
+// ---- items with long names: the prover follows a function's name, and not so many letters
+
+#[inline]
+#[tactic(auto, using(xdr3::proofs::ScanLemmas::scans), unfolding(nfs3_types::specs::Names::names))]
+fn scan_createverf<V: Visit>(input: &mut Input, visitor: &mut V) -> Result<(), GetError>
+    ensures ok { OnOk result (Scans V.stands (fixed names.createverf) input.old input.new visitor.old visitor.new) }
+    ensures err { IfErr result (λ error. Stops (fixed names.createverf) input.old error) }
+{
+    scan_fixed("createverf", input, visitor)
+}
+
+#[inline]
+#[tactic(auto, using(xdr3::proofs::ScanLemmas::scans), unfolding(nfs3_types::specs::Names::names))]
+fn scan_cookieverf<V: Visit>(input: &mut Input, visitor: &mut V) -> Result<(), GetError>
+    ensures ok { OnOk result (Scans V.stands (fixed names.cookieverf) input.old input.new visitor.old visitor.new) }
+    ensures err { IfErr result (λ error. Stops (fixed names.cookieverf) input.old error) }
+{
+    scan_fixed("cookieverf", input, visitor)
+}
+
+#[inline]
+#[tactic(auto, using(xdr3::proofs::ScanLemmas::scans), unfolding(nfs3_types::specs::Names::names))]
+fn scan_maxfilesize<V: Visit>(input: &mut Input, visitor: &mut V) -> Result<(), GetError>
+    ensures ok { OnOk result (Scans V.stands (hyper names.maxfilesize) input.old input.new visitor.old visitor.new) }
+    ensures err { IfErr result (λ error. Stops (hyper names.maxfilesize) input.old error) }
+{
+    scan_hyper("maxfilesize", input, visitor)
+}
+
+#[inline]
+#[tactic(auto, using(xdr3::proofs::ScanLemmas::scans), unfolding(nfs3_types::specs::Names::names))]
+fn scan_delta<V: Visit>(input: &mut Input, visitor: &mut V) -> Result<(), GetError>
+    ensures ok { OnOk result (Scans V.stands (time names.delta_sec names.delta_nsec) input.old input.new visitor.old visitor.new) }
+    ensures err { IfErr result (λ error. Stops (time names.delta_sec names.delta_nsec) input.old error) }
+{
+    scan_time("delta_sec", "delta_nsec", input, visitor)
+}
+
+#[inline]
+#[tactic(auto, using(xdr3::proofs::ScanLemmas::scans), unfolding(nfs3_types::specs::Names::names))]
+fn scan_invarsec<V: Visit>(input: &mut Input, visitor: &mut V) -> Result<(), GetError>
+    ensures ok { OnOk result (Scans V.stands (word names.invarsec) input.old input.new visitor.old visitor.new) }
+    ensures err { IfErr result (λ error. Stops (word names.invarsec) input.old error) }
+{
+    scan_word("invarsec", input, visitor)?;
+    Ok(())
+}
+
+#[inline]
+#[tactic(auto, using(xdr3::proofs::ScanLemmas::scans), unfolding(nfs3_types::specs::Names::names))]
+fn scan_name_max<V: Visit>(input: &mut Input, visitor: &mut V) -> Result<(), GetError>
+    ensures ok { OnOk result (Scans V.stands (word names.name_max) input.old input.new visitor.old visitor.new) }
+    ensures err { IfErr result (λ error. Stops (word names.name_max) input.old error) }
+{
+    scan_word("name_max", input, visitor)?;
+    Ok(())
+}
+
+#[inline]
+#[tactic(auto, using(xdr3::proofs::ScanLemmas::scans), unfolding(nfs3_types::specs::Names::names))]
+fn scan_properties<V: Visit>(input: &mut Input, visitor: &mut V) -> Result<(), GetError>
+    ensures ok { OnOk result (Scans V.stands (word names.properties) input.old input.new visitor.old visitor.new) }
+    ensures err { IfErr result (λ error. Stops (word names.properties) input.old error) }
+{
+    scan_word("properties", input, visitor)?;
+    Ok(())
+}
+
+#[inline]
+#[tactic(auto, using(xdr3::proofs::ScanLemmas::scans), unfolding(nfs3_types::specs::Names::names))]
+fn scan_chown_restricted<V: Visit>(input: &mut Input, visitor: &mut V) -> Result<(), GetError>
+    ensures ok { OnOk result (Scans V.stands (boolean names.chown_restricted) input.old input.new visitor.old visitor.new) }
+    ensures err { IfErr result (λ error. Stops (boolean names.chown_restricted) input.old error) }
+{
+    scan_boolean("chown_restricted", input, visitor)?;
+    Ok(())
+}
+
+#[inline]
+#[tactic(auto, using(xdr3::proofs::ScanLemmas::scans), unfolding(nfs3_types::specs::Names::names))]
+fn scan_case_insensitive<V: Visit>(input: &mut Input, visitor: &mut V) -> Result<(), GetError>
+    ensures ok { OnOk result (Scans V.stands (boolean names.case_insensitive) input.old input.new visitor.old visitor.new) }
+    ensures err { IfErr result (λ error. Stops (boolean names.case_insensitive) input.old error) }
+{
+    scan_boolean("case_insensitive", input, visitor)?;
+    Ok(())
+}
+
+#[inline]
+#[tactic(auto, using(xdr3::proofs::ScanLemmas::scans), unfolding(nfs3_types::specs::Names::names))]
+fn scan_case_preserving<V: Visit>(input: &mut Input, visitor: &mut V) -> Result<(), GetError>
+    ensures ok { OnOk result (Scans V.stands (boolean names.case_preserving) input.old input.new visitor.old visitor.new) }
+    ensures err { IfErr result (λ error. Stops (boolean names.case_preserving) input.old error) }
+{
+    scan_boolean("case_preserving", input, visitor)?;
+    Ok(())
+}
+
+#[inline]
+#[tactic(auto, unfolding(nfs3_types::specs::Names::names))]
+fn scan_committed<V: Visit>(input: &mut Input, visitor: &mut V) -> Result<u32, GetError>
+    ensures ok { IfOk result (λ n. ScansWord V.stands names.committed (is_listed stable_words) Reason.BadEnum n
+        input.old input.new visitor.old visitor.new) }
+    ensures err { IfErr result (λ error. StopsWord (is_listed stable_words) Reason.BadEnum input.old error) }
+{
+    scan_listed("committed", &[0, 1, 2], input, visitor)
+}
 
 // ---- files (RFC 1813, sections 3.3.2 to 3.3.7 and 3.3.21)
 
@@ -115,17 +227,35 @@ impl<'a> Scan for WriteArgs<'a> {
 
     ghost shape = { write_args };
 
-    #[tactic(auto, using(xdr3::proofs::ScanLemmas::scans), unfolding(crate::specs::Shapes::write_args, nfs3_types::specs::Names::names))]
+    #[tactic(auto, using(crate::proofs::ShapeTailLemmas::wholes))]
     fn scan<V: Visit>(input: &mut Input, visitor: &mut V) -> Result<(), GetError>
         ensures ok { OnOk result (Scans V.stands write_args input.old input.new visitor.old visitor.new) }
         ensures err { IfErr result (λ error. Stops write_args input.old error) }
     {
-        Handle::scan(input, visitor)?;
-        scan_hyper("offset", input, visitor)?;
-        scan_word("count", input, visitor)?;
-        scan_listed("stable", &[0, 1, 2], input, visitor)?;
-        scan_var("data", u32::MAX, input, visitor)
+        scan_write_parts(input, visitor)
     }
+}
+
+#[inline]
+#[tactic(auto, using(xdr3::proofs::ScanLemmas::scans), unfolding(crate::specs::ShapeTails::write_parts, nfs3_types::specs::Names::names))]
+fn scan_write_parts<V: Visit>(input: &mut Input, visitor: &mut V) -> Result<(), GetError>
+    ensures ok { OnOk result (Scans V.stands write_parts input.old input.new visitor.old visitor.new) }
+    ensures err { IfErr result (λ error. Stops write_parts input.old error) }
+{
+    Handle::scan(input, visitor)?;
+    scan_hyper("offset", input, visitor)?;
+    scan_word("count", input, visitor)?;
+    scan_written(input, visitor)
+}
+
+#[inline]
+#[tactic(auto, using(xdr3::proofs::ScanLemmas::scans), unfolding(crate::specs::ShapeTails::written, nfs3_types::specs::Names::names))]
+fn scan_written<V: Visit>(input: &mut Input, visitor: &mut V) -> Result<(), GetError>
+    ensures ok { OnOk result (Scans V.stands written input.old input.new visitor.old visitor.new) }
+    ensures err { IfErr result (λ error. Stops written input.old error) }
+{
+    scan_listed("stable", &[0, 1, 2], input, visitor)?;
+    scan_var("data", u32::MAX, input, visitor)
 }
 
 impl Scan for WriteOk {
@@ -137,7 +267,7 @@ impl Scan for WriteOk {
     fn scan<V: Visit>(input: &mut Input, visitor: &mut V) -> Result<(), GetError> {
         Wcc::scan(input, visitor)?;
         scan_word("count", input, visitor)?;
-        scan_listed("committed", &[0, 1, 2], input, visitor)?;
+        scan_committed(input, visitor)?;
         scan_write_verf("verf", input, visitor)
     }
 }
@@ -164,7 +294,7 @@ impl Scan for CreateHow {
     #[tactic(auto, using(xdr3::proofs::ScanLemmas::scans), unfolding(crate::specs::Shapes::create_how, nfs3_types::specs::Names::names))]
     fn scan<V: Visit>(input: &mut Input, visitor: &mut V) -> Result<(), GetError> {
         if scan_listed("how", &[0, 1, 2], input, visitor)? == 2 {
-            scan_fixed("createverf", input, visitor)
+            scan_createverf(input, visitor)
         } else {
             Sattr::scan(input, visitor)
         }
@@ -352,7 +482,7 @@ impl Scan for ReadDirArgs {
     fn scan<V: Visit>(input: &mut Input, visitor: &mut V) -> Result<(), GetError> {
         Handle::scan(input, visitor)?;
         scan_hyper("cookie", input, visitor)?;
-        scan_fixed("cookieverf", input, visitor)?;
+        scan_cookieverf(input, visitor)?;
         scan_word("count", input, visitor)?;
         Ok(())
     }
@@ -385,7 +515,7 @@ impl<'a> Scan for ReadDirOk<'a> {
         ensures err { IfErr result (λ error. Stops readdir_ok input.old error) }
     {
         PostOpAttr::scan(input, visitor)?;
-        scan_fixed("cookieverf", input, visitor)?;
+        scan_cookieverf(input, visitor)?;
         scan_linked::<Entry, V>("entry", input, visitor)?;
         scan_boolean("eof", input, visitor)?;
         Ok(())
@@ -397,15 +527,24 @@ impl Scan for ReadDirPlusArgs {
 
     ghost shape = { readdirplus_args };
 
-    #[tactic(auto, using(xdr3::proofs::ScanLemmas::scans), unfolding(crate::specs::Shapes::readdirplus_args, nfs3_types::specs::Names::names))]
+    #[tactic(auto, using(xdr3::proofs::ScanLemmas::scans, crate::proofs::ShapeTailLemmas::counts), unfolding(crate::specs::Shapes::readdirplus_args, nfs3_types::specs::Names::names))]
     fn scan<V: Visit>(input: &mut Input, visitor: &mut V) -> Result<(), GetError> {
         Handle::scan(input, visitor)?;
         scan_hyper("cookie", input, visitor)?;
-        scan_fixed("cookieverf", input, visitor)?;
-        scan_word("dircount", input, visitor)?;
-        scan_word("maxcount", input, visitor)?;
-        Ok(())
+        scan_cookieverf(input, visitor)?;
+        scan_directory_counts(input, visitor)
     }
+}
+
+#[inline]
+#[tactic(auto, using(xdr3::proofs::ScanLemmas::scans), unfolding(crate::specs::ShapeTails::directory_counts, nfs3_types::specs::Names::names))]
+fn scan_directory_counts<V: Visit>(input: &mut Input, visitor: &mut V) -> Result<(), GetError>
+    ensures ok { OnOk result (Scans V.stands directory_counts input.old input.new visitor.old visitor.new) }
+    ensures err { IfErr result (λ error. Stops directory_counts input.old error) }
+{
+    scan_word("dircount", input, visitor)?;
+    scan_word("maxcount", input, visitor)?;
+    Ok(())
 }
 
 impl<'a> Scan for EntryPlus<'a> {
@@ -437,7 +576,7 @@ impl<'a> Scan for ReadDirPlusOk<'a> {
         ensures err { IfErr result (λ error. Stops readdirplus_ok input.old error) }
     {
         PostOpAttr::scan(input, visitor)?;
-        scan_fixed("cookieverf", input, visitor)?;
+        scan_cookieverf(input, visitor)?;
         scan_linked::<EntryPlus, V>("entry", input, visitor)?;
         scan_boolean("eof", input, visitor)?;
         Ok(())
@@ -451,14 +590,32 @@ impl Scan for FsStatOk {
 
     ghost shape = { fsstat_ok };
 
-    #[tactic(auto, using(xdr3::proofs::ScanLemmas::scans, crate::proofs::ShapeTailLemmas::tails), unfolding(crate::specs::Shapes::fsstat_ok, nfs3_types::specs::Names::names))]
+    #[tactic(auto, using(crate::proofs::ShapeTailLemmas::wholes))]
     fn scan<V: Visit>(input: &mut Input, visitor: &mut V) -> Result<(), GetError> {
-        PostOpAttr::scan(input, visitor)?;
-        scan_hyper("tbytes", input, visitor)?;
-        scan_hyper("fbytes", input, visitor)?;
-        scan_hyper("abytes", input, visitor)?;
-        scan_fsstat_files(input, visitor)
+        scan_fsstat_parts(input, visitor)
     }
+}
+
+#[inline]
+#[tactic(auto, using(xdr3::proofs::ScanLemmas::scans), unfolding(crate::specs::ShapeTails::fsstat_parts, nfs3_types::specs::Names::names))]
+fn scan_fsstat_parts<V: Visit>(input: &mut Input, visitor: &mut V) -> Result<(), GetError>
+    ensures ok { OnOk result (Scans V.stands fsstat_parts input.old input.new visitor.old visitor.new) }
+    ensures err { IfErr result (λ error. Stops fsstat_parts input.old error) }
+{
+    PostOpAttr::scan(input, visitor)?;
+    scan_fsstat_bytes(input, visitor)
+}
+
+#[inline]
+#[tactic(auto, using(xdr3::proofs::ScanLemmas::scans), unfolding(crate::specs::ShapeTails::fsstat_bytes, nfs3_types::specs::Names::names))]
+fn scan_fsstat_bytes<V: Visit>(input: &mut Input, visitor: &mut V) -> Result<(), GetError>
+    ensures ok { OnOk result (Scans V.stands fsstat_bytes input.old input.new visitor.old visitor.new) }
+    ensures err { IfErr result (λ error. Stops fsstat_bytes input.old error) }
+{
+    scan_hyper("tbytes", input, visitor)?;
+    scan_hyper("fbytes", input, visitor)?;
+    scan_hyper("abytes", input, visitor)?;
+    scan_fsstat_files(input, visitor)
 }
 
 #[inline]
@@ -470,8 +627,7 @@ fn scan_fsstat_files<V: Visit>(input: &mut Input, visitor: &mut V) -> Result<(),
     scan_hyper("tfiles", input, visitor)?;
     scan_hyper("ffiles", input, visitor)?;
     scan_hyper("afiles", input, visitor)?;
-    scan_word("invarsec", input, visitor)?;
-    Ok(())
+    scan_invarsec(input, visitor)
 }
 
 impl Scan for FsInfoOk {
@@ -479,14 +635,32 @@ impl Scan for FsInfoOk {
 
     ghost shape = { fsinfo_ok };
 
-    #[tactic(auto, using(xdr3::proofs::ScanLemmas::scans, crate::proofs::ShapeTailLemmas::tails), unfolding(crate::specs::Shapes::fsinfo_ok, nfs3_types::specs::Names::names))]
+    #[tactic(auto, using(crate::proofs::ShapeTailLemmas::wholes))]
     fn scan<V: Visit>(input: &mut Input, visitor: &mut V) -> Result<(), GetError> {
-        PostOpAttr::scan(input, visitor)?;
-        scan_word("rtmax", input, visitor)?;
-        scan_word("rtpref", input, visitor)?;
-        scan_word("rtmult", input, visitor)?;
-        scan_fsinfo_writes(input, visitor)
+        scan_fsinfo_parts(input, visitor)
     }
+}
+
+#[inline]
+#[tactic(auto, using(xdr3::proofs::ScanLemmas::scans), unfolding(crate::specs::ShapeTails::fsinfo_parts, nfs3_types::specs::Names::names))]
+fn scan_fsinfo_parts<V: Visit>(input: &mut Input, visitor: &mut V) -> Result<(), GetError>
+    ensures ok { OnOk result (Scans V.stands fsinfo_parts input.old input.new visitor.old visitor.new) }
+    ensures err { IfErr result (λ error. Stops fsinfo_parts input.old error) }
+{
+    PostOpAttr::scan(input, visitor)?;
+    scan_fsinfo_reads(input, visitor)
+}
+
+#[inline]
+#[tactic(auto, using(xdr3::proofs::ScanLemmas::scans), unfolding(crate::specs::ShapeTails::fsinfo_reads, nfs3_types::specs::Names::names))]
+fn scan_fsinfo_reads<V: Visit>(input: &mut Input, visitor: &mut V) -> Result<(), GetError>
+    ensures ok { OnOk result (Scans V.stands fsinfo_reads input.old input.new visitor.old visitor.new) }
+    ensures err { IfErr result (λ error. Stops fsinfo_reads input.old error) }
+{
+    scan_word("rtmax", input, visitor)?;
+    scan_word("rtpref", input, visitor)?;
+    scan_word("rtmult", input, visitor)?;
+    scan_fsinfo_writes(input, visitor)
 }
 
 #[inline]
@@ -508,10 +682,9 @@ fn scan_fsinfo_limits<V: Visit>(input: &mut Input, visitor: &mut V) -> Result<()
     ensures err { IfErr result (λ error. Stops fsinfo_limits input.old error) }
 {
     scan_word("dtpref", input, visitor)?;
-    scan_hyper("maxfilesize", input, visitor)?;
-    scan_time("delta_sec", "delta_nsec", input, visitor)?;
-    scan_word("properties", input, visitor)?;
-    Ok(())
+    scan_maxfilesize(input, visitor)?;
+    scan_delta(input, visitor)?;
+    scan_properties(input, visitor)
 }
 
 impl Scan for PathConfOk {
@@ -519,13 +692,31 @@ impl Scan for PathConfOk {
 
     ghost shape = { pathconf_ok };
 
-    #[tactic(auto, using(xdr3::proofs::ScanLemmas::scans, crate::proofs::ShapeTailLemmas::tails), unfolding(crate::specs::Shapes::pathconf_ok, nfs3_types::specs::Names::names))]
+    #[tactic(auto, using(crate::proofs::ShapeTailLemmas::wholes))]
     fn scan<V: Visit>(input: &mut Input, visitor: &mut V) -> Result<(), GetError> {
-        PostOpAttr::scan(input, visitor)?;
-        scan_word("linkmax", input, visitor)?;
-        scan_word("name_max", input, visitor)?;
-        scan_pathconf_names(input, visitor)
+        scan_pathconf_parts(input, visitor)
     }
+}
+
+#[inline]
+#[tactic(auto, using(xdr3::proofs::ScanLemmas::scans), unfolding(crate::specs::ShapeTails::pathconf_parts, nfs3_types::specs::Names::names))]
+fn scan_pathconf_parts<V: Visit>(input: &mut Input, visitor: &mut V) -> Result<(), GetError>
+    ensures ok { OnOk result (Scans V.stands pathconf_parts input.old input.new visitor.old visitor.new) }
+    ensures err { IfErr result (λ error. Stops pathconf_parts input.old error) }
+{
+    PostOpAttr::scan(input, visitor)?;
+    scan_pathconf_limits(input, visitor)
+}
+
+#[inline]
+#[tactic(auto, using(xdr3::proofs::ScanLemmas::scans), unfolding(crate::specs::ShapeTails::pathconf_limits, nfs3_types::specs::Names::names))]
+fn scan_pathconf_limits<V: Visit>(input: &mut Input, visitor: &mut V) -> Result<(), GetError>
+    ensures ok { OnOk result (Scans V.stands pathconf_limits input.old input.new visitor.old visitor.new) }
+    ensures err { IfErr result (λ error. Stops pathconf_limits input.old error) }
+{
+    scan_word("linkmax", input, visitor)?;
+    scan_name_max(input, visitor)?;
+    scan_pathconf_names(input, visitor)
 }
 
 #[inline]
@@ -535,10 +726,9 @@ fn scan_pathconf_names<V: Visit>(input: &mut Input, visitor: &mut V) -> Result<(
     ensures err { IfErr result (λ error. Stops pathconf_names input.old error) }
 {
     scan_boolean("no_trunc", input, visitor)?;
-    scan_boolean("chown_restricted", input, visitor)?;
-    scan_boolean("case_insensitive", input, visitor)?;
-    scan_boolean("case_preserving", input, visitor)?;
-    Ok(())
+    scan_chown_restricted(input, visitor)?;
+    scan_case_insensitive(input, visitor)?;
+    scan_case_preserving(input, visitor)
 }
 
 // ---- MOUNT version 3 (RFC 1813, section 5.2)

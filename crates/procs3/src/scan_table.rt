@@ -26,7 +26,7 @@ use xdr3::{GetError, Input, Scan, Visit, scan_rest};
 /// # Errors
 ///
 /// `Stop` with the place and the reason of the first fault, and `Memory` where the visitor ran out of it.
-#[tactic(auto, using(xdr3::proofs::ScanLemmas::layouts), unfolding(crate::specs::Table::arguments_of))]
+#[tactic(auto, using(xdr3::proofs::ScanLemmas::layouts), unfolding(crate::specs::Table::arguments_of, nfs3_types::specs::Names::names))]
 pub fn scan_arguments<V: Visit>(
     id: ProcId,
     input: &mut Input,
@@ -43,7 +43,7 @@ pub fn scan_arguments<V: Visit>(
 }
 
 /// Of a procedure of NFS version 3 (RFC 1813, section 3.3).
-#[tactic(auto, using(xdr3::proofs::ScanLemmas::layouts))]
+#[tactic(auto, using(xdr3::proofs::ScanLemmas::layouts), unfolding(nfs3_types::specs::Names::names))]
 fn scan_nfs_arguments<V: Visit>(
     proc_no: u32,
     input: &mut Input,
@@ -67,7 +67,7 @@ fn scan_nfs_arguments<V: Visit>(
 }
 
 /// Of CREATE, or a procedure after it.
-#[tactic(auto, using(xdr3::proofs::ScanLemmas::layouts))]
+#[tactic(auto, using(xdr3::proofs::ScanLemmas::layouts), unfolding(nfs3_types::specs::Names::names))]
 fn scan_nfs_arguments_from_create<V: Visit>(
     proc_no: u32,
     input: &mut Input,
@@ -91,7 +91,7 @@ fn scan_nfs_arguments_from_create<V: Visit>(
 }
 
 /// Of LINK, or a procedure after it.
-#[tactic(auto, using(xdr3::proofs::ScanLemmas::layouts))]
+#[tactic(auto, using(xdr3::proofs::ScanLemmas::layouts), unfolding(nfs3_types::specs::Names::names))]
 fn scan_nfs_arguments_from_link<V: Visit>(
     proc_no: u32,
     input: &mut Input,
@@ -115,7 +115,7 @@ fn scan_nfs_arguments_from_link<V: Visit>(
 }
 
 /// Of a procedure of MOUNT version 3 (RFC 1813, section 5.2).
-#[tactic(auto, using(xdr3::proofs::ScanLemmas::layouts))]
+#[tactic(auto, using(xdr3::proofs::ScanLemmas::layouts), unfolding(nfs3_types::specs::Names::names))]
 fn scan_mount_arguments<V: Visit>(
     proc_no: u32,
     input: &mut Input,
@@ -143,7 +143,7 @@ fn scan_mount_arguments<V: Visit>(
 /// # Errors
 ///
 /// `Stop` with the place and the reason of the first fault, and `Memory` where the visitor ran out of it.
-#[tactic(auto, using(xdr3::proofs::ScanLemmas::layouts), unfolding(crate::specs::Table::results_of))]
+#[tactic(auto, using(xdr3::proofs::ScanLemmas::layouts), unfolding(crate::specs::Table::results_of, nfs3_types::specs::Names::names))]
 pub fn scan_results<V: Visit>(
     id: ProcId,
     input: &mut Input,
@@ -160,7 +160,7 @@ pub fn scan_results<V: Visit>(
 }
 
 /// Of a procedure of NFS version 3 (RFC 1813, section 3.3).
-#[tactic(auto, using(xdr3::proofs::ScanLemmas::layouts))]
+#[tactic(auto, using(xdr3::proofs::ScanLemmas::layouts), unfolding(nfs3_types::specs::Names::names))]
 fn scan_nfs_results<V: Visit>(
     proc_no: u32,
     input: &mut Input,
@@ -184,7 +184,7 @@ fn scan_nfs_results<V: Visit>(
 }
 
 /// Of CREATE, or a procedure after it.
-#[tactic(auto, using(xdr3::proofs::ScanLemmas::layouts))]
+#[tactic(auto, using(xdr3::proofs::ScanLemmas::layouts), unfolding(nfs3_types::specs::Names::names))]
 fn scan_nfs_results_from_create<V: Visit>(
     proc_no: u32,
     input: &mut Input,
@@ -208,7 +208,7 @@ fn scan_nfs_results_from_create<V: Visit>(
 }
 
 /// Of LINK, or a procedure after it.
-#[tactic(auto, using(xdr3::proofs::ScanLemmas::layouts))]
+#[tactic(auto, using(xdr3::proofs::ScanLemmas::layouts), unfolding(nfs3_types::specs::Names::names))]
 fn scan_nfs_results_from_link<V: Visit>(
     proc_no: u32,
     input: &mut Input,
@@ -232,7 +232,7 @@ fn scan_nfs_results_from_link<V: Visit>(
 }
 
 /// Of a procedure of MOUNT version 3 (RFC 1813, section 5.2).
-#[tactic(auto, using(xdr3::proofs::ScanLemmas::layouts))]
+#[tactic(auto, using(xdr3::proofs::ScanLemmas::layouts), unfolding(nfs3_types::specs::Names::names))]
 fn scan_mount_results<V: Visit>(
     proc_no: u32,
     input: &mut Input,
