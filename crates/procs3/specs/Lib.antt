@@ -10,3 +10,4 @@ pub mod Table
 pub mod Items
 pub mod Names
 pub mod Variants
+pub mod ShapeTails

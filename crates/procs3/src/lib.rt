@@ -10,6 +10,8 @@ pub mod laws;
 mod mounts;
 mod names;
 mod results;
+mod scan;
+mod scan_table;
 mod tagged;
 #[cfg(test)]
 mod tests;
@@ -29,3 +31,4 @@ pub use files::{
 pub use mounts::{DirPath, MountRes};
 pub use names::proc_name;
 pub use results::Results;
+pub use scan_table::{scan_arguments, scan_results};

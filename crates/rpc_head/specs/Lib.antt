@@ -8,3 +8,4 @@ pub mod Calls
 pub mod Replies
 pub mod Messages
 pub mod Examples
+pub mod HeadScan

@@ -119,7 +119,7 @@ impl<'a> Walk for AuthSys<'a> {
 
 /// What stands in the body of an AUTH_SYS credential.
 #[derive(Clone, Copy)]
-struct Parameters<'a>(AuthSys<'a>);
+pub(crate) struct Parameters<'a>(AuthSys<'a>);
 
 impl<'a> Xdr<'a> for Parameters<'a> {
     ghost use Rattle.rpc_head.specs.Shapes.{parameters};

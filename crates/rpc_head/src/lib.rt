@@ -7,6 +7,7 @@ pub mod examples;
 mod first_words;
 mod message;
 mod reply;
+mod scan;
 #[cfg(test)]
 mod tests;
 mod word;
@@ -16,3 +17,4 @@ pub use credential::{AuthSys, Cred, Gids, Verf};
 pub use first_words::start;
 pub use message::Start;
 pub use reply::{Accept, Deny, ReplyHead};
+pub use scan::{scan_call_head, scan_reply_head};

@@ -1,0 +1,31 @@
+-- Attributes by the ends of their shapes.
+use Rattle.std.proofs.Common.{◌≡◌, List, refl}
+use Rattle.xdr3.specs.declared.reason.GetError.{GetError}
+use Rattle.xdr3.specs.Item.{Item}
+use Rattle.xdr3.specs.Scan.{Scans, Stops}
+use Rattle.xdr3.specs.View.{View}
+use Rattle.nfs3_types.specs.AttributeTails.{attributes_from_fsid, attributes_from_size, attributes_from_type, attributes_from_uid, settable_times}
+use Rattle.nfs3_types.specs.Shapes.{attributes, ◌then◌, time_how}
+use Rattle.nfs3_types.specs.Names.{names}
+
+pub attributes_scanned : {V : Type 0} (stands : V → List Item → Type 0) (v0 v1 : View) (s0 s1 : V) → Scans stands attributes_from_type v0 v1 s0 s1 → Scans stands attributes v0 v1 s0 s1
+unfolding attributes_from_type attributes_from_uid attributes_from_size attributes_from_fsid attributes
+attributes_scanned stands v0 v1 s0 s1 h = h
+
+pub attributes_stop : (v0 : View) (error : GetError) → Stops attributes_from_type v0 error → Stops attributes v0 error
+unfolding attributes_from_type attributes_from_uid attributes_from_size attributes_from_fsid attributes
+attributes_stop v0 error h = h
+
+pub ruleset whole_attributes = (attributes_scanned, attributes_stop)
+
+pub settable_times_scanned : {V : Type 0} (stands : V → List Item → Type 0) (v0 v1 : View) (s0 s1 : V) → Scans stands settable_times v0 v1 s0 s1
+    → Scans stands (time_how names.set_atime names.atime_sec names.atime_nsec then time_how names.set_mtime names.mtime_sec names.mtime_nsec) v0 v1 s0 s1
+unfolding settable_times
+settable_times_scanned stands v0 v1 s0 s1 h = h
+
+pub settable_times_stop : (v0 : View) (error : GetError) → Stops settable_times v0 error
+    → Stops (time_how names.set_atime names.atime_sec names.atime_nsec then time_how names.set_mtime names.mtime_sec names.mtime_nsec) v0 error
+unfolding settable_times
+settable_times_stop v0 error h = h
+
+pub ruleset whole_settable = (settable_times_scanned, settable_times_stop)

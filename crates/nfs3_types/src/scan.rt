@@ -1,0 +1,439 @@
+// Parts that a visitor is told as they are read (RFC 1813, sections 2.5, 2.6 and 5).
+
+ghost use Rattle.std.specs.Prelude.{IfErr, OnOk};
+ghost use Rattle.nfs3_types.specs.AttributeTails.{attributes_from_fsid, attributes_from_size, attributes_from_type, attributes_from_uid, settable_times};
+ghost use Rattle.nfs3_types.specs.Shapes as shapes;
+ghost use Rattle.xdr3.specs.Item.{Text};
+ghost use Rattle.xdr3.specs.Scan.{Scans, Stops};
+ghost use Rattle.xdr3.specs.Shape.{opaque};
+
+use crate::attributes::{Fattr, PostOpAttr, Wcc, WccAttr};
+use crate::directory::{DirOp, PostOpFh};
+use crate::handle::Handle;
+use crate::mount3::{Export, Exports, Flavor, Group, MountList, MountOk, Mounted};
+use crate::settable::{Guard, Sattr};
+use crate::status::Res;
+use crate::void::Void;
+use xdr3::{
+    GetError, Input, Scan, Visit, scan_boolean, scan_counted, scan_handle, scan_hyper, scan_linked,
+    scan_listed, scan_optional, scan_text, scan_word,
+};
+
+impl Scan for Void {
+    ghost use Rattle.xdr3.specs.Shape.{nothing};
+
+    ghost shape = { nothing };
+
+    #[tactic(auto, using(xdr3::proofs::ScanLemmas::scans))]
+    fn scan<V: Visit>(input: &mut Input, _visitor: &mut V) -> Result<(), GetError> {
+        // The prover takes from this that the place is within the body.
+        input.at();
+        Ok(())
+    }
+}
+
+impl Scan for Handle {
+    ghost use Rattle.nfs3_types.specs.Shapes.{handle};
+
+    ghost shape = { handle };
+
+    #[inline]
+    #[tactic(auto, unfolding(crate::specs::Shapes::handle, crate::specs::Names::names))]
+    fn scan<V: Visit>(input: &mut Input, visitor: &mut V) -> Result<(), GetError> {
+        scan_handle("fh", input, visitor)
+    }
+}
+
+impl<'a> Scan for DirOp<'a> {
+    ghost use Rattle.nfs3_types.specs.Shapes.{dir_op};
+
+    ghost shape = { dir_op };
+
+    #[tactic(auto, using(xdr3::proofs::ScanLemmas::scans), unfolding(crate::specs::Shapes::dir_op, crate::specs::Names::names))]
+    fn scan<V: Visit>(input: &mut Input, visitor: &mut V) -> Result<(), GetError>
+        ensures ok { OnOk result (Scans V.stands dir_op input.old input.new visitor.old visitor.new) }
+        ensures err { IfErr result (λ error. Stops dir_op input.old error) }
+    {
+        Handle::scan(input, visitor)?;
+        scan_text("name", u32::MAX, input, visitor)
+    }
+}
+
+impl Scan for PostOpFh {
+    ghost use Rattle.nfs3_types.specs.Shapes.{post_op_fh};
+
+    ghost shape = { post_op_fh };
+
+    #[tactic(auto, unfolding(crate::specs::Shapes::post_op_fh, crate::specs::Names::names))]
+    fn scan<V: Visit>(input: &mut Input, visitor: &mut V) -> Result<(), GetError> {
+        scan_optional::<Handle, V>("handle", input, visitor)
+    }
+}
+
+// ---- times and attributes
+
+/// A time, an nfstime3 (RFC 1813, section 2.5). Its words are named after the time that it is.
+#[inline]
+#[tactic(auto, using(xdr3::proofs::ScanLemmas::scans), unfolding(crate::specs::Shapes::time))]
+pub fn scan_time<V: Visit>(
+    sec: &'static str,
+    nsec: &'static str,
+    input: &mut Input,
+    visitor: &mut V,
+) -> Result<(), GetError>
+    ensures ok { OnOk result (Scans V.stands (shapes.time sec.now nsec.now) input.old input.new
+        visitor.old visitor.new) }
+    ensures err { IfErr result (λ error. Stops (shapes.time sec.now nsec.now) input.old error) }
+{
+    scan_word(sec, input, visitor)?;
+    scan_word(nsec, input, visitor)?;
+    Ok(())
+}
+
+/// The three times of a file's attributes (RFC 1813, section 2.5).
+#[inline]
+#[tactic(auto, using(xdr3::proofs::ScanLemmas::scans), unfolding(crate::specs::Shapes::times, crate::specs::Names::names))]
+fn scan_times<V: Visit>(input: &mut Input, visitor: &mut V) -> Result<(), GetError>
+    ensures ok { OnOk result (Scans V.stands shapes.times input.old input.new visitor.old visitor.new) }
+    ensures err { IfErr result (λ error. Stops shapes.times input.old error) }
+{
+    scan_time("atime_sec", "atime_nsec", input, visitor)?;
+    scan_time("mtime_sec", "mtime_nsec", input, visitor)?;
+    scan_time("ctime_sec", "ctime_nsec", input, visitor)
+}
+
+impl Scan for Fattr {
+    ghost use Rattle.nfs3_types.specs.Shapes.{attributes};
+
+    ghost shape = { attributes };
+
+    #[tactic(auto, using(crate::proofs::AttributeTailLemmas::whole_attributes))]
+    fn scan<V: Visit>(input: &mut Input, visitor: &mut V) -> Result<(), GetError> {
+        scan_from_type(input, visitor)
+    }
+}
+
+/// All of a file's attributes. Four functions share them, since the prover follows five items in a row.
+#[inline]
+#[tactic(auto, using(xdr3::proofs::ScanLemmas::scans), unfolding(crate::specs::AttributeTails::attributes_from_type, crate::specs::Shapes::file_kind, crate::specs::Names::names))]
+fn scan_from_type<V: Visit>(input: &mut Input, visitor: &mut V) -> Result<(), GetError>
+    ensures ok { OnOk result (Scans V.stands attributes_from_type input.old input.new
+        visitor.old visitor.new) }
+    ensures err { IfErr result (λ error. Stops attributes_from_type input.old error) }
+{
+    scan_listed("type", &[1, 2, 3, 4, 5, 6, 7], input, visitor)?;
+    scan_word("mode", input, visitor)?;
+    scan_word("nlink", input, visitor)?;
+    scan_from_uid(input, visitor)
+}
+
+#[inline]
+#[tactic(auto, using(xdr3::proofs::ScanLemmas::scans), unfolding(crate::specs::AttributeTails::attributes_from_uid, crate::specs::Names::names))]
+fn scan_from_uid<V: Visit>(input: &mut Input, visitor: &mut V) -> Result<(), GetError>
+    ensures ok { OnOk result (Scans V.stands attributes_from_uid input.old input.new
+        visitor.old visitor.new) }
+    ensures err { IfErr result (λ error. Stops attributes_from_uid input.old error) }
+{
+    scan_word("uid", input, visitor)?;
+    scan_word("gid", input, visitor)?;
+    scan_from_size(input, visitor)
+}
+
+#[inline]
+#[tactic(auto, using(xdr3::proofs::ScanLemmas::scans), unfolding(crate::specs::AttributeTails::attributes_from_size, crate::specs::Names::names))]
+fn scan_from_size<V: Visit>(input: &mut Input, visitor: &mut V) -> Result<(), GetError>
+    ensures ok { OnOk result (Scans V.stands attributes_from_size input.old input.new
+        visitor.old visitor.new) }
+    ensures err { IfErr result (λ error. Stops attributes_from_size input.old error) }
+{
+    scan_hyper("size", input, visitor)?;
+    scan_hyper("used", input, visitor)?;
+    scan_word("rdev1", input, visitor)?;
+    scan_word("rdev2", input, visitor)?;
+    scan_from_fsid(input, visitor)
+}
+
+#[inline]
+#[tactic(auto, using(xdr3::proofs::ScanLemmas::scans), unfolding(crate::specs::AttributeTails::attributes_from_fsid, crate::specs::Names::names))]
+fn scan_from_fsid<V: Visit>(input: &mut Input, visitor: &mut V) -> Result<(), GetError>
+    ensures ok { OnOk result (Scans V.stands attributes_from_fsid input.old input.new
+        visitor.old visitor.new) }
+    ensures err { IfErr result (λ error. Stops attributes_from_fsid input.old error) }
+{
+    scan_hyper("fsid", input, visitor)?;
+    scan_hyper("fileid", input, visitor)?;
+    scan_times(input, visitor)
+}
+
+impl Scan for PostOpAttr {
+    ghost use Rattle.nfs3_types.specs.Shapes.{post_op_attr};
+
+    ghost shape = { post_op_attr };
+
+    #[tactic(auto, unfolding(crate::specs::Shapes::post_op_attr, crate::specs::Names::names))]
+    fn scan<V: Visit>(input: &mut Input, visitor: &mut V) -> Result<(), GetError> {
+        scan_optional::<Fattr, V>("attr", input, visitor)
+    }
+}
+
+impl Scan for WccAttr {
+    ghost use Rattle.nfs3_types.specs.Shapes.{wcc_attr};
+
+    ghost shape = { wcc_attr };
+
+    #[tactic(auto, using(xdr3::proofs::ScanLemmas::scans), unfolding(crate::specs::Shapes::wcc_attr, crate::specs::Names::names))]
+    fn scan<V: Visit>(input: &mut Input, visitor: &mut V) -> Result<(), GetError> {
+        scan_hyper("size", input, visitor)?;
+        scan_time("mtime_sec", "mtime_nsec", input, visitor)?;
+        scan_time("ctime_sec", "ctime_nsec", input, visitor)
+    }
+}
+
+impl Scan for Wcc {
+    ghost use Rattle.nfs3_types.specs.Shapes.{wcc};
+
+    ghost shape = { wcc };
+
+    #[tactic(auto, using(xdr3::proofs::ScanLemmas::scans), unfolding(crate::specs::Shapes::wcc, crate::specs::Names::names))]
+    fn scan<V: Visit>(input: &mut Input, visitor: &mut V) -> Result<(), GetError> {
+        scan_optional::<WccAttr, V>("before", input, visitor)?;
+        PostOpAttr::scan(input, visitor)
+    }
+}
+
+// ---- attributes that a caller sets
+
+/// A word that is set or not (RFC 1813, section 2.6).
+#[inline]
+#[tactic(auto, using(xdr3::proofs::ScanLemmas::scans), unfolding(crate::specs::Shapes::set_word, xdr3::specs::Shape::optional))]
+fn scan_set_word<V: Visit>(
+    set: &'static str,
+    name: &'static str,
+    input: &mut Input,
+    visitor: &mut V,
+) -> Result<(), GetError>
+    ensures ok { OnOk result (Scans V.stands (shapes.set_word set.now name.now) input.old input.new
+        visitor.old visitor.new) }
+    ensures err { IfErr result (λ error. Stops (shapes.set_word set.now name.now) input.old error) }
+{
+    if scan_boolean(set, input, visitor)? {
+        scan_word(name, input, visitor)?;
+    }
+    Ok(())
+}
+
+/// A number of eight bytes that is set or not (RFC 1813, section 2.6).
+#[inline]
+#[tactic(auto, using(xdr3::proofs::ScanLemmas::scans), unfolding(crate::specs::Shapes::set_hyper, xdr3::specs::Shape::optional))]
+fn scan_set_hyper<V: Visit>(
+    set: &'static str,
+    name: &'static str,
+    input: &mut Input,
+    visitor: &mut V,
+) -> Result<(), GetError>
+    ensures ok { OnOk result (Scans V.stands (shapes.set_hyper set.now name.now) input.old input.new
+        visitor.old visitor.new) }
+    ensures err { IfErr result (λ error. Stops (shapes.set_hyper set.now name.now) input.old error) }
+{
+    if scan_boolean(set, input, visitor)? {
+        scan_hyper(name, input, visitor)
+    } else {
+        Ok(())
+    }
+}
+
+/// How a time is set, and on 2 the time (RFC 1813, section 2.6).
+#[inline]
+#[tactic(auto, using(xdr3::proofs::ScanLemmas::scans), unfolding(crate::specs::Shapes::time_how))]
+fn scan_time_how<V: Visit>(
+    how: &'static str,
+    sec: &'static str,
+    nsec: &'static str,
+    input: &mut Input,
+    visitor: &mut V,
+) -> Result<(), GetError>
+    ensures ok { OnOk result (Scans V.stands (shapes.time_how how.now sec.now nsec.now) input.old input.new
+        visitor.old visitor.new) }
+    ensures err { IfErr result (λ error. Stops (shapes.time_how how.now sec.now nsec.now) input.old error) }
+{
+    if scan_listed(how, &[0, 1, 2], input, visitor)? == 2 {
+        scan_time(sec, nsec, input, visitor)
+    } else {
+        Ok(())
+    }
+}
+
+impl Scan for Sattr {
+    ghost use Rattle.nfs3_types.specs.Shapes.{settable};
+
+    ghost shape = { settable };
+
+    #[tactic(auto, using(xdr3::proofs::ScanLemmas::scans, crate::proofs::AttributeTailLemmas::whole_settable), unfolding(crate::specs::Shapes::settable, crate::specs::Names::names))]
+    fn scan<V: Visit>(input: &mut Input, visitor: &mut V) -> Result<(), GetError> {
+        scan_set_word("set_mode", "mode", input, visitor)?;
+        scan_set_word("set_uid", "uid", input, visitor)?;
+        scan_set_word("set_gid", "gid", input, visitor)?;
+        scan_set_hyper("set_size", "size", input, visitor)?;
+        scan_settable_times(input, visitor)
+    }
+}
+
+#[inline]
+#[tactic(auto, using(xdr3::proofs::ScanLemmas::scans), unfolding(crate::specs::AttributeTails::settable_times, crate::specs::Names::names))]
+fn scan_settable_times<V: Visit>(input: &mut Input, visitor: &mut V) -> Result<(), GetError>
+    ensures ok { OnOk result (Scans V.stands settable_times input.old input.new visitor.old visitor.new) }
+    ensures err { IfErr result (λ error. Stops settable_times input.old error) }
+{
+    scan_time_how("set_atime", "atime_sec", "atime_nsec", input, visitor)?;
+    scan_time_how("set_mtime", "mtime_sec", "mtime_nsec", input, visitor)
+}
+
+impl Scan for Guard {
+    ghost use Rattle.nfs3_types.specs.Shapes.{guard};
+
+    ghost shape = { guard };
+
+    #[tactic(auto, using(xdr3::proofs::ScanLemmas::scans), unfolding(crate::specs::Shapes::guard, xdr3::specs::Shape::optional, crate::specs::Names::names))]
+    fn scan<V: Visit>(input: &mut Input, visitor: &mut V) -> Result<(), GetError> {
+        if scan_boolean("check", input, visitor)? {
+            scan_time("ctime_sec", "ctime_nsec", input, visitor)
+        } else {
+            Ok(())
+        }
+    }
+}
+
+// ---- results
+
+const STATUSES: [u32; 29] = [
+    0, 1, 2, 5, 6, 13, 17, 18, 19, 20, 21, 22, 27, 28, 30, 31, 63, 66, 69, 70, 71, 10_001, 10_002,
+    10_003, 10_004, 10_005, 10_006, 10_007, 10_008,
+];
+
+impl<T: Scan, F: Scan> Scan for Res<T, F> {
+    ghost use Rattle.nfs3_types.specs.Shapes.{results};
+
+    ghost shape = { results T.shape F.shape };
+
+    #[tactic(auto, using(xdr3::proofs::ScanLemmas::scans), unfolding(crate::specs::Shapes::results, crate::specs::Names::names))]
+    fn scan<V: Visit>(input: &mut Input, visitor: &mut V) -> Result<(), GetError> {
+        if scan_listed("status", &STATUSES, input, visitor)? == 0 {
+            T::scan(input, visitor)
+        } else {
+            F::scan(input, visitor)
+        }
+    }
+}
+
+// ---- MOUNT version 3
+
+/// A path of at most 1,024 bytes (RFC 1813, section 5.1.2).
+#[inline]
+pub fn scan_path<V: Visit>(
+    name: &'static str,
+    input: &mut Input,
+    visitor: &mut V,
+) -> Result<(), GetError>
+    ensures ok { OnOk result (Scans V.stands (opaque Text name.now 1024) input.old input.new
+        visitor.old visitor.new) }
+    ensures err { IfErr result (λ error. Stops (opaque Text name.now 1024) input.old error) }
+{
+    scan_text(name, 1024, input, visitor)
+}
+
+impl Scan for Flavor {
+    ghost use Rattle.nfs3_types.specs.Shapes.{flavor};
+
+    ghost shape = { flavor };
+
+    #[inline]
+    #[tactic(auto, using(xdr3::proofs::ScanLemmas::scans), unfolding(crate::specs::Shapes::flavor, crate::specs::Names::names))]
+    fn scan<V: Visit>(input: &mut Input, visitor: &mut V) -> Result<(), GetError> {
+        scan_word("flavor", input, visitor)?;
+        Ok(())
+    }
+}
+
+impl Scan for MountOk {
+    ghost use Rattle.nfs3_types.specs.Shapes.{mount_ok};
+
+    ghost shape = { mount_ok };
+
+    #[tactic(auto, using(xdr3::proofs::ScanLemmas::scans), unfolding(crate::specs::Shapes::mount_ok, crate::specs::Names::names))]
+    fn scan<V: Visit>(input: &mut Input, visitor: &mut V) -> Result<(), GetError> {
+        Handle::scan(input, visitor)?;
+        scan_counted::<Flavor, V>("flavors", u32::MAX, input, visitor)
+    }
+}
+
+impl<'a> Scan for Mounted<'a> {
+    ghost use Rattle.nfs3_types.specs.Shapes.{mounted};
+
+    ghost shape = { mounted };
+
+    #[tactic(auto, using(xdr3::proofs::ScanLemmas::scans), unfolding(crate::specs::Shapes::mounted, crate::specs::Names::names))]
+    fn scan<V: Visit>(input: &mut Input, visitor: &mut V) -> Result<(), GetError>
+        ensures ok { OnOk result (Scans V.stands mounted input.old input.new visitor.old visitor.new) }
+        ensures err { IfErr result (λ error. Stops mounted input.old error) }
+    {
+        scan_text("hostname", 255, input, visitor)?;
+        scan_path("directory", input, visitor)
+    }
+}
+
+impl<'a> Scan for MountList<'a> {
+    ghost use Rattle.nfs3_types.specs.Shapes.{mount_list};
+
+    ghost shape = { mount_list };
+
+    #[tactic(auto, unfolding(crate::specs::Shapes::mount_list, crate::specs::Names::names))]
+    fn scan<V: Visit>(input: &mut Input, visitor: &mut V) -> Result<(), GetError>
+        ensures ok { OnOk result (Scans V.stands mount_list input.old input.new visitor.old visitor.new) }
+        ensures err { IfErr result (λ error. Stops mount_list input.old error) }
+    {
+        scan_linked::<Mounted, V>("entry", input, visitor)
+    }
+}
+
+impl<'a> Scan for Group<'a> {
+    ghost use Rattle.nfs3_types.specs.Shapes.{group};
+
+    ghost shape = { group };
+
+    #[tactic(auto, unfolding(crate::specs::Shapes::group, crate::specs::Names::names))]
+    fn scan<V: Visit>(input: &mut Input, visitor: &mut V) -> Result<(), GetError>
+        ensures ok { OnOk result (Scans V.stands group input.old input.new visitor.old visitor.new) }
+        ensures err { IfErr result (λ error. Stops group input.old error) }
+    {
+        scan_text("name", 255, input, visitor)
+    }
+}
+
+impl<'a> Scan for Export<'a> {
+    ghost use Rattle.nfs3_types.specs.Shapes.{export};
+
+    ghost shape = { export };
+
+    #[tactic(auto, using(xdr3::proofs::ScanLemmas::scans), unfolding(crate::specs::Shapes::export, crate::specs::Names::names))]
+    fn scan<V: Visit>(input: &mut Input, visitor: &mut V) -> Result<(), GetError>
+        ensures ok { OnOk result (Scans V.stands export input.old input.new visitor.old visitor.new) }
+        ensures err { IfErr result (λ error. Stops export input.old error) }
+    {
+        scan_path("directory", input, visitor)?;
+        scan_linked::<Group, V>("group", input, visitor)
+    }
+}
+
+impl<'a> Scan for Exports<'a> {
+    ghost use Rattle.nfs3_types.specs.Shapes.{exports};
+
+    ghost shape = { exports };
+
+    #[tactic(auto, unfolding(crate::specs::Shapes::exports, crate::specs::Names::names))]
+    fn scan<V: Visit>(input: &mut Input, visitor: &mut V) -> Result<(), GetError>
+        ensures ok { OnOk result (Scans V.stands exports input.old input.new visitor.old visitor.new) }
+        ensures err { IfErr result (λ error. Stops exports input.old error) }
+    {
+        scan_linked::<Export, V>("entry", input, visitor)
+    }
+}

@@ -1,0 +1,45 @@
+-- Ends of long shapes, for the functions that share them.
+use Rattle.xdr3.specs.Item.{Var}
+use Rattle.xdr3.specs.Shape.{Shape, boolean, hyper, listed, opaque, word}
+use Rattle.nfs3_types.specs.Names.{names}
+use Rattle.nfs3_types.specs.Shapes.{◌then◌, handle, no_maximum, post_op_attr, time}
+use Rattle.nfs3_types.specs.Stable.{stable_words}
+
+unfoldable pub written : Shape
+written = listed names.stable stable_words then opaque Var names.«data» no_maximum
+
+unfoldable pub write_parts : Shape
+write_parts = handle then hyper names.offset then word names.count then written
+
+unfoldable pub directory_counts : Shape
+directory_counts = word names.dircount then word names.maxcount
+
+unfoldable pub fsstat_files : Shape
+fsstat_files = hyper names.tfiles then hyper names.ffiles then hyper names.afiles then word names.invarsec
+
+unfoldable pub fsstat_bytes : Shape
+fsstat_bytes = hyper names.tbytes then hyper names.fbytes then hyper names.abytes then fsstat_files
+
+unfoldable pub fsstat_parts : Shape
+fsstat_parts = post_op_attr then fsstat_bytes
+
+unfoldable pub fsinfo_limits : Shape
+fsinfo_limits = word names.dtpref then hyper names.maxfilesize then time names.delta_sec names.delta_nsec then word names.properties
+
+unfoldable pub fsinfo_writes : Shape
+fsinfo_writes = word names.wtmax then word names.wtpref then word names.wtmult then fsinfo_limits
+
+unfoldable pub fsinfo_reads : Shape
+fsinfo_reads = word names.rtmax then word names.rtpref then word names.rtmult then fsinfo_writes
+
+unfoldable pub fsinfo_parts : Shape
+fsinfo_parts = post_op_attr then fsinfo_reads
+
+unfoldable pub pathconf_names : Shape
+pathconf_names = boolean names.no_trunc then boolean names.chown_restricted then boolean names.case_insensitive then boolean names.case_preserving
+
+unfoldable pub pathconf_limits : Shape
+pathconf_limits = word names.linkmax then word names.name_max then pathconf_names
+
+unfoldable pub pathconf_parts : Shape
+pathconf_parts = post_op_attr then pathconf_limits

@@ -1,0 +1,764 @@
+// Arguments and results that a visitor is told as they are read (RFC 1813, sections 3.3 and 5.2).
+
+ghost use Rattle.std.specs.Prelude.{IfErr, IfOk, OnOk};
+ghost use Rattle.nfs3_types.specs.Names.{names};
+ghost use Rattle.nfs3_types.specs.Shapes.{time};
+ghost use Rattle.nfs3_types.specs.Stable.{stable_words};
+ghost use Rattle.procs3.specs.ShapeTails.{directory_counts, fsinfo_limits, fsinfo_parts, fsinfo_reads, fsinfo_writes, fsstat_bytes, fsstat_files, fsstat_parts, pathconf_limits, pathconf_names, pathconf_parts, write_parts, written};
+ghost use Rattle.xdr3.specs.Scan.{Scans, ScansWord, Stops, StopsWord};
+ghost use Rattle.xdr3.specs.Shape.{boolean, fixed, hyper, is_listed, word};
+
+use crate::creation::{
+    CreateArgs, CreateHow, CreateOk, Device, MkDirArgs, MkNodArgs, MkNodWhat, SymLinkArgs,
+};
+use crate::directories::{
+    Entry, EntryPlus, LinkArgs, LinkWcc, LookupOk, ReadDirArgs, ReadDirOk, ReadDirPlusArgs,
+    ReadDirPlusOk, RenameArgs, RenameWcc,
+};
+use crate::file_system::{FsInfoOk, FsStatOk, PathConfOk};
+use crate::files::{
+    AccessArgs, AccessOk, CommitOk, FileRange, ReadLinkOk, ReadOk, SetAttrArgs, WriteArgs, WriteOk,
+};
+use crate::mounts::{DirPath, MountRes};
+use nfs3_types::mount3::MountOk;
+use nfs3_types::{DirOp, Guard, Handle, PostOpAttr, PostOpFh, Sattr, Wcc, scan_path, scan_time};
+use xdr3::{
+    GetError, Input, Reason, Scan, Visit, scan_boolean, scan_fixed, scan_hyper, scan_linked,
+    scan_listed, scan_text, scan_var, scan_word, scan_write_verf,
+};
+
+// ---- items with long names: the prover follows a function's name, and not so many letters
+
+#[inline]
+#[tactic(auto, using(xdr3::proofs::ScanLemmas::scans), unfolding(nfs3_types::specs::Names::names))]
+fn scan_createverf<V: Visit>(input: &mut Input, visitor: &mut V) -> Result<(), GetError>
+    ensures ok { OnOk result (Scans V.stands (fixed names.createverf) input.old input.new visitor.old visitor.new) }
+    ensures err { IfErr result (λ error. Stops (fixed names.createverf) input.old error) }
+{
+    scan_fixed("createverf", input, visitor)
+}
+
+#[inline]
+#[tactic(auto, using(xdr3::proofs::ScanLemmas::scans), unfolding(nfs3_types::specs::Names::names))]
+fn scan_cookieverf<V: Visit>(input: &mut Input, visitor: &mut V) -> Result<(), GetError>
+    ensures ok { OnOk result (Scans V.stands (fixed names.cookieverf) input.old input.new visitor.old visitor.new) }
+    ensures err { IfErr result (λ error. Stops (fixed names.cookieverf) input.old error) }
+{
+    scan_fixed("cookieverf", input, visitor)
+}
+
+#[inline]
+#[tactic(auto, using(xdr3::proofs::ScanLemmas::scans), unfolding(nfs3_types::specs::Names::names))]
+fn scan_maxfilesize<V: Visit>(input: &mut Input, visitor: &mut V) -> Result<(), GetError>
+    ensures ok { OnOk result (Scans V.stands (hyper names.maxfilesize) input.old input.new visitor.old visitor.new) }
+    ensures err { IfErr result (λ error. Stops (hyper names.maxfilesize) input.old error) }
+{
+    scan_hyper("maxfilesize", input, visitor)
+}
+
+#[inline]
+#[tactic(auto, using(xdr3::proofs::ScanLemmas::scans), unfolding(nfs3_types::specs::Names::names))]
+fn scan_delta<V: Visit>(input: &mut Input, visitor: &mut V) -> Result<(), GetError>
+    ensures ok { OnOk result (Scans V.stands (time names.delta_sec names.delta_nsec) input.old input.new visitor.old visitor.new) }
+    ensures err { IfErr result (λ error. Stops (time names.delta_sec names.delta_nsec) input.old error) }
+{
+    scan_time("delta_sec", "delta_nsec", input, visitor)
+}
+
+#[inline]
+#[tactic(auto, using(xdr3::proofs::ScanLemmas::scans), unfolding(nfs3_types::specs::Names::names))]
+fn scan_invarsec<V: Visit>(input: &mut Input, visitor: &mut V) -> Result<(), GetError>
+    ensures ok { OnOk result (Scans V.stands (word names.invarsec) input.old input.new visitor.old visitor.new) }
+    ensures err { IfErr result (λ error. Stops (word names.invarsec) input.old error) }
+{
+    scan_word("invarsec", input, visitor)?;
+    Ok(())
+}
+
+#[inline]
+#[tactic(auto, using(xdr3::proofs::ScanLemmas::scans), unfolding(nfs3_types::specs::Names::names))]
+fn scan_name_max<V: Visit>(input: &mut Input, visitor: &mut V) -> Result<(), GetError>
+    ensures ok { OnOk result (Scans V.stands (word names.name_max) input.old input.new visitor.old visitor.new) }
+    ensures err { IfErr result (λ error. Stops (word names.name_max) input.old error) }
+{
+    scan_word("name_max", input, visitor)?;
+    Ok(())
+}
+
+#[inline]
+#[tactic(auto, using(xdr3::proofs::ScanLemmas::scans), unfolding(nfs3_types::specs::Names::names))]
+fn scan_properties<V: Visit>(input: &mut Input, visitor: &mut V) -> Result<(), GetError>
+    ensures ok { OnOk result (Scans V.stands (word names.properties) input.old input.new visitor.old visitor.new) }
+    ensures err { IfErr result (λ error. Stops (word names.properties) input.old error) }
+{
+    scan_word("properties", input, visitor)?;
+    Ok(())
+}
+
+#[inline]
+#[tactic(auto, using(xdr3::proofs::ScanLemmas::scans), unfolding(nfs3_types::specs::Names::names))]
+fn scan_chown_restricted<V: Visit>(input: &mut Input, visitor: &mut V) -> Result<(), GetError>
+    ensures ok { OnOk result (Scans V.stands (boolean names.chown_restricted) input.old input.new visitor.old visitor.new) }
+    ensures err { IfErr result (λ error. Stops (boolean names.chown_restricted) input.old error) }
+{
+    scan_boolean("chown_restricted", input, visitor)?;
+    Ok(())
+}
+
+#[inline]
+#[tactic(auto, using(xdr3::proofs::ScanLemmas::scans), unfolding(nfs3_types::specs::Names::names))]
+fn scan_case_insensitive<V: Visit>(input: &mut Input, visitor: &mut V) -> Result<(), GetError>
+    ensures ok { OnOk result (Scans V.stands (boolean names.case_insensitive) input.old input.new visitor.old visitor.new) }
+    ensures err { IfErr result (λ error. Stops (boolean names.case_insensitive) input.old error) }
+{
+    scan_boolean("case_insensitive", input, visitor)?;
+    Ok(())
+}
+
+#[inline]
+#[tactic(auto, using(xdr3::proofs::ScanLemmas::scans), unfolding(nfs3_types::specs::Names::names))]
+fn scan_case_preserving<V: Visit>(input: &mut Input, visitor: &mut V) -> Result<(), GetError>
+    ensures ok { OnOk result (Scans V.stands (boolean names.case_preserving) input.old input.new visitor.old visitor.new) }
+    ensures err { IfErr result (λ error. Stops (boolean names.case_preserving) input.old error) }
+{
+    scan_boolean("case_preserving", input, visitor)?;
+    Ok(())
+}
+
+#[inline]
+#[tactic(auto, unfolding(nfs3_types::specs::Names::names))]
+fn scan_committed<V: Visit>(input: &mut Input, visitor: &mut V) -> Result<u32, GetError>
+    ensures ok { IfOk result (λ n. ScansWord V.stands names.committed (is_listed stable_words) Reason.BadEnum n
+        input.old input.new visitor.old visitor.new) }
+    ensures err { IfErr result (λ error. StopsWord (is_listed stable_words) Reason.BadEnum input.old error) }
+{
+    scan_listed("committed", &[0, 1, 2], input, visitor)
+}
+
+// ---- files (RFC 1813, sections 3.3.2 to 3.3.7 and 3.3.21)
+
+impl Scan for SetAttrArgs {
+    ghost use Rattle.procs3.specs.Shapes.{setattr_args};
+
+    ghost shape = { setattr_args };
+
+    #[tactic(auto, using(xdr3::proofs::ScanLemmas::scans), unfolding(crate::specs::Shapes::setattr_args, nfs3_types::specs::Names::names))]
+    fn scan<V: Visit>(input: &mut Input, visitor: &mut V) -> Result<(), GetError> {
+        Handle::scan(input, visitor)?;
+        Sattr::scan(input, visitor)?;
+        Guard::scan(input, visitor)
+    }
+}
+
+impl Scan for AccessArgs {
+    ghost use Rattle.procs3.specs.Shapes.{access_args};
+
+    ghost shape = { access_args };
+
+    #[tactic(auto, using(xdr3::proofs::ScanLemmas::scans), unfolding(crate::specs::Shapes::access_args, nfs3_types::specs::Names::names))]
+    fn scan<V: Visit>(input: &mut Input, visitor: &mut V) -> Result<(), GetError> {
+        Handle::scan(input, visitor)?;
+        scan_word("access", input, visitor)?;
+        Ok(())
+    }
+}
+
+impl Scan for AccessOk {
+    ghost use Rattle.procs3.specs.Shapes.{access_ok};
+
+    ghost shape = { access_ok };
+
+    #[tactic(auto, using(xdr3::proofs::ScanLemmas::scans), unfolding(crate::specs::Shapes::access_ok, nfs3_types::specs::Names::names))]
+    fn scan<V: Visit>(input: &mut Input, visitor: &mut V) -> Result<(), GetError> {
+        PostOpAttr::scan(input, visitor)?;
+        scan_word("access", input, visitor)?;
+        Ok(())
+    }
+}
+
+impl<'a> Scan for ReadLinkOk<'a> {
+    ghost use Rattle.procs3.specs.Shapes.{readlink_ok};
+
+    ghost shape = { readlink_ok };
+
+    #[tactic(auto, using(xdr3::proofs::ScanLemmas::scans), unfolding(crate::specs::Shapes::readlink_ok, nfs3_types::specs::Names::names))]
+    fn scan<V: Visit>(input: &mut Input, visitor: &mut V) -> Result<(), GetError>
+        ensures ok { OnOk result (Scans V.stands readlink_ok input.old input.new visitor.old visitor.new) }
+        ensures err { IfErr result (λ error. Stops readlink_ok input.old error) }
+    {
+        PostOpAttr::scan(input, visitor)?;
+        scan_text("path", u32::MAX, input, visitor)
+    }
+}
+
+impl Scan for FileRange {
+    ghost use Rattle.procs3.specs.Shapes.{file_range};
+
+    ghost shape = { file_range };
+
+    #[tactic(auto, using(xdr3::proofs::ScanLemmas::scans), unfolding(crate::specs::Shapes::file_range, nfs3_types::specs::Names::names))]
+    fn scan<V: Visit>(input: &mut Input, visitor: &mut V) -> Result<(), GetError> {
+        Handle::scan(input, visitor)?;
+        scan_hyper("offset", input, visitor)?;
+        scan_word("count", input, visitor)?;
+        Ok(())
+    }
+}
+
+impl<'a> Scan for ReadOk<'a> {
+    ghost use Rattle.procs3.specs.Shapes.{read_ok};
+
+    ghost shape = { read_ok };
+
+    #[tactic(auto, using(xdr3::proofs::ScanLemmas::scans), unfolding(crate::specs::Shapes::read_ok, nfs3_types::specs::Names::names))]
+    fn scan<V: Visit>(input: &mut Input, visitor: &mut V) -> Result<(), GetError>
+        ensures ok { OnOk result (Scans V.stands read_ok input.old input.new visitor.old visitor.new) }
+        ensures err { IfErr result (λ error. Stops read_ok input.old error) }
+    {
+        PostOpAttr::scan(input, visitor)?;
+        scan_word("count", input, visitor)?;
+        scan_boolean("eof", input, visitor)?;
+        scan_var("data", u32::MAX, input, visitor)
+    }
+}
+
+impl<'a> Scan for WriteArgs<'a> {
+    ghost use Rattle.procs3.specs.Shapes.{write_args};
+
+    ghost shape = { write_args };
+
+    #[tactic(auto, using(crate::proofs::ShapeTailLemmas::wholes))]
+    fn scan<V: Visit>(input: &mut Input, visitor: &mut V) -> Result<(), GetError>
+        ensures ok { OnOk result (Scans V.stands write_args input.old input.new visitor.old visitor.new) }
+        ensures err { IfErr result (λ error. Stops write_args input.old error) }
+    {
+        scan_write_parts(input, visitor)
+    }
+}
+
+#[inline]
+#[tactic(auto, using(xdr3::proofs::ScanLemmas::scans), unfolding(crate::specs::ShapeTails::write_parts, nfs3_types::specs::Names::names))]
+fn scan_write_parts<V: Visit>(input: &mut Input, visitor: &mut V) -> Result<(), GetError>
+    ensures ok { OnOk result (Scans V.stands write_parts input.old input.new visitor.old visitor.new) }
+    ensures err { IfErr result (λ error. Stops write_parts input.old error) }
+{
+    Handle::scan(input, visitor)?;
+    scan_hyper("offset", input, visitor)?;
+    scan_word("count", input, visitor)?;
+    scan_written(input, visitor)
+}
+
+#[inline]
+#[tactic(auto, using(xdr3::proofs::ScanLemmas::scans), unfolding(crate::specs::ShapeTails::written, nfs3_types::specs::Names::names))]
+fn scan_written<V: Visit>(input: &mut Input, visitor: &mut V) -> Result<(), GetError>
+    ensures ok { OnOk result (Scans V.stands written input.old input.new visitor.old visitor.new) }
+    ensures err { IfErr result (λ error. Stops written input.old error) }
+{
+    scan_listed("stable", &[0, 1, 2], input, visitor)?;
+    scan_var("data", u32::MAX, input, visitor)
+}
+
+impl Scan for WriteOk {
+    ghost use Rattle.procs3.specs.Shapes.{write_ok};
+
+    ghost shape = { write_ok };
+
+    #[tactic(auto, using(xdr3::proofs::ScanLemmas::scans), unfolding(crate::specs::Shapes::write_ok, nfs3_types::specs::Names::names))]
+    fn scan<V: Visit>(input: &mut Input, visitor: &mut V) -> Result<(), GetError> {
+        Wcc::scan(input, visitor)?;
+        scan_word("count", input, visitor)?;
+        scan_committed(input, visitor)?;
+        scan_write_verf("verf", input, visitor)
+    }
+}
+
+impl Scan for CommitOk {
+    ghost use Rattle.procs3.specs.Shapes.{commit_ok};
+
+    ghost shape = { commit_ok };
+
+    #[tactic(auto, using(xdr3::proofs::ScanLemmas::scans), unfolding(crate::specs::Shapes::commit_ok, nfs3_types::specs::Names::names))]
+    fn scan<V: Visit>(input: &mut Input, visitor: &mut V) -> Result<(), GetError> {
+        Wcc::scan(input, visitor)?;
+        scan_write_verf("verf", input, visitor)
+    }
+}
+
+// ---- creation (RFC 1813, sections 3.3.8 to 3.3.11)
+
+impl Scan for CreateHow {
+    ghost use Rattle.procs3.specs.Shapes.{create_how};
+
+    ghost shape = { create_how };
+
+    #[tactic(auto, using(xdr3::proofs::ScanLemmas::scans), unfolding(crate::specs::Shapes::create_how, nfs3_types::specs::Names::names))]
+    fn scan<V: Visit>(input: &mut Input, visitor: &mut V) -> Result<(), GetError> {
+        if scan_listed("how", &[0, 1, 2], input, visitor)? == 2 {
+            scan_createverf(input, visitor)
+        } else {
+            Sattr::scan(input, visitor)
+        }
+    }
+}
+
+impl<'a> Scan for CreateArgs<'a> {
+    ghost use Rattle.procs3.specs.Shapes.{create_args};
+
+    ghost shape = { create_args };
+
+    #[tactic(auto, using(xdr3::proofs::ScanLemmas::scans), unfolding(crate::specs::Shapes::create_args, nfs3_types::specs::Names::names))]
+    fn scan<V: Visit>(input: &mut Input, visitor: &mut V) -> Result<(), GetError>
+        ensures ok { OnOk result (Scans V.stands create_args input.old input.new visitor.old visitor.new) }
+        ensures err { IfErr result (λ error. Stops create_args input.old error) }
+    {
+        DirOp::scan(input, visitor)?;
+        CreateHow::scan(input, visitor)
+    }
+}
+
+impl<'a> Scan for MkDirArgs<'a> {
+    ghost use Rattle.procs3.specs.Shapes.{mkdir_args};
+
+    ghost shape = { mkdir_args };
+
+    #[tactic(auto, using(xdr3::proofs::ScanLemmas::scans), unfolding(crate::specs::Shapes::mkdir_args, nfs3_types::specs::Names::names))]
+    fn scan<V: Visit>(input: &mut Input, visitor: &mut V) -> Result<(), GetError>
+        ensures ok { OnOk result (Scans V.stands mkdir_args input.old input.new visitor.old visitor.new) }
+        ensures err { IfErr result (λ error. Stops mkdir_args input.old error) }
+    {
+        DirOp::scan(input, visitor)?;
+        Sattr::scan(input, visitor)
+    }
+}
+
+impl<'a> Scan for SymLinkArgs<'a> {
+    ghost use Rattle.procs3.specs.Shapes.{symlink_args};
+
+    ghost shape = { symlink_args };
+
+    #[tactic(auto, using(xdr3::proofs::ScanLemmas::scans), unfolding(crate::specs::Shapes::symlink_args, nfs3_types::specs::Names::names))]
+    fn scan<V: Visit>(input: &mut Input, visitor: &mut V) -> Result<(), GetError>
+        ensures ok { OnOk result (Scans V.stands symlink_args input.old input.new visitor.old visitor.new) }
+        ensures err { IfErr result (λ error. Stops symlink_args input.old error) }
+    {
+        DirOp::scan(input, visitor)?;
+        Sattr::scan(input, visitor)?;
+        scan_text("path", u32::MAX, input, visitor)
+    }
+}
+
+impl Scan for Device {
+    ghost use Rattle.procs3.specs.Shapes.{device};
+
+    ghost shape = { device };
+
+    #[tactic(auto, using(xdr3::proofs::ScanLemmas::scans), unfolding(crate::specs::Shapes::device, nfs3_types::specs::Names::names))]
+    fn scan<V: Visit>(input: &mut Input, visitor: &mut V) -> Result<(), GetError> {
+        Sattr::scan(input, visitor)?;
+        scan_word("spec1", input, visitor)?;
+        scan_word("spec2", input, visitor)?;
+        Ok(())
+    }
+}
+
+impl Scan for MkNodWhat {
+    ghost use Rattle.procs3.specs.Shapes.{mknod_what};
+
+    ghost shape = { mknod_what };
+
+    #[tactic(auto, using(xdr3::proofs::ScanLemmas::scans), unfolding(crate::specs::Shapes::mknod_what, nfs3_types::specs::Names::names))]
+    fn scan<V: Visit>(input: &mut Input, visitor: &mut V) -> Result<(), GetError> {
+        match scan_listed("type", &[1, 2, 3, 4, 5, 6, 7], input, visitor)? {
+            3 | 4 => Device::scan(input, visitor),
+            6 | 7 => Sattr::scan(input, visitor),
+            _ => Ok(()),
+        }
+    }
+}
+
+impl<'a> Scan for MkNodArgs<'a> {
+    ghost use Rattle.procs3.specs.Shapes.{mknod_args};
+
+    ghost shape = { mknod_args };
+
+    #[tactic(auto, using(xdr3::proofs::ScanLemmas::scans), unfolding(crate::specs::Shapes::mknod_args, nfs3_types::specs::Names::names))]
+    fn scan<V: Visit>(input: &mut Input, visitor: &mut V) -> Result<(), GetError>
+        ensures ok { OnOk result (Scans V.stands mknod_args input.old input.new visitor.old visitor.new) }
+        ensures err { IfErr result (λ error. Stops mknod_args input.old error) }
+    {
+        DirOp::scan(input, visitor)?;
+        MkNodWhat::scan(input, visitor)
+    }
+}
+
+impl Scan for CreateOk {
+    ghost use Rattle.procs3.specs.Shapes.{create_ok};
+
+    ghost shape = { create_ok };
+
+    #[tactic(auto, using(xdr3::proofs::ScanLemmas::scans), unfolding(crate::specs::Shapes::create_ok, nfs3_types::specs::Names::names))]
+    fn scan<V: Visit>(input: &mut Input, visitor: &mut V) -> Result<(), GetError> {
+        PostOpFh::scan(input, visitor)?;
+        PostOpAttr::scan(input, visitor)?;
+        Wcc::scan(input, visitor)
+    }
+}
+
+// ---- directories (RFC 1813, sections 3.3.3 and 3.3.14 to 3.3.17)
+
+impl Scan for LookupOk {
+    ghost use Rattle.procs3.specs.Shapes.{lookup_ok};
+
+    ghost shape = { lookup_ok };
+
+    #[tactic(auto, using(xdr3::proofs::ScanLemmas::scans), unfolding(crate::specs::Shapes::lookup_ok, nfs3_types::specs::Names::names))]
+    fn scan<V: Visit>(input: &mut Input, visitor: &mut V) -> Result<(), GetError> {
+        Handle::scan(input, visitor)?;
+        PostOpAttr::scan(input, visitor)?;
+        PostOpAttr::scan(input, visitor)
+    }
+}
+
+impl<'a> Scan for RenameArgs<'a> {
+    ghost use Rattle.procs3.specs.Shapes.{rename_args};
+
+    ghost shape = { rename_args };
+
+    #[tactic(auto, using(xdr3::proofs::ScanLemmas::scans), unfolding(crate::specs::Shapes::rename_args, nfs3_types::specs::Names::names))]
+    fn scan<V: Visit>(input: &mut Input, visitor: &mut V) -> Result<(), GetError>
+        ensures ok { OnOk result (Scans V.stands rename_args input.old input.new visitor.old visitor.new) }
+        ensures err { IfErr result (λ error. Stops rename_args input.old error) }
+    {
+        DirOp::scan(input, visitor)?;
+        DirOp::scan(input, visitor)
+    }
+}
+
+impl Scan for RenameWcc {
+    ghost use Rattle.procs3.specs.Shapes.{rename_wcc};
+
+    ghost shape = { rename_wcc };
+
+    #[tactic(auto, using(xdr3::proofs::ScanLemmas::scans), unfolding(crate::specs::Shapes::rename_wcc, nfs3_types::specs::Names::names))]
+    fn scan<V: Visit>(input: &mut Input, visitor: &mut V) -> Result<(), GetError> {
+        Wcc::scan(input, visitor)?;
+        Wcc::scan(input, visitor)
+    }
+}
+
+impl<'a> Scan for LinkArgs<'a> {
+    ghost use Rattle.procs3.specs.Shapes.{link_args};
+
+    ghost shape = { link_args };
+
+    #[tactic(auto, using(xdr3::proofs::ScanLemmas::scans), unfolding(crate::specs::Shapes::link_args, nfs3_types::specs::Names::names))]
+    fn scan<V: Visit>(input: &mut Input, visitor: &mut V) -> Result<(), GetError>
+        ensures ok { OnOk result (Scans V.stands link_args input.old input.new visitor.old visitor.new) }
+        ensures err { IfErr result (λ error. Stops link_args input.old error) }
+    {
+        Handle::scan(input, visitor)?;
+        DirOp::scan(input, visitor)
+    }
+}
+
+impl Scan for LinkWcc {
+    ghost use Rattle.procs3.specs.Shapes.{link_wcc};
+
+    ghost shape = { link_wcc };
+
+    #[tactic(auto, using(xdr3::proofs::ScanLemmas::scans), unfolding(crate::specs::Shapes::link_wcc, nfs3_types::specs::Names::names))]
+    fn scan<V: Visit>(input: &mut Input, visitor: &mut V) -> Result<(), GetError> {
+        PostOpAttr::scan(input, visitor)?;
+        Wcc::scan(input, visitor)
+    }
+}
+
+impl Scan for ReadDirArgs {
+    ghost use Rattle.procs3.specs.Shapes.{readdir_args};
+
+    ghost shape = { readdir_args };
+
+    #[tactic(auto, using(xdr3::proofs::ScanLemmas::scans), unfolding(crate::specs::Shapes::readdir_args, nfs3_types::specs::Names::names))]
+    fn scan<V: Visit>(input: &mut Input, visitor: &mut V) -> Result<(), GetError> {
+        Handle::scan(input, visitor)?;
+        scan_hyper("cookie", input, visitor)?;
+        scan_cookieverf(input, visitor)?;
+        scan_word("count", input, visitor)?;
+        Ok(())
+    }
+}
+
+impl<'a> Scan for Entry<'a> {
+    ghost use Rattle.procs3.specs.Shapes.{entry};
+
+    ghost shape = { entry };
+
+    #[tactic(auto, using(xdr3::proofs::ScanLemmas::scans), unfolding(crate::specs::Shapes::entry, nfs3_types::specs::Names::names))]
+    fn scan<V: Visit>(input: &mut Input, visitor: &mut V) -> Result<(), GetError>
+        ensures ok { OnOk result (Scans V.stands entry input.old input.new visitor.old visitor.new) }
+        ensures err { IfErr result (λ error. Stops entry input.old error) }
+    {
+        scan_hyper("fileid", input, visitor)?;
+        scan_text("name", u32::MAX, input, visitor)?;
+        scan_hyper("cookie", input, visitor)
+    }
+}
+
+impl<'a> Scan for ReadDirOk<'a> {
+    ghost use Rattle.procs3.specs.Shapes.{readdir_ok};
+
+    ghost shape = { readdir_ok };
+
+    #[tactic(auto, using(xdr3::proofs::ScanLemmas::scans), unfolding(crate::specs::Shapes::readdir_ok, nfs3_types::specs::Names::names))]
+    fn scan<V: Visit>(input: &mut Input, visitor: &mut V) -> Result<(), GetError>
+        ensures ok { OnOk result (Scans V.stands readdir_ok input.old input.new visitor.old visitor.new) }
+        ensures err { IfErr result (λ error. Stops readdir_ok input.old error) }
+    {
+        PostOpAttr::scan(input, visitor)?;
+        scan_cookieverf(input, visitor)?;
+        scan_linked::<Entry, V>("entry", input, visitor)?;
+        scan_boolean("eof", input, visitor)?;
+        Ok(())
+    }
+}
+
+impl Scan for ReadDirPlusArgs {
+    ghost use Rattle.procs3.specs.Shapes.{readdirplus_args};
+
+    ghost shape = { readdirplus_args };
+
+    #[tactic(auto, using(xdr3::proofs::ScanLemmas::scans, crate::proofs::ShapeTailLemmas::counts), unfolding(crate::specs::Shapes::readdirplus_args, nfs3_types::specs::Names::names))]
+    fn scan<V: Visit>(input: &mut Input, visitor: &mut V) -> Result<(), GetError> {
+        Handle::scan(input, visitor)?;
+        scan_hyper("cookie", input, visitor)?;
+        scan_cookieverf(input, visitor)?;
+        scan_directory_counts(input, visitor)
+    }
+}
+
+#[inline]
+#[tactic(auto, using(xdr3::proofs::ScanLemmas::scans), unfolding(crate::specs::ShapeTails::directory_counts, nfs3_types::specs::Names::names))]
+fn scan_directory_counts<V: Visit>(input: &mut Input, visitor: &mut V) -> Result<(), GetError>
+    ensures ok { OnOk result (Scans V.stands directory_counts input.old input.new visitor.old visitor.new) }
+    ensures err { IfErr result (λ error. Stops directory_counts input.old error) }
+{
+    scan_word("dircount", input, visitor)?;
+    scan_word("maxcount", input, visitor)?;
+    Ok(())
+}
+
+impl<'a> Scan for EntryPlus<'a> {
+    ghost use Rattle.procs3.specs.Shapes.{entry_plus};
+
+    ghost shape = { entry_plus };
+
+    #[tactic(auto, using(xdr3::proofs::ScanLemmas::scans), unfolding(crate::specs::Shapes::entry_plus, nfs3_types::specs::Names::names))]
+    fn scan<V: Visit>(input: &mut Input, visitor: &mut V) -> Result<(), GetError>
+        ensures ok { OnOk result (Scans V.stands entry_plus input.old input.new visitor.old visitor.new) }
+        ensures err { IfErr result (λ error. Stops entry_plus input.old error) }
+    {
+        scan_hyper("fileid", input, visitor)?;
+        scan_text("name", u32::MAX, input, visitor)?;
+        scan_hyper("cookie", input, visitor)?;
+        PostOpAttr::scan(input, visitor)?;
+        PostOpFh::scan(input, visitor)
+    }
+}
+
+impl<'a> Scan for ReadDirPlusOk<'a> {
+    ghost use Rattle.procs3.specs.Shapes.{readdirplus_ok};
+
+    ghost shape = { readdirplus_ok };
+
+    #[tactic(auto, using(xdr3::proofs::ScanLemmas::scans), unfolding(crate::specs::Shapes::readdirplus_ok, nfs3_types::specs::Names::names))]
+    fn scan<V: Visit>(input: &mut Input, visitor: &mut V) -> Result<(), GetError>
+        ensures ok { OnOk result (Scans V.stands readdirplus_ok input.old input.new visitor.old visitor.new) }
+        ensures err { IfErr result (λ error. Stops readdirplus_ok input.old error) }
+    {
+        PostOpAttr::scan(input, visitor)?;
+        scan_cookieverf(input, visitor)?;
+        scan_linked::<EntryPlus, V>("entry", input, visitor)?;
+        scan_boolean("eof", input, visitor)?;
+        Ok(())
+    }
+}
+
+// ---- file systems (RFC 1813, sections 3.3.18 to 3.3.20)
+
+impl Scan for FsStatOk {
+    ghost use Rattle.procs3.specs.Shapes.{fsstat_ok};
+
+    ghost shape = { fsstat_ok };
+
+    #[tactic(auto, using(crate::proofs::ShapeTailLemmas::wholes))]
+    fn scan<V: Visit>(input: &mut Input, visitor: &mut V) -> Result<(), GetError> {
+        scan_fsstat_parts(input, visitor)
+    }
+}
+
+#[inline]
+#[tactic(auto, using(xdr3::proofs::ScanLemmas::scans), unfolding(crate::specs::ShapeTails::fsstat_parts, nfs3_types::specs::Names::names))]
+fn scan_fsstat_parts<V: Visit>(input: &mut Input, visitor: &mut V) -> Result<(), GetError>
+    ensures ok { OnOk result (Scans V.stands fsstat_parts input.old input.new visitor.old visitor.new) }
+    ensures err { IfErr result (λ error. Stops fsstat_parts input.old error) }
+{
+    PostOpAttr::scan(input, visitor)?;
+    scan_fsstat_bytes(input, visitor)
+}
+
+#[inline]
+#[tactic(auto, using(xdr3::proofs::ScanLemmas::scans), unfolding(crate::specs::ShapeTails::fsstat_bytes, nfs3_types::specs::Names::names))]
+fn scan_fsstat_bytes<V: Visit>(input: &mut Input, visitor: &mut V) -> Result<(), GetError>
+    ensures ok { OnOk result (Scans V.stands fsstat_bytes input.old input.new visitor.old visitor.new) }
+    ensures err { IfErr result (λ error. Stops fsstat_bytes input.old error) }
+{
+    scan_hyper("tbytes", input, visitor)?;
+    scan_hyper("fbytes", input, visitor)?;
+    scan_hyper("abytes", input, visitor)?;
+    scan_fsstat_files(input, visitor)
+}
+
+#[inline]
+#[tactic(auto, using(xdr3::proofs::ScanLemmas::scans), unfolding(crate::specs::ShapeTails::fsstat_files, nfs3_types::specs::Names::names))]
+fn scan_fsstat_files<V: Visit>(input: &mut Input, visitor: &mut V) -> Result<(), GetError>
+    ensures ok { OnOk result (Scans V.stands fsstat_files input.old input.new visitor.old visitor.new) }
+    ensures err { IfErr result (λ error. Stops fsstat_files input.old error) }
+{
+    scan_hyper("tfiles", input, visitor)?;
+    scan_hyper("ffiles", input, visitor)?;
+    scan_hyper("afiles", input, visitor)?;
+    scan_invarsec(input, visitor)
+}
+
+impl Scan for FsInfoOk {
+    ghost use Rattle.procs3.specs.Shapes.{fsinfo_ok};
+
+    ghost shape = { fsinfo_ok };
+
+    #[tactic(auto, using(crate::proofs::ShapeTailLemmas::wholes))]
+    fn scan<V: Visit>(input: &mut Input, visitor: &mut V) -> Result<(), GetError> {
+        scan_fsinfo_parts(input, visitor)
+    }
+}
+
+#[inline]
+#[tactic(auto, using(xdr3::proofs::ScanLemmas::scans), unfolding(crate::specs::ShapeTails::fsinfo_parts, nfs3_types::specs::Names::names))]
+fn scan_fsinfo_parts<V: Visit>(input: &mut Input, visitor: &mut V) -> Result<(), GetError>
+    ensures ok { OnOk result (Scans V.stands fsinfo_parts input.old input.new visitor.old visitor.new) }
+    ensures err { IfErr result (λ error. Stops fsinfo_parts input.old error) }
+{
+    PostOpAttr::scan(input, visitor)?;
+    scan_fsinfo_reads(input, visitor)
+}
+
+#[inline]
+#[tactic(auto, using(xdr3::proofs::ScanLemmas::scans), unfolding(crate::specs::ShapeTails::fsinfo_reads, nfs3_types::specs::Names::names))]
+fn scan_fsinfo_reads<V: Visit>(input: &mut Input, visitor: &mut V) -> Result<(), GetError>
+    ensures ok { OnOk result (Scans V.stands fsinfo_reads input.old input.new visitor.old visitor.new) }
+    ensures err { IfErr result (λ error. Stops fsinfo_reads input.old error) }
+{
+    scan_word("rtmax", input, visitor)?;
+    scan_word("rtpref", input, visitor)?;
+    scan_word("rtmult", input, visitor)?;
+    scan_fsinfo_writes(input, visitor)
+}
+
+#[inline]
+#[tactic(auto, using(xdr3::proofs::ScanLemmas::scans), unfolding(crate::specs::ShapeTails::fsinfo_writes, nfs3_types::specs::Names::names))]
+fn scan_fsinfo_writes<V: Visit>(input: &mut Input, visitor: &mut V) -> Result<(), GetError>
+    ensures ok { OnOk result (Scans V.stands fsinfo_writes input.old input.new visitor.old visitor.new) }
+    ensures err { IfErr result (λ error. Stops fsinfo_writes input.old error) }
+{
+    scan_word("wtmax", input, visitor)?;
+    scan_word("wtpref", input, visitor)?;
+    scan_word("wtmult", input, visitor)?;
+    scan_fsinfo_limits(input, visitor)
+}
+
+#[inline]
+#[tactic(auto, using(xdr3::proofs::ScanLemmas::scans), unfolding(crate::specs::ShapeTails::fsinfo_limits, nfs3_types::specs::Names::names))]
+fn scan_fsinfo_limits<V: Visit>(input: &mut Input, visitor: &mut V) -> Result<(), GetError>
+    ensures ok { OnOk result (Scans V.stands fsinfo_limits input.old input.new visitor.old visitor.new) }
+    ensures err { IfErr result (λ error. Stops fsinfo_limits input.old error) }
+{
+    scan_word("dtpref", input, visitor)?;
+    scan_maxfilesize(input, visitor)?;
+    scan_delta(input, visitor)?;
+    scan_properties(input, visitor)
+}
+
+impl Scan for PathConfOk {
+    ghost use Rattle.procs3.specs.Shapes.{pathconf_ok};
+
+    ghost shape = { pathconf_ok };
+
+    #[tactic(auto, using(crate::proofs::ShapeTailLemmas::wholes))]
+    fn scan<V: Visit>(input: &mut Input, visitor: &mut V) -> Result<(), GetError> {
+        scan_pathconf_parts(input, visitor)
+    }
+}
+
+#[inline]
+#[tactic(auto, using(xdr3::proofs::ScanLemmas::scans), unfolding(crate::specs::ShapeTails::pathconf_parts, nfs3_types::specs::Names::names))]
+fn scan_pathconf_parts<V: Visit>(input: &mut Input, visitor: &mut V) -> Result<(), GetError>
+    ensures ok { OnOk result (Scans V.stands pathconf_parts input.old input.new visitor.old visitor.new) }
+    ensures err { IfErr result (λ error. Stops pathconf_parts input.old error) }
+{
+    PostOpAttr::scan(input, visitor)?;
+    scan_pathconf_limits(input, visitor)
+}
+
+#[inline]
+#[tactic(auto, using(xdr3::proofs::ScanLemmas::scans), unfolding(crate::specs::ShapeTails::pathconf_limits, nfs3_types::specs::Names::names))]
+fn scan_pathconf_limits<V: Visit>(input: &mut Input, visitor: &mut V) -> Result<(), GetError>
+    ensures ok { OnOk result (Scans V.stands pathconf_limits input.old input.new visitor.old visitor.new) }
+    ensures err { IfErr result (λ error. Stops pathconf_limits input.old error) }
+{
+    scan_word("linkmax", input, visitor)?;
+    scan_name_max(input, visitor)?;
+    scan_pathconf_names(input, visitor)
+}
+
+#[inline]
+#[tactic(auto, using(xdr3::proofs::ScanLemmas::scans), unfolding(crate::specs::ShapeTails::pathconf_names, nfs3_types::specs::Names::names))]
+fn scan_pathconf_names<V: Visit>(input: &mut Input, visitor: &mut V) -> Result<(), GetError>
+    ensures ok { OnOk result (Scans V.stands pathconf_names input.old input.new visitor.old visitor.new) }
+    ensures err { IfErr result (λ error. Stops pathconf_names input.old error) }
+{
+    scan_boolean("no_trunc", input, visitor)?;
+    scan_chown_restricted(input, visitor)?;
+    scan_case_insensitive(input, visitor)?;
+    scan_case_preserving(input, visitor)
+}
+
+// ---- MOUNT version 3 (RFC 1813, section 5.2)
+
+impl<'a> Scan for DirPath<'a> {
+    ghost use Rattle.procs3.specs.Shapes.{dirpath};
+
+    ghost shape = { dirpath };
+
+    #[tactic(auto, using(xdr3::proofs::ScanLemmas::scans), unfolding(crate::specs::Shapes::dirpath, nfs3_types::specs::Names::names))]
+    fn scan<V: Visit>(input: &mut Input, visitor: &mut V) -> Result<(), GetError>
+        ensures ok { OnOk result (Scans V.stands dirpath input.old input.new visitor.old visitor.new) }
+        ensures err { IfErr result (λ error. Stops dirpath input.old error) }
+    {
+        scan_path("dirpath", input, visitor)
+    }
+}
+
+impl Scan for MountRes {
+    ghost use Rattle.procs3.specs.Shapes.{mount_results};
+
+    ghost shape = { mount_results };
+
+    #[tactic(auto, using(xdr3::proofs::ScanLemmas::scans), unfolding(crate::specs::Shapes::mount_results, nfs3_types::specs::Names::names))]
+    fn scan<V: Visit>(input: &mut Input, visitor: &mut V) -> Result<(), GetError> {
+        let words = [0, 1, 2, 5, 13, 20, 22, 63, 10_004, 10_006];
+        if scan_listed("status", &words, input, visitor)? == 0 {
+            MountOk::scan(input, visitor)
+        } else {
+            Ok(())
+        }
+    }
+}

@@ -1,0 +1,44 @@
+-- Heads that are read and told at once.
+use Rattle.std.specs.Prelude.{◌≡◌, ℕ, Bool, ◌==◌, ◌&&◌, List, Ok}
+use Rattle.xdr3.specs.Item.{Item}
+use Rattle.xdr3.specs.Reading.{reading}
+use Rattle.xdr3.specs.Shape.{Shape}
+use Rattle.xdr3.specs.View.{MovesOn, View}
+use Rattle.xdr3.specs.Visit.{Adds}
+use Rattle.rpc_head.specs.declared.call.ProcId.{ProcId}
+use Rattle.rpc_head.specs.Messages.{word_in}
+use Rattle.rpc_head.specs.Names.{names}
+use Rattle.rpc_head.specs.Shapes.{◌then◌, accept, call_head, credential, reply_head, verifier}
+
+-- the items of a call's head begin with rpcvers, prog, vers and proc (RFC 5531, section 9)
+abbrev pub procedure_told : List Item → ProcId
+procedure_told items = record { prog = word_in items 1; vers = word_in items 2; proc_no = word_in items 3 }
+
+-- The items of an accepted reply's head begin with reply_stat, verf_flavor, verf_body and accept_stat. It is a success where
+-- reply_stat is MSG_ACCEPTED (0) and accept_stat is SUCCESS (0) (RFC 5531, section 9).
+abbrev pub tells_success : List Item → Bool
+tells_success items = (word_in items 0 == 0) && (word_in items 3 == 0)
+
+-- A call's head of this procedure stands between two places of one body, and a visitor was told its items.
+unfoldable pub ScansCallHead : {V : Type 0} → (V → List Item → Type 0) → ProcId → View → View → V → V → Type 0
+ScansCallHead stands id old new before after =
+    (items : List Item) × (reading call_head old.body old.at ≡ Ok (items, new.at)) × (procedure_told items ≡ id) × MovesOn old new
+    × Adds stands before after items
+
+-- A reply's head, of a success or not, stands between two places of one body, and a visitor was told its items.
+unfoldable pub ScansReplyHead : {V : Type 0} → (V → List Item → Type 0) → Bool → View → View → V → V → Type 0
+ScansReplyHead stands success old new before after =
+    (items : List Item) × (reading reply_head old.body old.at ≡ Ok (items, new.at)) × (tells_success items ≡ success) × MovesOn old new
+    × Adds stands before after items
+
+-- ---- within the crate
+
+-- the end of a call's head
+unfoldable pub credentials : Shape
+credentials = credential then verifier
+
+-- the items of an accepted reply's head from the accept_stat on, which is this
+unfoldable pub ScansAccept : {V : Type 0} → (V → List Item → Type 0) → ℕ → View → View → V → V → Type 0
+ScansAccept stands stat old new before after =
+    (items : List Item) × (reading accept old.body old.at ≡ Ok (items, new.at)) × (word_in items 0 ≡ stat) × MovesOn old new
+    × Adds stands before after items

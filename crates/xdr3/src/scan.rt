@@ -1,0 +1,314 @@
+// Items that a visitor is told as they are read.
+
+ghost use Rattle.std.specs.Prelude.{◌≡◌, ◌<◌, IfErr, IfOk, OnOk};
+ghost use Rattle.std.specs.Int.{from_bool};
+ghost use Rattle.xdr3.specs.Item.{Handle, Text, Var};
+ghost use Rattle.xdr3.specs.Layout.{Layout, rest};
+ghost use Rattle.xdr3.specs.Scan.{Scans, ScansInside, ScansLayout, ScansWord, Stops, StopsInside, StopsWord};
+ghost use Rattle.xdr3.specs.Shape.{Shape, counted, fixed, hyper, is_any, is_at_most, is_bool, is_listed, linked, opaque, optional, sized, write_verf};
+
+use crate::input::Input;
+use crate::reason::{GetError, Reason, Stop};
+use crate::visit::Visit;
+
+/// Items of one shape, which are read and told in one pass: no value is made of them.
+pub trait Scan {
+    /// Which items.
+    ghost shape: { Shape };
+
+    /// Reads the items of the shape, and tells each to the visitor as it is read. After an error what
+    /// the visitor holds is open.
+    ///
+    /// # Errors
+    ///
+    /// `Stop` with the place and the reason of the shape's first fault, and `Memory` where the visitor
+    /// ran out of it.
+    fn scan<V: Visit>(input: &mut Input, visitor: &mut V) -> Result<(), GetError>
+        ensures ok { OnOk result (Scans V.stands shape input.old input.new visitor.old visitor.new) }
+        ensures err { IfErr result (λ error. Stops shape input.old error) };
+}
+
+/// Any word (RFC 4506, sections 4.1 and 4.2).
+#[inline]
+#[tactic(auto, unfolding(crate::specs::Scan::ScansWord, crate::specs::Scan::StopsWord))]
+pub fn scan_word<V: Visit>(
+    name: &'static str,
+    input: &mut Input,
+    visitor: &mut V,
+) -> Result<u32, GetError>
+    ensures ok { IfOk result (λ n. ScansWord V.stands name.now is_any Reason.BadEnum n
+        input.old input.new visitor.old visitor.new) }
+    ensures err { IfErr result (λ error. StopsWord is_any Reason.BadEnum input.old error) }
+{
+    let n = input.word()?;
+    visitor.word(name, n)?;
+    Ok(n)
+}
+
+/// One of these words (RFC 4506, section 4.3).
+#[inline]
+#[tactic(auto, unfolding(crate::specs::Scan::ScansWord, crate::specs::Scan::StopsWord))]
+pub fn scan_listed<V: Visit>(
+    name: &'static str,
+    words: &[u32],
+    input: &mut Input,
+    visitor: &mut V,
+) -> Result<u32, GetError>
+    ensures ok { IfOk result (λ n. ScansWord V.stands name.now (is_listed words.now) Reason.BadEnum n
+        input.old input.new visitor.old visitor.new) }
+    ensures err { IfErr result (λ error. StopsWord (is_listed words.now) Reason.BadEnum input.old error) }
+{
+    let n = input.listed(words)?;
+    visitor.word(name, n)?;
+    Ok(n)
+}
+
+/// The word 0 or 1 (RFC 4506, section 4.4).
+#[inline]
+#[tactic(auto, unfolding(crate::specs::Scan::ScansWord, crate::specs::Scan::StopsWord))]
+pub fn scan_boolean<V: Visit>(
+    name: &'static str,
+    input: &mut Input,
+    visitor: &mut V,
+) -> Result<bool, GetError>
+    ensures ok { IfOk result (λ is. ScansWord V.stands name.now is_bool Reason.BadBool (from_bool is)
+        input.old input.new visitor.old visitor.new) }
+    ensures err { IfErr result (λ error. StopsWord is_bool Reason.BadBool input.old error) }
+    ensures further { OnOk result (input.old.at < input.new.at) }
+{
+    let is = input.boolean()?;
+    visitor.word(name, is as u32)?;
+    Ok(is)
+}
+
+/// A length or a count (RFC 4506, sections 4.10 and 4.13).
+#[inline]
+#[tactic(auto, unfolding(crate::specs::Scan::ScansWord, crate::specs::Scan::StopsWord))]
+fn scan_at_most<V: Visit>(
+    name: &'static str,
+    max: u32,
+    input: &mut Input,
+    visitor: &mut V,
+) -> Result<u32, GetError>
+    ensures ok { IfOk result (λ n. ScansWord V.stands name.now (is_at_most max) Reason.TooLong n
+        input.old input.new visitor.old visitor.new) }
+    ensures err { IfErr result (λ error. StopsWord (is_at_most max) Reason.TooLong input.old error) }
+{
+    let n = input.at_most(max)?;
+    visitor.word(name, n)?;
+    Ok(n)
+}
+
+/// A number of eight bytes (RFC 4506, section 4.5).
+#[inline]
+#[tactic(auto, unfolding(crate::specs::Scan::Scans, crate::specs::Scan::Stops, crate::specs::Reading::reading))]
+pub fn scan_hyper<V: Visit>(
+    name: &'static str,
+    input: &mut Input,
+    visitor: &mut V,
+) -> Result<(), GetError>
+    ensures ok { OnOk result (Scans V.stands (hyper name.now) input.old input.new visitor.old visitor.new) }
+    ensures err { IfErr result (λ error. Stops (hyper name.now) input.old error) }
+{
+    let n = input.hyper()?;
+    visitor.hyper(name, n)?;
+    Ok(())
+}
+
+/// Eight bytes of opaque data (RFC 4506, section 4.9).
+#[inline]
+#[tactic(auto, unfolding(crate::specs::Scan::Scans, crate::specs::Scan::Stops, crate::specs::Reading::reading))]
+pub fn scan_fixed<V: Visit>(
+    name: &'static str,
+    input: &mut Input,
+    visitor: &mut V,
+) -> Result<(), GetError>
+    ensures ok { OnOk result (Scans V.stands (fixed name.now) input.old input.new visitor.old visitor.new) }
+    ensures err { IfErr result (λ error. Stops (fixed name.now) input.old error) }
+{
+    let bytes = input.fixed8()?;
+    visitor.fixed(name, &bytes)?;
+    Ok(())
+}
+
+/// Eight bytes that are a write verifier (RFC 4506, section 4.9).
+#[inline]
+#[tactic(auto, unfolding(crate::specs::Scan::Scans, crate::specs::Scan::Stops, crate::specs::Reading::reading))]
+pub fn scan_write_verf<V: Visit>(
+    name: &'static str,
+    input: &mut Input,
+    visitor: &mut V,
+) -> Result<(), GetError>
+    ensures ok { OnOk result (Scans V.stands (write_verf name.now) input.old input.new visitor.old visitor.new) }
+    ensures err { IfErr result (λ error. Stops (write_verf name.now) input.old error) }
+{
+    let bytes = input.fixed8()?;
+    visitor.write_verf(name, &bytes)?;
+    Ok(())
+}
+
+/// Opaque data of at most `max` bytes (RFC 4506, section 4.10).
+#[inline]
+#[tactic(auto, unfolding(crate::specs::Scan::Scans, crate::specs::Scan::Stops, crate::specs::Reading::reading))]
+pub fn scan_var<V: Visit>(
+    name: &'static str,
+    max: u32,
+    input: &mut Input,
+    visitor: &mut V,
+) -> Result<(), GetError>
+    ensures ok { OnOk result (Scans V.stands (opaque Var name.now max) input.old input.new
+        visitor.old visitor.new) }
+    ensures err { IfErr result (λ error. Stops (opaque Var name.now max) input.old error) }
+{
+    let bytes = input.var(max)?;
+    visitor.var(name, bytes)?;
+    Ok(())
+}
+
+/// A string of at most `max` bytes (RFC 4506, section 4.11).
+#[inline]
+#[tactic(auto, unfolding(crate::specs::Scan::Scans, crate::specs::Scan::Stops, crate::specs::Reading::reading))]
+pub fn scan_text<V: Visit>(
+    name: &'static str,
+    max: u32,
+    input: &mut Input,
+    visitor: &mut V,
+) -> Result<(), GetError>
+    ensures ok { OnOk result (Scans V.stands (opaque Text name.now max) input.old input.new
+        visitor.old visitor.new) }
+    ensures err { IfErr result (λ error. Stops (opaque Text name.now max) input.old error) }
+{
+    let bytes = input.var(max)?;
+    visitor.text(name, bytes)?;
+    Ok(())
+}
+
+/// A file handle, at most 64 bytes (RFC 1813, section 2.4).
+#[inline]
+#[tactic(auto, unfolding(crate::specs::Scan::Scans, crate::specs::Scan::Stops, crate::specs::Reading::reading))]
+pub fn scan_handle<V: Visit>(
+    name: &'static str,
+    input: &mut Input,
+    visitor: &mut V,
+) -> Result<(), GetError>
+    ensures ok { OnOk result (Scans V.stands (opaque Handle name.now 64) input.old input.new
+        visitor.old visitor.new) }
+    ensures err { IfErr result (λ error. Stops (opaque Handle name.now 64) input.old error) }
+{
+    let bytes = input.var(64)?;
+    visitor.handle(name, bytes)?;
+    Ok(())
+}
+
+/// All bytes that are left, also none.
+#[inline]
+#[tactic(auto, unfolding(crate::specs::Scan::ScansLayout, crate::specs::Layout::reading_layout))]
+pub fn scan_rest<V: Visit>(
+    name: &'static str,
+    input: &mut Input,
+    visitor: &mut V,
+) -> Result<(), GetError>
+    ensures ok { OnOk result (ScansLayout V.stands (rest name.now) input.old input.new
+        visitor.old visitor.new) }
+    ensures memory { IfErr result (λ error. error ≡ GetError.Memory) }
+{
+    let bytes = input.rest();
+    visitor.rest(name, bytes)?;
+    Ok(())
+}
+
+/// The word 0, or the word 1 and the shape (optional data, RFC 4506, section 4.19).
+#[tactic(auto, using(crate::proofs::ScanLemmas::scans), unfolding(crate::specs::Shape::optional))]
+pub fn scan_optional<T: Scan, V: Visit>(
+    name: &'static str,
+    input: &mut Input,
+    visitor: &mut V,
+) -> Result<(), GetError>
+    ensures ok { OnOk result (Scans V.stands (optional name.now T.shape) input.old input.new
+        visitor.old visitor.new) }
+    ensures err { IfErr result (λ error. Stops (optional name.now T.shape) input.old error) }
+{
+    if scan_boolean(name, input, visitor)? {
+        T::scan(input, visitor)
+    } else {
+        Ok(())
+    }
+}
+
+/// The word 1 and the shape, any number of times, and then the word 0 (a list by optional data, RFC
+/// 4506, section 4.19).
+#[tactic(auto, using(crate::proofs::LinkedScanLemmas::links))]
+pub fn scan_linked<T: Scan, V: Visit>(
+    name: &'static str,
+    input: &mut Input,
+    visitor: &mut V,
+) -> Result<(), GetError>
+    ensures ok { OnOk result (Scans V.stands (linked name.now T.shape) input.old input.new
+        visitor.old visitor.new) }
+    ensures err { IfErr result (λ error. Stops (linked name.now T.shape) input.old error) }
+{
+    // The prover takes from this that the place is within the body.
+    input.at();
+    'links: while scan_boolean(name, input, visitor)? {
+        T::scan(input, visitor)?;
+    }
+    Ok(())
+}
+
+/// A count of at most `max`, and the shape that many times (RFC 4506, section 4.13).
+pub fn scan_counted<T: Scan, V: Visit>(
+    name: &'static str,
+    max: u32,
+    input: &mut Input,
+    visitor: &mut V,
+) -> Result<(), GetError>
+    ensures ok { OnOk result (Scans V.stands (counted name.now max T.shape) input.old input.new
+        visitor.old visitor.new) }
+    ensures err { IfErr result (λ error. Stops (counted name.now max T.shape) input.old error) }
+{
+    let count = scan_at_most(name, max, input, visitor)?;
+    'parts: for _ in 0..count {
+        T::scan(input, visitor)?;
+    }
+    Ok(())
+}
+
+/// The number of bytes of what follows, at most 400, and the shape in just these (an opaque body that is
+/// looked into, RFC 5531, section 8.2). `AuthLength` where an item is not whole in these bytes or some
+/// are left over.
+#[tactic(auto, using(crate::proofs::SizedScanLemmas::sizes))]
+pub fn scan_sized<T: Scan, V: Visit>(
+    name: &'static str,
+    input: &mut Input,
+    visitor: &mut V,
+) -> Result<(), GetError>
+    ensures ok { OnOk result (Scans V.stands (sized name.now T.shape) input.old input.new
+        visitor.old visitor.new) }
+    ensures err { IfErr result (λ error. Stops (sized name.now T.shape) input.old error) }
+{
+    let len = scan_at_most(name, 400, input, visitor)?;
+    let mut window = input.window(len)?;
+    scan_inside::<T, V>(&mut window, visitor)
+}
+
+/// The shape in all that is left of a window.
+#[tactic(auto, unfolding(crate::specs::Scan::Scans, crate::specs::Scan::ScansInside, crate::specs::Scan::Stops, crate::specs::Scan::StopsInside))]
+fn scan_inside<T: Scan, V: Visit>(window: &mut Input, visitor: &mut V) -> Result<(), GetError>
+    ensures ok { OnOk result (ScansInside V.stands T.shape window.old visitor.old visitor.new) }
+    ensures err { IfErr result (λ error. StopsInside T.shape window.old error) }
+{
+    match T::scan(window, visitor) {
+        Ok(()) => match window.end() {
+            Ok(()) => Ok(()),
+            Err(stop) => Err(GetError::Stop(Stop {
+                at: stop.at,
+                reason: Reason::AuthLength,
+            })),
+        },
+        Err(GetError::Stop(stop)) => Err(GetError::Stop(Stop {
+            at: stop.at,
+            reason: stop.reason.in_window(),
+        })),
+        Err(GetError::Memory) => Err(GetError::Memory),
+    }
+}
