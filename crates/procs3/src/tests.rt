@@ -3,7 +3,7 @@
 
 ghost use Rattle.std.specs.Prelude.{◌≤◌, length};
 
-use crate::{Args, CreateHow, MkNodWhat, Results, proc_name};
+use crate::{Args, CreateHow, MkNodWhat, Results, proc_name, scan_arguments, scan_results};
 use nfs3_types::{Failure, Res};
 use rpc_head::ProcId;
 use std::alloc::{AllocError, Global};
@@ -78,6 +78,28 @@ fn results(alloc: Global, id: ProcId, body: &[u8]) -> Result<Writer, GetError>
     Ok(writer)
 }
 
+/// What a visitor that writes is told of the arguments that the body is.
+fn told_arguments(alloc: Global, id: ProcId, body: &[u8]) -> Result<Writer, GetError>
+    requires { length body.now ≤ 16777216 }
+{
+    let mut input = Input::new(body);
+    let mut writer = Writer::new(alloc);
+    scan_arguments(id, &mut input, &mut writer)?;
+    input.end()?;
+    Ok(writer)
+}
+
+/// What a visitor that writes is told of the results that the body is.
+fn told_results(alloc: Global, id: ProcId, body: &[u8]) -> Result<Writer, GetError>
+    requires { length body.now ≤ 16777216 }
+{
+    let mut input = Input::new(body);
+    let mut writer = Writer::new(alloc);
+    scan_results(id, &mut input, &mut writer)?;
+    input.end()?;
+    Ok(writer)
+}
+
 /// Where and why it was refused.
 fn fault(answer: &Result<Writer, GetError>) -> Option<Stop> {
     match answer {
@@ -92,13 +114,16 @@ fn arguments_stay(rt: &impl Abort, alloc: Global, rows: &[(ProcId, &[u32])]) -> 
         let body = spelled(alloc, words)?;
         assert!(rt; body.len() <= 56);
         let writer = arguments(alloc, *id, &body).map_err(|_| "refused")?;
-        assert_eq!(rt;
-            writer.bytes(),
-            body.as_slice(),
-            "{} {}",
-            id.prog,
-            id.proc_no
-        );
+        let told = told_arguments(alloc, *id, &body).map_err(|_| "refused")?;
+        for written in [&writer, &told] {
+            assert_eq!(rt;
+                written.bytes(),
+                body.as_slice(),
+                "{} {}",
+                id.prog,
+                id.proc_no
+            );
+        }
     }
     Ok(())
 }
@@ -192,13 +217,16 @@ fn results_stay(rt: &impl Abort, alloc: Global, rows: &[(ProcId, &[u32])]) -> Re
         let body = spelled(alloc, words)?;
         assert!(rt; body.len() <= 88);
         let writer = results(alloc, *id, &body).map_err(|_| "refused")?;
-        assert_eq!(rt;
-            writer.bytes(),
-            body.as_slice(),
-            "{} {}",
-            id.prog,
-            id.proc_no
-        );
+        let told = told_results(alloc, *id, &body).map_err(|_| "refused")?;
+        for written in [&writer, &told] {
+            assert_eq!(rt;
+                written.bytes(),
+                body.as_slice(),
+                "{} {}",
+                id.prog,
+                id.proc_no
+            );
+        }
     }
     Ok(())
 }
@@ -449,6 +477,8 @@ fn arguments_are_refused(
             reason: *reason,
         };
         assert_eq!(rt; fault(&answer), Some(stop), "{} {len}", id.proc_no);
+        let told = told_arguments(alloc, *id, &body);
+        assert_eq!(rt; fault(&told), Some(stop), "{} {len}", id.proc_no);
     }
     Ok(())
 }
@@ -593,13 +623,11 @@ fn results_that_are_refused(rt: HostRuntime) -> Result<(), Fail> {
     for (id, words, at, reason) in rows {
         let body = spelled(alloc, words)?;
         assert!(rt; body.len() <= 32);
+        let stop = Stop { at, reason };
         let answer = results(alloc, id, &body);
-        assert_eq!(rt;
-            fault(&answer),
-            Some(Stop { at, reason }),
-            "{} {at}",
-            id.proc_no
-        );
+        assert_eq!(rt; fault(&answer), Some(stop), "{} {at}", id.proc_no);
+        let told = told_results(alloc, id, &body);
+        assert_eq!(rt; fault(&told), Some(stop), "{} {at}", id.proc_no);
     }
     Ok(())
 }

@@ -3,7 +3,10 @@
 ghost use Rattle.std.specs.Prelude.{◌≤◌, IfOk, length};
 ghost use Rattle.xdr3.specs.Visit.{AreWithinLimit};
 
-use crate::{Accept, CallHead, Cred, Deny, ReplyHead, Start, Verf, start};
+use crate::{
+    Accept, CallHead, Cred, Deny, ProcId, ReplyHead, Start, Verf, scan_call_head, scan_reply_head,
+    start,
+};
 use std::alloc::{AllocError, Global};
 use std::test::Fail;
 use xdr3::{GetError, Input, Reason, Stop, Walk, Writer, Xdr};
@@ -305,6 +308,48 @@ fn replies_that_are_refused(rt: HostRuntime) -> Result<(), Fail> {
             Some(Stop { at, reason }),
             "{len} bytes"
         );
+    }
+    Ok(())
+}
+
+/// A head that a visitor is told is written as it stands in the body, and names its procedure.
+#[test]
+fn a_calls_head_is_told(rt: HostRuntime) -> Result<(), Fail> {
+    let call = sys_call(rt.alloc(), 28, 6, &[0, 0, 0])?;
+    assert!(rt; call.len() <= 68);
+    let mut input = Input::new(&call);
+    start(&mut input)?;
+    let mut writer = Writer::new(rt.alloc());
+    let id = ProcId {
+        prog: 100_003,
+        vers: 3,
+        proc_no: 0,
+    };
+    assert_eq!(rt; scan_call_head(&mut input, &mut writer), Ok(id));
+    assert_eq!(rt; input.left(), 0);
+    assert_eq!(rt; writer.bytes(), &call[8..]);
+    Ok(())
+}
+
+/// Results follow an accepted success alone: other words of a head are written again too.
+#[test]
+fn replies_heads_are_told(rt: HostRuntime) -> Result<(), Fail> {
+    // the words from the reply_stat on, and whether results follow
+    let rows: [(&[u32], bool); 5] = [
+        (&[0, 0, 0, 0], true),
+        (&[0, 0, 0, 1], false),
+        (&[0, 0, 0, 2, 3, 3], false),
+        (&[1, 0, 2, 2], false),
+        (&[1, 1, 14], false),
+    ];
+    for (words, follow) in rows {
+        let body = spelled(rt.alloc(), words, 24)?;
+        assert!(rt; body.len() <= 24);
+        let mut input = Input::new(&body);
+        let mut writer = Writer::new(rt.alloc());
+        assert_eq!(rt; scan_reply_head(&mut input, &mut writer), Ok(follow));
+        assert_eq!(rt; input.left(), 0);
+        assert_eq!(rt; writer.bytes(), body.as_slice());
     }
     Ok(())
 }
