@@ -16,7 +16,7 @@ use Rattle.canon3.proofs.Written.{front_of_second}
 use Rattle.packing3.specs.declared.packing.Packing.{Packing}
 use Rattle.packing3.specs.Packed.{ArePacked, IsPackedConnection}
 use Rattle.packing3.specs.Packing.{Adds, FailsToAdd, Finishes, IsFull, StandsFor, ending_of}
-use Rattle.packing3.specs.Stopped.{HasNoRoom, IsCutShort, Tells}
+use Rattle.packing3.specs.Stopped.{HasNoRoom, BreaksOff, Tells}
 use Rattle.packing3.specs.Streaming.{HasConnection, IsStopped, StopsInConnection}
 use Rattle.packing3.proofs.Captures.{is_capture}
 use Rattle.packing3.proofs.Stops.{stopped_after, stopped_before}
@@ -55,9 +55,9 @@ module _ {W : Type 0} (written : W → Option (List ℕ)) where
     );
   }
 
-  cut_short : (old : Packing W) (first c0 c1 s0 s1 w1 : Option (List ℕ)) (pairs : List Streams) (error : Error) (it : StopsInConnection c0 c1 s0 s1 (written old.sink) w1 old.extent error)
-      → StandsFor written old first pairs → IsCutShort first w1 (pairs ++ it.streams ∷ []) error
-  cut_short old first c0 c1 s0 s1 w1 pairs error it h =
+  broken_off : (old : Packing W) (first c0 c1 s0 s1 w1 : Option (List ℕ)) (pairs : List Streams) (error : Error) (it : StopsInConnection c0 c1 s0 s1 (written old.sink) w1 old.extent error)
+      → StandsFor written old first pairs → BreaksOff first w1 (pairs ++ it.streams ∷ []) error
+  broken_off old first c0 c1 s0 s1 w1 pairs error it h =
       let before = old.extent.streamed + size it.streams in
       let all : IsStopped first w1 ((h.front ++ it.bytes) ++ word_bytes 0) 0 before error =
       stopped_before first w1 (h.front ++ it.bytes) (word_bytes 0) 0 before error (stopped_after first (written old.sink) w1 h.front it.bytes 0 old.extent.at before error h.appended (omega (arith, h.at)) it.stopped) in
@@ -95,7 +95,7 @@ module _ {W : Type 0} (written : W → Option (List ℕ)) where
     streams = it.streams;
     from_client = it.from_client;
     from_server = it.from_server;
-    adds = inr (cut_short old first c0 c1 s0 s1 (written new.sink) pairs error it h);
+    adds = inr (broken_off old first c0 c1 s0 s1 (written new.sink) pairs error it h);
   }
 
   pub finishes : (old : Packing W) (first w1 : Option (List ℕ)) (pairs : List Streams) (result : Result (Unit {0}) Error) → old.connections ≤ max_connections → old.extent.streamed ≤ max_bytes

@@ -10,7 +10,7 @@ use Rattle.canon3.specs.Writing.{CountsWriting}
 use Rattle.canon3.specs.Written.{AppendsFront}
 use Rattle.packing3.specs.declared.packing.Packing.{Packing}
 use Rattle.packing3.specs.Packed.{ArePacked, IsPacked}
-use Rattle.packing3.specs.Stopped.{HasNoRoom, IsCutShort}
+use Rattle.packing3.specs.Stopped.{HasNoRoom, BreaksOff}
 use Rattle.packing3.specs.Streaming.{StopsInConnection}
 
 -- the capture of the pairs is written
@@ -52,7 +52,7 @@ module _ {W : Type 0} where
   AddsStreams written new old client server pairs streams (Ok done) = IsAtEnd client × IsAtEnd server × StandsFor written new old (pairs ++ streams ∷ [])
   AddsStreams written new old client server pairs streams (Err error) =
       ((streams ≡ record { client = []; server = [] }) × HasNoRoom old (written new.sink) pairs error)
-      ⊎ IsCutShort old (written new.sink) (pairs ++ streams ∷ []) error
+      ⊎ BreaksOff old (written new.sink) (pairs ++ streams ∷ []) error
 
   -- the same, with the streams that the sources gave in the call
   pub record Adds (written : W → Option (List ℕ)) (new : Packing W) (old old_client client old_server server : Option (List ℕ)) (pairs : List Streams) (result : Result (Unit {0}) Error) : Type 0 where

@@ -28,7 +28,7 @@ Tells errors.Write at next total = ⊤
 Tells errors.Memory at next total = ⊥
 
 -- A front is written of the capture of all that was read: of what was added, and of the pair that an error stopped.
-pub record IsCutShort (old new : Option (List ℕ)) (pairs : List Streams) (error : Error) : Type 0 where
+pub record BreaksOff (old new : Option (List ℕ)) (pairs : List Streams) (error : Error) : Type 0 where
   pub file : List ℕ
   pub front : List ℕ
   pub next : List ℕ
