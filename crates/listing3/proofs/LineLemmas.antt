@@ -1,9 +1,9 @@
 -- A line, and what is held behind it.
-use Rattle.std.proofs.Common.{◌≡◌, ◌≤◌, ◌⊎◌, inl, inr, ⊎_elim, ℕ, ◌+◌, List, [], ◌∷◌, ◌++◌, drop, length, length-append, refl, sym, ap, ◌∙◌, subst, append_assoc, arith, Result, Ok, Err}
+use Rattle.std.proofs.Common.{◌≡◌, ◌≤◌, ◌⊎◌, inl, inr, ℕ, ◌+◌, List, [], ◌∷◌, ◌++◌, drop, length, length-append, sym, ap, ◌∙◌, subst, append_assoc, arith, Result, Ok, Err}
 use Rattle.std.proofs.Math.Seq.{drop-append_seam}
 use Rattle.std.specs.Prelude.{Option, IfOk, OnErr, OnOk, codes, decimal}
 use Rattle.std.specs.Io.KnownBytes.{Appends}
-use Rattle.std.proofs.KnownBytes.{Appends-nil, Appends-trans}
+use Rattle.std.proofs.KnownBytes.{Appends-trans}
 use Rattle.xdr3.specs.Item.{Item, Word}
 use Rattle.rpc_head.specs.declared.call.ProcId.{ProcId}
 use Rattle.rpc_head.specs.Messages.{procedure_in}
@@ -13,12 +13,12 @@ use Rattle.capture3.specs.declared.entry.Entry.TheVariants as variants
 use Rattle.capture3.specs.declared.entry.KeptCall.{KeptCall}
 use Rattle.capture3.specs.declared.entry.KeptReply.{KeptReply}
 use Rattle.capture3.specs.declared.fault.Error.{Error}
-use Rattle.capture3.specs.Bodies.{IsCall, IsReply}
+use Rattle.capture3.specs.Bodies.{IsCall}
 use Rattle.capture3.specs.Entry.{Entry, Begin, Call, Turn, Reply, Close, End}
 use Rattle.capture3.specs.Kept.{IsKept}
 use Rattle.listing3.specs.declared.line_writer.LineWriter.{LineWriter}
 use Rattle.canon3.specs.declared.progress.Progress.{Progress}
-use Rattle.canon3.specs.EntryWriter.{HasWritten, HasWrittenOrCut}
+use Rattle.canon3.specs.EntryWriter.{HasWrittenOrCut}
 use Rattle.canon3.specs.Gathering.{Gathers}
 use Rattle.listing3.specs.LineWriter.{HasListed, pieces}
 use Rattle.listing3.specs.Listing.{client, entry_line, line, opening, prefix, procedure_name, server, shown, shown_items}

@@ -1,16 +1,16 @@
 -- What lines tell: where two listings are equal, so are the messages of the connections.
-use Rattle.std.proofs.Common.{◌≡◌, ◌≢◌, ◌≤◌, ◌<◌, ◌^◌, ◌⊎◌, inl, inr, ⊎_elim, ℕ, zero, suc, ◌+◌, Bool, true, false, List, [], ◌∷◌, ◌++◌, length, map, slice_index, Option, Some, None, refl, sym, ap, ap₂, ◌∙◌, subst, append_assoc, length-append, arith}
-use Rattle.std.specs.Prelude.{codes, decimal, nat_eq, if◌then◌else◌, ◌==◌, nat_le}
+use Rattle.std.proofs.Common.{◌≡◌, ◌≢◌, ◌≤◌, ◌<◌, ◌^◌, ℕ, zero, suc, ◌+◌, Bool, true, false, List, [], ◌∷◌, ◌++◌, length, map, slice_index, Option, Some, None, refl, sym, ap, ap₂, ◌∙◌, subst, append_assoc, arith}
+use Rattle.std.specs.Prelude.{codes, decimal, nat_eq, if◌then◌else◌, nat_le}
 use Rattle.std.specs.List.{AllByRecursion, list_all}
 use Rattle.std.proofs.lemmas.Bool.{and_parts, leb-true}
 use Rattle.std.proofs.lemmas.Fmt.{decimal_injective}
-use Rattle.xdr3.specs.Item.{Item, Word}
+use Rattle.xdr3.specs.Item.{Item}
 use Rattle.rpc_head.specs.declared.call.ProcId.{ProcId}
 use Rattle.rpc_head.specs.Messages.{procedure_in}
 use Rattle.procs3.specs.Names.{mount_name, name_of, nfs_name}
 use Rattle.procs3.specs.Table.{is_mount, is_nfs}
 use Rattle.capture3.specs.Bodies.{ReplyItems, xid_in}
-use Rattle.capture3.specs.Entry.{Entry, Begin, Call, Turn, Reply, Close, End}
+use Rattle.capture3.specs.Entry.{Entry, Call, Turn, Close}
 use Rattle.capture3.specs.Typed.{HaveOneProcedure, IsIn, reply_entry}
 use Rattle.canon3.proofs.Conversations.{Conversation}
 use Rattle.canon3.proofs.Files.{all_of, all_regrouped}

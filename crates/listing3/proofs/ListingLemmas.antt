@@ -1,5 +1,5 @@
 -- The listing grows behind the entries so far.
-use Rattle.std.proofs.Common.{◌≡◌, ℕ, ◌+◌, List, [], ◌∷◌, ◌++◌, refl, sym, ap, ap₂, ◌∙◌, append_assoc, append-nil, arith}
+use Rattle.std.proofs.Common.{◌≡◌, ℕ, ◌+◌, List, [], ◌∷◌, ◌++◌, sym, ap, ap₂, ◌∙◌, append_assoc, append-nil, arith}
 use Rattle.capture3.specs.Entry.{Entry}
 use Rattle.canon3.specs.EntryWriter.{KeepsPrefixes}
 use Rattle.listing3.specs.Listing.{entry_line, lines_after, shown}

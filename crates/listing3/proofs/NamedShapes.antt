@@ -1,9 +1,9 @@
 -- In every message an item's name tells its kind, shape by shape and procedure by procedure.
 use Rattle.std.proofs.Common.{ℕ, List, refl}
 use Rattle.std.specs.Prelude.{nat_eq, ◌||◌, if◌then◌else◌}
-use Rattle.xdr3.specs.Item.{Item, Var}
+use Rattle.xdr3.specs.Item.{Var}
 use Rattle.xdr3.specs.Shape.{Shape, fixed, hyper, listed, nothing, opaque, optional, word}
-use Rattle.xdr3.specs.Layout.{Layout, exactly, rest}
+use Rattle.xdr3.specs.Layout.{exactly, rest}
 use Rattle.rpc_head.specs.declared.call.ProcId.{ProcId}
 use Rattle.rpc_head.specs.Messages.{call_layout, call_start, has_results, procedure_in, reply_layout, reply_start}
 use Rattle.rpc_head.specs.Names as head

@@ -1,5 +1,5 @@
 -- Where the listings of two captures are equal, the captures are equal up to connections without messages at their ends.
-use Rattle.std.proofs.Common.{◌≡◌, ◌≢◌, ◌≤◌, ◌<◌, ◌^◌, ℕ, zero, suc, ◌+◌, List, [], ◌∷◌, ◌++◌, length, refl, sym, ap, ◌∙◌, subst, append_assoc, append-nil, length-append, arith}
+use Rattle.std.proofs.Common.{◌≡◌, ◌≢◌, ◌≤◌, ℕ, zero, suc, ◌+◌, List, [], ◌∷◌, ◌++◌, length, refl, sym, ap, ◌∙◌, append_assoc, append-nil, length-append, arith}
 use Rattle.std.specs.List.{AllByRecursion}
 use Rattle.xdr3.specs.Item.{Item, Word, zero_spelling}
 use Rattle.rpc_head.specs.Messages.{call_layout, reply_layout}
@@ -7,7 +7,7 @@ use Rattle.procs3.specs.Table.{arguments_of, results_of}
 use Rattle.capture3.specs.Bodies.{ReplyItems}
 use Rattle.capture3.specs.Chunks.{max_bytes}
 use Rattle.capture3.specs.Entry.{Entry, Begin, Turn, Close, End}
-use Rattle.capture3.specs.Typed.{connection_entries, IsIn, Typed}
+use Rattle.capture3.specs.Typed.{connection_entries, Typed}
 use Rattle.canon3.specs.Bytes.{record_bytes}
 use Rattle.canon3.specs.Parting.{connections, records_after}
 use Rattle.canon3.proofs.Conversations.{all_in, AreConversing, Conversation, IsSpelledCall, IsSpelledReply, length_of_record, of_all, reply_items, stream_of, weight}

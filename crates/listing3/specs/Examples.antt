@@ -2,7 +2,7 @@
 use Rattle.std.specs.Prelude.{◌≡◌, ℕ, List, [], ◌∷◌, ◌++◌, codes}
 use Rattle.xdr3.specs.Item.{Item, Word, Hyper, Fixed, Opaque, Rest, Var, Text, Handle}
 use Rattle.capture3.specs.Entry.{Entry}
-use Rattle.canon3.specs.Examples.{call_of, connection, getattr, one, reply_of}
+use Rattle.canon3.specs.Examples.{call_of, connection, one, reply_of}
 use Rattle.listing3.specs.Listing.{entry_line, shown, shown_item}
 
 -- a line with its newline

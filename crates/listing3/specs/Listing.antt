@@ -6,7 +6,7 @@ use Rattle.xdr3.specs.Item.{Item, Word, Hyper, Fixed, WriteVerf, Opaque, Rest, K
 use Rattle.rpc_head.specs.declared.call.ProcId.{ProcId}
 use Rattle.rpc_head.specs.Messages.{procedure_in}
 use Rattle.procs3.specs.Names.{name_of}
-use Rattle.capture3.specs.Entry.{Entry, Begin, Call, Turn, Reply, Close, End}
+use Rattle.capture3.specs.Entry.{Entry, Call, Reply}
 use Rattle.canon3.specs.Parting.{connections, records_after}
 
 -- ---- values

@@ -54,18 +54,12 @@ fn hashers() -> Hashers<BuildHasherDefault<FoldHasher>> {
     }
 }
 
-// In blocks of so many bytes, where the read with this number fails.
-fn listed(
-    rt: &HostRuntime,
-    file: &[u8],
-    block: usize,
-    fail: u64,
-    sink: &mut MemSink,
-) -> Result<Summary, Error> {
+// In blocks of 7 bytes, where the read with this number fails.
+fn listed(rt: &HostRuntime, file: &[u8], fail: u64, sink: &mut MemSink) -> Result<Summary, Error> {
     show(
         rt.alloc(),
         hashers(),
-        &mut MemSource::new(file, block, fail),
+        &mut MemSource::new(file, 7, fail),
         sink,
     )
 }
@@ -80,7 +74,7 @@ fn lines_of_two_connections(rt: HostRuntime) -> Result<(), Fail> {
         replies: 1,
         handles: 1,
     };
-    assert_eq!(rt; listed(&rt, &bytes, 999, 0, &mut sink), Ok(summary));
+    assert_eq!(rt; listed(&rt, &bytes, 0, &mut sink), Ok(summary));
     assert_eq!(rt; sink.bytes(), lines(rt.alloc())?.as_slice());
     Ok(())
 }
@@ -89,7 +83,9 @@ fn lines_of_two_connections(rt: HostRuntime) -> Result<(), Fail> {
 fn one_byte_a_read_and_one_a_write(rt: HostRuntime) -> Result<(), Fail> {
     let bytes = capture(rt.alloc())?;
     let mut sink = MemSink::new(rt.alloc(), 999, 1, 0)?;
-    assert_eq!(rt; listed(&rt, &bytes, 1, 0, &mut sink)?.calls, 2);
+    let mut source = MemSource::new(&bytes, 1, 0);
+    let summary = show(rt.alloc(), hashers(), &mut source, &mut sink)?;
+    assert_eq!(rt; summary.calls, 2);
     assert_eq!(rt; sink.bytes(), lines(rt.alloc())?.as_slice());
     Ok(())
 }
@@ -105,7 +101,7 @@ fn the_lines_before_a_fault(rt: HostRuntime) -> Result<(), Fail> {
         reason: Reason::CaptureCut,
     };
     assert_eq!(rt;
-        listed(&rt, &bytes, 7, 0, &mut sink),
+        listed(&rt, &bytes, 0, &mut sink),
         Err(Error::Refused(fault))
     );
     let mut text = lines(rt.alloc())?;
@@ -119,7 +115,7 @@ fn the_lines_before_a_fault(rt: HostRuntime) -> Result<(), Fail> {
 fn the_lines_before_a_failed_read(rt: HostRuntime) -> Result<(), Fail> {
     let bytes = capture(rt.alloc())?;
     let mut sink = MemSink::new(rt.alloc(), 999, 9, 0)?;
-    assert_eq!(rt; listed(&rt, &bytes, 7, 11, &mut sink), Err(Error::Read));
+    assert_eq!(rt; listed(&rt, &bytes, 11, &mut sink), Err(Error::Read));
     let mut text = lines(rt.alloc())?;
     text.truncate(LINES[0].len() + LINES[1].len());
     assert_eq!(rt; sink.bytes(), text.as_slice());
@@ -130,7 +126,7 @@ fn the_lines_before_a_failed_read(rt: HostRuntime) -> Result<(), Fail> {
 fn a_front_where_room_is_wanting(rt: HostRuntime) -> Result<(), Fail> {
     let bytes = capture(rt.alloc())?;
     let mut sink = MemSink::new(rt.alloc(), 200, 9, 0)?;
-    assert_eq!(rt; listed(&rt, &bytes, 7, 0, &mut sink), Err(Error::Write));
+    assert_eq!(rt; listed(&rt, &bytes, 0, &mut sink), Err(Error::Write));
     let mut text = lines(rt.alloc())?;
     text.truncate(200);
     assert_eq!(rt; sink.bytes(), text.as_slice());
@@ -142,7 +138,7 @@ fn a_front_where_room_is_wanting(rt: HostRuntime) -> Result<(), Fail> {
 fn a_failed_flush(rt: HostRuntime) -> Result<(), Fail> {
     let bytes = capture(rt.alloc())?;
     let mut sink = MemSink::new(rt.alloc(), 999, 999, 7)?;
-    assert_eq!(rt; listed(&rt, &bytes, 999, 0, &mut sink), Err(Error::Write));
+    assert_eq!(rt; listed(&rt, &bytes, 0, &mut sink), Err(Error::Write));
     assert_eq!(rt; sink.bytes(), lines(rt.alloc())?.as_slice());
     Ok(())
 }

@@ -32,11 +32,15 @@ fn push_name_parts(out: &mut Vec<u8>, name: &'static str) -> Result<(), AllocErr
     Ok(())
 }
 
-/// Appends a number in decimal.
+/// Appends a number in decimal. Most numbers of a capture have one digit.
+#[tactic(auto, using(std::proofs::lemmas::Fmt::decimal_digit))]
 pub(crate) fn push_decimal(out: &mut Vec<u8>, n: u64) -> Result<(), AllocError>
     ensures ok { OnOk result (out.new.items ≡ out.old.items ++ decimal n) }
     ensures err { OnErr result (out.new.items ≡ out.old.items) }
 {
+    if n < 10 {
+        return out.extend_from_slice(&[b'0' + n as u8]);
+    }
     let mut buffer = Buffer::new();
     out.extend_from_slice(buffer.format(n).as_bytes())
 }

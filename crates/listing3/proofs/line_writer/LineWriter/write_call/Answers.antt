@@ -1,4 +1,4 @@
-use Rattle.std.proofs.Common.{[], List, ℕ, refl, subst}
+use Rattle.std.proofs.Common.{[], refl, subst}
 use Rattle.std.specs.Io.KnownBytes.{Appends}
 use Rattle.std.proofs.KnownBytes.{Appends-nil}
 use Rattle.xdr3.proofs.Walks.{on_err}

@@ -1,4 +1,4 @@
-use Rattle.std.proofs.Common.{List, [], ◌∷◌, ◌++◌, subst, sym, ◌∙◌}
+use Rattle.std.proofs.Common.{[], ◌∷◌, ◌++◌, subst, sym, ◌∙◌}
 use Rattle.canon3.specs.Progress.{HasPassed}
 use Rattle.canon3.specs.Summing.{all_items, AreCounted}
 use Rattle.listing3.proofs.LineLemmas.{listed_more}
