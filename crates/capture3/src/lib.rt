@@ -28,5 +28,6 @@ pub use fault::{Error, Fault, Place, Side};
 pub use hashers::Hashers;
 pub use message::{CallMsg, ReplyMsg};
 pub use packing::{pack_chunk, pack_header};
+pub use position::{MAX_BYTES, MAX_CONNECTIONS};
 pub use source::{FromRead, MemSource, Source};
 pub use whole::parse;

@@ -15,10 +15,10 @@ use xdr3::Reason;
 pub(crate) const MAGIC: [u8; 8] = *b"NFS3CAP1";
 
 /// The most connections of a capture.
-const MAX_CONNECTIONS: u32 = 65_535;
+pub const MAX_CONNECTIONS: u32 = 65_535;
 
 /// The most stream bytes of a capture, all its streams together.
-const MAX_BYTES: u32 = 1_073_741_824;
+pub const MAX_BYTES: u32 = 1_073_741_824;
 
 /// What is whole in a capture.
 #[derive(Clone, Copy, Debug, PartialEq, Eq)]

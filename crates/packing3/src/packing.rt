@@ -14,12 +14,9 @@ ghost use Rattle.packing3.specs.Streaming.{HasConnection};
 use crate::block::zeros;
 use crate::stream::{Extent, FULL_CHUNK, write, write_connection};
 use canon3::Sink;
-use capture3::{Error, Source, pack_chunk, pack_header};
+use capture3::{Error, MAX_CONNECTIONS, Source, pack_chunk, pack_header};
 use std::alloc::Global;
 use xdr3::Reason;
-
-/// The most connections of a capture.
-const MAX_CONNECTIONS: u32 = 65_535;
 
 /// Packs recorded streams into a capture, one connection after another. It holds one chunk.
 ///
@@ -50,7 +47,7 @@ impl<W: Sink> Packing<W> {
     ///
     /// `Memory`, and nothing is written; or `Write`, and a front of the magic is written. The sink
     /// is given back.
-    pub fn start(alloc: Global, sink: W) -> Result<Packing<W>, (Error, W)>
+    pub fn start(alloc: Global, mut sink: W) -> Result<Packing<W>, (Error, W)>
         ensures stands { IfOk result (λ packing. StandsFor W.written packing (W.written sink) []) }
         ensures err { IfErr result (λ failed. FailsToStart W.written sink failed.0 failed.1) }
         ensures write { CountsStart W.failures sink result }
@@ -59,7 +56,6 @@ impl<W: Sink> Packing<W> {
             Ok(block) => block,
             Err(_) => return Err((Error::Memory, sink)),
         };
-        let mut sink = sink;
         match write(&mut sink, &pack_header()) {
             Ok(()) => Ok(Packing {
                 sink,

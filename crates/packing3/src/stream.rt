@@ -12,14 +12,11 @@ ghost use Rattle.packing3.specs.Streaming.{HasChunk, HasConnection, HasStream, G
 
 use crate::block::fill;
 use canon3::{Sink, write_all};
-use capture3::{Error, Fault, Place, Source, pack_chunk};
+use capture3::{Error, Fault, MAX_BYTES, Place, Source, pack_chunk};
 use xdr3::Reason;
 
 /// How many bytes a full chunk has.
 pub(crate) const FULL_CHUNK: usize = 65_536;
-
-/// The most stream bytes of a capture, all its streams together.
-const MAX_BYTES: u32 = 1_073_741_824;
 
 /// How much of a capture is written.
 #[derive(Clone, Copy)]
