@@ -1,1 +1,1 @@
-mod FileWords
+mod Forms

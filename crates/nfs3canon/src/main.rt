@@ -11,15 +11,12 @@ use canon3::{ToWrite, canon, check};
 use capture3::{Error, FromRead, Hashers};
 use command::job;
 use outcome::{Job, LineFault, Outcome, Report};
-use printed::report;
+use printed::{OUTSIDE, report};
 use std::alloc::AllocError;
 use std::hash::RandomState;
 use std::io::{BufWriter, Write};
 use std::process::ExitCode;
 use std::{env, fs, io};
-
-/// The status of an ending that the outside brought about: a file, a device, or memory.
-const OUTSIDE: u8 = 3;
 
 /// The words of the command line, the program's name first.
 fn words(rt: &HostRuntime) -> Result<Vec<String>, LineFault> {
@@ -36,6 +33,7 @@ fn run(rt: &HostRuntime) -> Result<Report, AllocError> {
     match job(alloc, &words) {
         Ok(Job::Check(name)) => report(alloc, &checked(rt, name)),
         Ok(Job::Canon(input, output)) => report(alloc, &rewritten(rt, input, output)),
+        Ok(_) => report(alloc, &Outcome::Counted(Err(Error::Memory))),
         Err(fault) => report(alloc, &Outcome::Line(fault)),
     }
 }
@@ -50,26 +48,33 @@ fn hashers(rt: &HostRuntime) -> io::Result<Hashers<RandomState>> {
     })
 }
 
-fn checked<'a>(rt: &HostRuntime, name: &'a str) -> Outcome<'a> {
+fn checked(rt: &HostRuntime, name: &str) -> Outcome {
     let Ok(hashers) = hashers(rt) else {
         return Outcome::Counted(Err(Error::Read));
     };
     match fs::open(rt, name) {
         Ok(file) => Outcome::Counted(check(rt.alloc(), hashers, &mut FromRead::new(file))),
-        Err(_) => Outcome::Unopened(name),
+        Err(_) => unopened(rt, name),
+    }
+}
+
+fn unopened(rt: &HostRuntime, name: &str) -> Outcome {
+    match String::from_str(rt.alloc(), name) {
+        Ok(name) => Outcome::Unopened(name),
+        Err(_) => Outcome::Line(LineFault::Memory),
     }
 }
 
 /// The output is made, or emptied, once the input is open.
-fn rewritten<'a>(rt: &HostRuntime, input: &'a str, output: &'a str) -> Outcome<'a> {
+fn rewritten(rt: &HostRuntime, input: &str, output: &str) -> Outcome {
     let Ok(hashers) = hashers(rt) else {
         return Outcome::Counted(Err(Error::Read));
     };
     let Ok(source) = fs::open(rt, input) else {
-        return Outcome::Unopened(input);
+        return unopened(rt, input);
     };
     let Ok(sink) = fs::create(rt, output) else {
-        return Outcome::Unopened(output);
+        return unopened(rt, output);
     };
     Outcome::Counted(match BufWriter::new(rt.alloc(), sink) {
         Ok(sink) => canon(

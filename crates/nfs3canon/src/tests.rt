@@ -330,7 +330,11 @@ fn endings_without_a_capture(rt: HostRuntime) -> Result<(), Fail> {
         (Outcome::Counted(Err(Error::Read)), 3, "read failed\n"),
         (Outcome::Counted(Err(Error::Write)), 3, "write failed\n"),
         (Outcome::Counted(Err(Error::Memory)), 3, "out of memory\n"),
-        (Outcome::Unopened("a b"), 3, "open failed: a b\n"),
+        (
+            Outcome::Unopened(String::from_str(rt.alloc(), "a b\n\\")?),
+            3,
+            "open failed: a b\\x0a\\x5c\n",
+        ),
         (Outcome::Line(LineFault::Memory), 3, "out of memory\n"),
         (
             Outcome::Line(LineFault::SameName),
@@ -356,7 +360,9 @@ fn command_lines(rt: HostRuntime) -> Result<(), Fail> {
         "nfs3canon check a b",
         "nfs3canon canon a",
         "nfs3canon canon a b c",
-        "nfs3canon show a",
+        "nfs3canon show a b",
+        "nfs3canon same a",
+        "nfs3canon pack a",
         "nfs3canon help",
     ];
     for line in &lines {
