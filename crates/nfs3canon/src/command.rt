@@ -6,7 +6,8 @@ ghost use Rattle.nfs3canon.specs.Asked.{AreRefused, Asks, HasText, TellsUsage};
 use crate::outcome::{Job, LineFault};
 use std::alloc::{AllocError, Global};
 
-const USAGE: &str = "usage: nfs3canon check FILE\n       nfs3canon canon IN OUT\n";
+const USAGE: &str =
+    "usage: nfs3canon check FILE\n       nfs3canon show FILE\n       nfs3canon canon IN OUT\n       nfs3canon same A B\n       nfs3canon pack OUT C1 S1 [C2 S2 ..]\n";
 
 /// Reads the words of a command line, the program's name first.
 pub fn job<'a>(alloc: Global, words: &'a [String]) -> Result<Job<'a>, LineFault>

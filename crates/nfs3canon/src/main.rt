@@ -1,26 +1,31 @@
-// Checks recorded NFS version 3 traffic.
+// Checks, lists, compares and packs recorded NFS version 3 traffic, and brings it into a canonical form.
 #![tactic(auto)]
 
 mod command;
+mod jobs;
 mod outcome;
+mod output;
 mod printed;
 #[cfg(test)]
 mod tests;
 
-use canon3::{ToWrite, canon, check};
-use capture3::{Error, FromRead, Hashers};
+use capture3::Error;
 use command::job;
+use jobs::{checked, compared, rewritten};
 use outcome::{Job, LineFault, Outcome, Report};
-use printed::{OUTSIDE, report};
+use output::is_standard_output;
+use printed::{OUTSIDE, aside, report};
 use std::alloc::AllocError;
-use std::hash::RandomState;
-use std::io::{BufWriter, Write};
+use std::io::{ErrorKind, Write};
 use std::process::ExitCode;
-use std::{env, fs, io};
+use std::{env, io};
 
 /// The words of the command line, the program's name first.
 fn words(rt: &HostRuntime) -> Result<Vec<String>, LineFault> {
-    let args = env::args(rt).map_err(|_| LineFault::Memory)?;
+    let args = env::args(rt).map_err(|error| match error.kind() {
+        ErrorKind::InvalidData => LineFault::NotText,
+        _ => LineFault::Memory,
+    })?;
     args.collect(rt.alloc()).map_err(|_| LineFault::Memory)
 }
 
@@ -32,73 +37,38 @@ fn run(rt: &HostRuntime) -> Result<Report, AllocError> {
     };
     match job(alloc, &words) {
         Ok(Job::Check(name)) => report(alloc, &checked(rt, name)),
-        Ok(Job::Canon(input, output)) => report(alloc, &rewritten(rt, input, output)),
-        Ok(_) => report(alloc, &Outcome::Counted(Err(Error::Memory))),
+        Ok(Job::Canon(input, output)) => {
+            let report = report(alloc, &rewritten(rt, input, output))?;
+            if is_standard_output(rt, output) {
+                aside(alloc, report)
+            } else {
+                Ok(report)
+            }
+        }
+        Ok(Job::Same(first, second)) => report(alloc, &compared(rt, first, second)),
+        Ok(Job::Show(_) | Job::Pack(_, _)) => report(alloc, &Outcome::Listed(Err(Error::Read))),
         Err(fault) => report(alloc, &Outcome::Line(fault)),
     }
 }
 
-/// The hashers have keys that nobody who writes a capture can know.
-fn hashers(rt: &HostRuntime) -> io::Result<Hashers<RandomState>> {
-    Ok(Hashers {
-        calls: RandomState::new(rt)?,
-        xids: RandomState::new(rt)?,
-        handles: RandomState::new(rt)?,
-        verfs: RandomState::new(rt)?,
-    })
-}
-
-fn checked(rt: &HostRuntime, name: &str) -> Outcome {
-    let Ok(hashers) = hashers(rt) else {
-        return Outcome::Counted(Err(Error::Read));
-    };
-    match fs::open(rt, name) {
-        Ok(file) => Outcome::Counted(check(rt.alloc(), hashers, &mut FromRead::new(file))),
-        Err(_) => unopened(rt, name),
-    }
-}
-
-fn unopened(rt: &HostRuntime, name: &str) -> Outcome {
-    match String::from_str(rt.alloc(), name) {
-        Ok(name) => Outcome::Unopened(name),
-        Err(_) => Outcome::Line(LineFault::Memory),
-    }
-}
-
-/// The output is made, or emptied, once the input is open.
-fn rewritten(rt: &HostRuntime, input: &str, output: &str) -> Outcome {
-    let Ok(hashers) = hashers(rt) else {
-        return Outcome::Counted(Err(Error::Read));
-    };
-    let Ok(source) = fs::open(rt, input) else {
-        return unopened(rt, input);
-    };
-    let Ok(sink) = fs::create(rt, output) else {
-        return unopened(rt, output);
-    };
-    Outcome::Counted(match BufWriter::new(rt.alloc(), sink) {
-        Ok(sink) => canon(
-            rt.alloc(),
-            hashers,
-            &mut FromRead::new(source),
-            &mut ToWrite::new(sink),
-        ),
-        Err(_) => Err(Error::Memory),
-    })
-}
-
 fn print_report(rt: &HostRuntime, report: &Report) -> io::Result<()> {
     rt.stdout().write_all(&report.out)?;
-    rt.stdout().flush()?;
-    rt.stderr().write_all(&report.err)
+    rt.stdout().flush()
+}
+
+/// Nothing is left to be told where standard error fails.
+fn print_error(rt: &HostRuntime, text: &[u8]) {
+    let _ = rt.stderr().write_all(text);
 }
 
 fn main(rt: HostRuntime) -> ExitCode {
     let Ok(report) = run(&rt) else {
         return ExitCode::from(OUTSIDE);
     };
-    match print_report(&rt, &report) {
-        Ok(()) => ExitCode::from(report.status),
-        Err(_) => ExitCode::from(OUTSIDE),
+    if print_report(&rt, &report).is_err() {
+        print_error(&rt, b"write failed\n");
+        return ExitCode::from(OUTSIDE);
     }
+    print_error(&rt, &report.err);
+    ExitCode::from(report.status)
 }

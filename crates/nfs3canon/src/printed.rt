@@ -31,6 +31,20 @@ pub fn report(alloc: Global, outcome: &Outcome) -> Result<Report, AllocError>
     }
 }
 
+/// The report with all that it prints on standard error, where standard output has other bytes.
+pub fn aside(alloc: Global, report: Report) -> Result<Report, AllocError>
+    ensures { IfOk result (Prints report.status [] (report.out.items ++ report.err.items)) }
+{
+    let Report { status, out, err } = report;
+    let mut text = out;
+    text.extend_from_slice(&err)?;
+    Ok(Report {
+        status,
+        out: Vec::new(alloc),
+        err: text,
+    })
+}
+
 /// A report with a text on standard output.
 fn printed(alloc: Global, status: u8, out: String) -> Result<Report, AllocError>
     ensures { IfOk result (Prints status (string_bytes out) []) }
