@@ -1,5 +1,6 @@
 -- What the words of a command line ask for.
-use Rattle.std.specs.Prelude.{◌≡◌, ◌≢◌, ◌<◌, ◌%◌, ◌⊎◌, List, [], ◌∷◌, ℕ, Contains, codes, length, map, string_bytes}
+use Rattle.std.specs.Prelude.{◌≡◌, ◌≢◌, ◌==◌, false, ◌<◌, ◌%◌, ◌⊎◌, List, [], ◌∷◌, ℕ, Contains, codes, length, map, string_bytes}
+use Rattle.std.specs.List.{All}
 use Rattle.nfs3canon.specs.declared.outcome.Job.{Job}
 use Rattle.nfs3canon.specs.declared.outcome.Job.TheVariants as jobs
 use Rattle.nfs3canon.specs.declared.outcome.LineFault.{LineFault}
@@ -61,23 +62,32 @@ pub record HasOddStream (words : List (List ℕ)) : Type 0 where
   pub line : IsLine words (codes "pack" ∷ output ∷ streams)
   pub odd : length streams % 2 ≢ 0
 
--- where the fault is the usage, the line has none of the forms
+-- a word that is not empty and does not begin with a hyphen (2d)
+pub record IsFileWord (word : List ℕ) : Type 0 where
+  pub first : ℕ
+  pub rest : List ℕ
+  pub split : word ≡ first ∷ rest
+  pub no_hyphen : (first == 45) ≡ false
+
+abbrev pub AreFileWords : Form → Type 0
+AreFileWords (Check file) = IsFileWord file
+AreFileWords (Show file) = IsFileWord file
+AreFileWords (Canon input output) = IsFileWord input × IsFileWord output
+AreFileWords (Same first second) = IsFileWord first × IsFileWord second
+AreFileWords (Pack output stream streams) = IsFileWord output × IsFileWord stream × All IsFileWord streams
+
+-- where the fault is the usage, the line has none of the forms, or a file's name that is empty or begins with a hyphen
 abbrev pub AreRefused : List (List ℕ) → LineFault → Type 0
-AreRefused words (Usage _) = (form : Form) → IsLine words (words_of form) → ⊥
+AreRefused words (Usage _) = (form : Form) → IsLine words (words_of form) → AreFileWords form → ⊥
 AreRefused words Odd = HasOddStream words
 AreRefused words SameName = RewritesItself words ⊎ PacksItself words
 AreRefused words NotText = ⊥
 AreRefused words Memory = Unit
 
--- the text of a usage
-abbrev pub HasText : List ℕ → LineFault → Type 0
-HasText usage (Usage text) = string_bytes text ≡ usage
-HasText usage _ = Unit
-
 -- ---- within the crate
 
--- the usage, or want of memory for its text
-abbrev pub TellsUsage : List ℕ → LineFault → Type 0
-TellsUsage usage (Usage text) = string_bytes text ≡ usage
-TellsUsage usage Memory = Unit
-TellsUsage usage _ = ⊥
+-- a usage, or want of memory for its text
+abbrev pub IsUsage : LineFault → Type 0
+IsUsage (Usage _) = Unit
+IsUsage Memory = Unit
+IsUsage _ = ⊥

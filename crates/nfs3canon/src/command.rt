@@ -1,19 +1,61 @@
 // The command line.
 
-ghost use Rattle.std.specs.Prelude.{◌≤◌, ◌∷◌, ℕ, List, [], IfErr, IfOk, codes, length, map, string_bytes};
-ghost use Rattle.nfs3canon.specs.Asked.{AreRefused, Asks, HasText, TellsUsage};
+ghost use Rattle.std.specs.Prelude.{◌≤◌, ◌∷◌, ℕ, List, [], IfErr, IfOk, codes, length, map, string_bytes, ◌≡◌};
+ghost use Rattle.clap.specs.Words.{kind_of};
+ghost use Rattle.nfs3canon.specs.Asked.{AreRefused, Asks, IsUsage};
 
+use crate::grammar::command;
 use crate::outcome::{Job, LineFault};
+use clap::error::ErrorKind;
 use std::alloc::{AllocError, Global};
 
-const USAGE: &str =
-    "usage: nfs3canon check FILE\n       nfs3canon show FILE\n       nfs3canon canon IN OUT\n       nfs3canon same A B\n       nfs3canon pack OUT C1 S1 [C2 S2 ..]\n";
+const NO_FORM: &str =
+    "error: a line has no `--`; a file whose name begins with a hyphen is named as ./-NAME\n";
 
-/// Reads the words of a command line, the program's name first.
+/// Reads the words of a command line, the program's name first. A line that clap does not take, and a call
+/// for help, is answered by the text that clap writes.
 pub fn job<'a>(alloc: Global, words: &'a [String]) -> Result<Job<'a>, LineFault>
     ensures asked { IfOk result (Asks (map string_bytes words.now)) }
     ensures refused { IfErr result (AreRefused (map string_bytes words.now)) }
-    ensures usage { IfErr result (HasText USAGE.now) }
+{
+    match taken(alloc, words) {
+        Ok(()) => placed(alloc, words),
+        Err(fault) => Err(fault),
+    }
+}
+
+/// Whether clap takes the line.
+fn taken(alloc: Global, words: &[String]) -> Result<(), LineFault>
+    ensures { IfErr result (AreRefused (map string_bytes words.now)) }
+{
+    let command = match command(alloc) {
+        Ok(command) => command,
+        Err(_) => return Err(LineFault::Memory),
+    };
+    match command.try_get_matches_from(words) {
+        Ok(_matches) => Ok(()),
+        Err(error) => Err(told(alloc, error)),
+    }
+}
+
+/// What clap says.
+fn told(alloc: Global, error: clap::Error) -> LineFault
+    ensures usage { IsUsage result }
+    ensures memory { kind_of error ≡ ErrorKind.OutOfMemory → result ≡ LineFault.Memory }
+{
+    if error.kind() == ErrorKind::OutOfMemory {
+        return LineFault::Memory;
+    }
+    match format!(in alloc; "{error}") {
+        Ok(text) => LineFault::Usage(text),
+        Err(_) => LineFault::Memory,
+    }
+}
+
+/// The job of a line that clap took. Of such lines only those with `--` have none of the forms.
+fn placed<'a>(alloc: Global, words: &'a [String]) -> Result<Job<'a>, LineFault>
+    ensures asked { IfOk result (Asks (map string_bytes words.now)) }
+    ensures refused { IfErr result (AreRefused (map string_bytes words.now)) }
 {
     match words {
         [_, command, file] => of_one_file(alloc, command.as_str(), file.as_str()),
@@ -31,7 +73,6 @@ pub fn job<'a>(alloc: Global, words: &'a [String]) -> Result<Job<'a>, LineFault>
 fn of_one_file<'a>(alloc: Global, command: &str, file: &'a str) -> Result<Job<'a>, LineFault>
     ensures asked { (program : List ℕ) → IfOk result (Asks (program ∷ command.now ∷ file.now ∷ [])) }
     ensures refused { (program : List ℕ) → IfErr result (AreRefused (program ∷ command.now ∷ file.now ∷ [])) }
-    ensures usage { IfErr result (HasText USAGE.now) }
 {
     match command {
         "check" => Ok(Job::Check(file)),
@@ -51,7 +92,6 @@ fn of_two_files<'a>(
         → IfOk result (Asks (program ∷ command.now ∷ first.now ∷ second.now ∷ [])) }
     ensures refused { (program : List ℕ)
         → IfErr result (AreRefused (program ∷ command.now ∷ first.now ∷ second.now ∷ [])) }
-    ensures usage { IfErr result (HasText USAGE.now) }
 {
     match command {
         "canon" => rewriting(first, second),
@@ -79,7 +119,6 @@ fn of_streams<'a>(
         (AreRefused
         (program ∷ command.now ∷ string_bytes output.now ∷ map string_bytes
         streams.now)) }
-    ensures usage { IfErr result (HasText USAGE.now) }
 {
     if command == "pack" {
         packing(output, streams)
@@ -93,7 +132,6 @@ fn rewriting<'a>(input: &'a str, output: &'a str) -> Result<Job<'a>, LineFault>
         → IfOk result (Asks (program ∷ codes "canon" ∷ input.now ∷ output.now ∷ [])) }
     ensures refused { (program : List ℕ)
         → IfErr result (AreRefused (program ∷ codes "canon" ∷ input.now ∷ output.now ∷ [])) }
-    ensures usage { IfErr result (HasText USAGE.now) }
 {
     if input == output {
         Err(LineFault::SameName)
@@ -114,7 +152,6 @@ fn packing<'a>(output: &'a String, streams: &'a [String]) -> Result<Job<'a>, Lin
         (AreRefused
         (program ∷ codes "pack" ∷ string_bytes output.now ∷ map string_bytes
         streams.now)) }
-    ensures usage { IfErr result (HasText USAGE.now) }
 {
     if streams.len() % 2 != 0 {
         Err(LineFault::Odd)
@@ -126,9 +163,9 @@ fn packing<'a>(output: &'a String, streams: &'a [String]) -> Result<Job<'a>, Lin
 }
 
 fn usage(alloc: Global) -> LineFault
-    ensures { TellsUsage USAGE.now result }
+    ensures { IsUsage result }
 {
-    let text: Result<String, AllocError> = String::from_str(alloc, USAGE);
+    let text: Result<String, AllocError> = String::from_str(alloc, NO_FORM);
     match text {
         Ok(text) => LineFault::Usage(text),
         Err(_) => LineFault::Memory,

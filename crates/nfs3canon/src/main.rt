@@ -2,6 +2,7 @@
 #![tactic(auto)]
 
 mod command;
+mod grammar;
 mod jobs;
 mod outcome;
 mod output;

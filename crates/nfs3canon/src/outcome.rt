@@ -1,7 +1,8 @@
 // What the program is asked for, what came of it, and what it prints.
 
 use canon3::{SameError, Summary, Verdict};
-use capture3::Error;
+use capture3 as captures;
+use thiserror::Error;
 
 /// What a command line asks for.
 #[derive(Clone, Copy, Debug, PartialEq, Eq)]
@@ -20,17 +21,22 @@ pub enum Job<'a> {
 }
 
 /// Why a command line is refused.
-#[derive(Debug, Drop)]
+#[derive(Debug, Drop, Error)]
 pub enum LineFault {
-    /// It has none of the program's forms. The text says which there are.
+    /// It has none of the program's forms, or asks for help. The text says so.
+    #[error("{0}")]
     Usage(String),
     /// A stream has no counterpart.
+    #[error("streams come in pairs")]
     Odd,
     /// The output is an input.
+    #[error("output names an input")]
     SameName,
     /// A word is not UTF-8.
+    #[error("a word of the line is not UTF-8")]
     NotText,
     /// Memory ran out.
+    #[error("out of memory")]
     Memory,
 }
 
@@ -38,13 +44,13 @@ pub enum LineFault {
 #[derive(Debug, Drop)]
 pub enum Outcome {
     /// A capture was read to its end and counted, or its first fault or a failure met.
-    Counted(Result<Summary, Error>),
+    Counted(Result<Summary, captures::Error>),
     /// A capture was listed, or its first fault or a failure met.
-    Listed(Result<Summary, Error>),
+    Listed(Result<Summary, captures::Error>),
     /// Two captures were compared, or a fault or a failure met.
     Compared(Result<Verdict, SameError>),
     /// Streams were packed, or a limit or a failure met.
-    Packed(Result<(), Error>),
+    Packed(Result<(), captures::Error>),
     /// A file of this name could not be opened or made.
     Unopened(String),
     /// The command line is refused.

@@ -1,7 +1,7 @@
 use Rattle.std.proofs.Common.{rules, arith, subst, sym, ◌≡◌, ◌≤◌, ◌∷◌, ℕ, List, IfErr, IfOk, codes, length, map, string_bytes}
 use Rattle.std.proofs.lemmas.List.{length-map}
 use Rattle.nfs3canon.specs.Asked.{AreRefused, Asks}
-use Rattle.nfs3canon.proofs.Forms.{told_other}
+use Rattle.nfs3canon.proofs.LineLemmas.{told_other}
 use Rattle.nfs3canon.proofs.command.of_streams.Goals as goal
 
 pub returns-then-eq-clause-asked : goal.returns-then-eq-clause-asked
@@ -18,7 +18,7 @@ pub returns-else-eq-clause-refused : goal.returns-else-eq-clause-refused
 returns-else-eq-clause-refused c = λ program.
     let many : length (map string_bytes c.args.streams.now) ≡ length c.args.streams.now = length-map c.args.streams.now string_bytes in
     let low : 2 ≤ length c.args.streams.now = c.requires in
-    told_other _ program c.args.command.now (string_bytes c.args.output.now ∷ map string_bytes c.args.streams.now) c.usage.result c.usage.ensures (record {
+    told_other program c.args.command.now (string_bytes c.args.output.now ∷ map string_bytes c.args.streams.now) c.usage.result c.usage.ensures (record {
       check = λ e n. omega (arith, n, many, low);
       show = λ e n. omega (arith, n, many, low);
       canon = λ e n. omega (arith, n, many, low);

@@ -1,6 +1,6 @@
 use Rattle.std.proofs.Common.{arith, subst, sym, ◌∷◌, ℕ, List, [], IfErr, IfOk}
 use Rattle.nfs3canon.specs.Asked.{AreRefused, Asks}
-use Rattle.nfs3canon.proofs.Forms.{told_other}
+use Rattle.nfs3canon.proofs.LineLemmas.{told_other}
 use Rattle.nfs3canon.proofs.command.of_two_files.Goals as goal
 
 pub returns-in-canon-clause-asked : goal.returns-in-canon-clause-asked
@@ -13,7 +13,7 @@ returns-in-canon-clause-refused c = λ program.
 
 pub returns-in_default-clause-refused : goal.returns-in_default-clause-refused
 returns-in_default-clause-refused c = λ program.
-    told_other _ program c.args.command.now (c.args.first.now ∷ c.args.second.now ∷ []) c.usage.result c.usage.ensures (record {
+    told_other program c.args.command.now (c.args.first.now ∷ c.args.second.now ∷ []) c.usage.result c.usage.ensures (record {
       check = λ e n. omega (arith, n);
       show = λ e n. omega (arith, n);
       canon = λ e. absurd (c.in_default.not-canon e);

@@ -1,4 +1,4 @@
--- What the words of a command line are, by their number.
+-- Which forms the words of a command line have.
 use Rattle.std.proofs.Common.{refl, inl, inr, Bool, true, false, ◌||◌, ◌⊎◌, Contains, ◌≡◌, ◌≢◌, ◌<◌, ◌≤◌, ℕ, List, [], ◌∷◌, codes, length, map, drop, take, ◌-◌, slice_index_or, string_bytes, String, Global, ap, ◌∙◌, arith, zero, suc}
 use Rattle.std.proofs.Math.Seq.{take-length}
 use Rattle.std.specs.List.{list_any}
@@ -6,7 +6,7 @@ use Rattle.std.specs.String.{string_eq}
 use Rattle.std.proofs.lemmas.Slice.Eq.{bytes_eq-Decides}
 use Rattle.nfs3canon.specs.declared.outcome.LineFault.{LineFault}
 use Rattle.nfs3canon.specs.declared.outcome.LineFault.TheVariants.{Usage, Odd, SameName, NotText, Memory}
-use Rattle.nfs3canon.specs.Asked.{AreRefused, HasText, TellsUsage, Form, Check, Show, Canon, Same, Pack, IsLine, words_of}
+use Rattle.nfs3canon.specs.Asked.{AreRefused, IsUsage, Form, Check, Show, Canon, Same, Pack, IsLine, words_of}
 
 abbrev pub tail_of : List (List ℕ) → List (List ℕ)
 tail_of [] = []
@@ -40,16 +40,16 @@ no_form program command names is (Pack a b more) line =
     let n : length names ≡ length (a ∷ b ∷ more) = ap (λ l. length (tail_of (tail_of l))) e in
     absurd (omega (arith, n, short))
 
--- the usage is the answer to a line of none of the forms
-pub told : (usage : List ℕ) (words : List (List ℕ)) (fault : LineFault) → TellsUsage usage fault → ((form : Form) → IsLine words (words_of form) → ⊥) → AreRefused words fault
-told usage words (Usage text) is none = none
-told usage words Odd is none = absurd is
-told usage words SameName is none = absurd is
-told usage words NotText is none = absurd is
-told usage words Memory is none = tt
+-- a usage is the answer to a line of none of the forms
+pub told : (words : List (List ℕ)) (fault : LineFault) → IsUsage fault → ((form : Form) → IsLine words (words_of form) → ⊥) → AreRefused words fault
+told words (Usage text) is none = λ form line names. none form line
+told words Odd is none = absurd is
+told words SameName is none = absurd is
+told words NotText is none = absurd is
+told words Memory is none = tt
 
-pub told_other : (usage program command : List ℕ) (names : List (List ℕ)) (fault : LineFault) → TellsUsage usage fault → IsOther command names → AreRefused (program ∷ command ∷ names) fault
-told_other usage program command names fault is other = told usage (program ∷ command ∷ names) fault is (no_form program command names other)
+pub told_other : (program command : List ℕ) (names : List (List ℕ)) (fault : LineFault) → IsUsage fault → IsOther command names → AreRefused (program ∷ command ∷ names) fault
+told_other program command names fault is other = told (program ∷ command ∷ names) fault is (no_form program command names other)
 
 -- so few words have no form
 pub no_form_so_short : (words : List (List ℕ)) → length words < 3 → (form : Form) → IsLine words (words_of form) → ⊥
@@ -58,13 +58,6 @@ no_form_so_short words short (Show file) line = let n = ap length line.all in ab
 no_form_so_short words short (Canon a b) line = let n = ap length line.all in absurd (omega (arith, n, short))
 no_form_so_short words short (Same a b) line = let n = ap length line.all in absurd (omega (arith, n, short))
 no_form_so_short words short (Pack a b more) line = let n = ap length line.all in absurd (omega (arith, n, short))
-
-pub text_of_usage : (usage : List ℕ) (fault : LineFault) → TellsUsage usage fault → HasText usage fault
-text_of_usage usage (Usage text) is = is
-text_of_usage usage Odd is = tt
-text_of_usage usage SameName is = tt
-text_of_usage usage NotText is = tt
-text_of_usage usage Memory is = tt
 
 -- ---- what is among texts
 

@@ -1,13 +1,13 @@
 use Rattle.std.proofs.Common.{rules, refl, arith, IfErr, IfOk, sym, subst, map, string_bytes, ◌≡◌, length}
 use Rattle.std.proofs.lemmas.List.{length-map}
 use Rattle.nfs3canon.specs.Asked.{AreRefused, Asks}
-use Rattle.nfs3canon.proofs.Forms.{four_words, many_words, no_form_so_short, three_words, told}
-use Rattle.nfs3canon.proofs.command.job.Goals as goal
+use Rattle.nfs3canon.proofs.LineLemmas.{four_words, many_words, no_form_so_short, three_words, told}
+use Rattle.nfs3canon.proofs.command.placed.Goals as goal
 
 pub returns-in_default-clause-refused : goal.returns-in_default-clause-refused
 returns-in_default-clause-refused c =
     let many : length (map string_bytes c.args.words.now) ≡ length c.args.words.now = length-map c.args.words.now string_bytes in
-    told _ (map string_bytes c.args.words.now) c.usage.result c.usage.ensures (no_form_so_short (map string_bytes c.args.words.now) (omega (arith, many)))
+    told (map string_bytes c.args.words.now) c.usage.result c.usage.ensures (no_form_so_short (map string_bytes c.args.words.now) (omega (arith, many)))
 
 pub returns-in-len3-clause-asked : goal.returns-in-len3-clause-asked
 returns-in-len3-clause-asked c =
