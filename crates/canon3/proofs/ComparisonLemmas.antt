@@ -35,7 +35,7 @@ use Rattle.canon3.specs.Values.{handles, handles_in, items_of, verifiers, verifi
 use Rattle.canon3.proofs.AgreementLemmas.{agree_more, differ_here, mark_alike, no_more, not_same, parting, place_there, typed_first}
 use Rattle.canon3.proofs.First.{first_in_order, same_from_bytes}
 use Rattle.canon3.proofs.Growing.{bytes_behind, few_xids, handles_push, open-append, verifiers_push}
-use Rattle.canon3.proofs.Rewritten.{first_reached}
+use Rattle.canon3.proofs.Reaching.{first_reached}
 use Rattle.canon3.proofs.ProgressLemmas.{place_is}
 
 -- ---- one capture

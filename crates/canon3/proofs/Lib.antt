@@ -33,6 +33,7 @@ pub mod Visiting
 pub mod Opening
 pub mod Entering
 pub mod Growing
+pub mod EntryWriterLemmas
 pub mod Rewritten
 pub mod SpellingLemmas
 pub mod ProgressLemmas

@@ -14,7 +14,7 @@ use Rattle.canon3.specs.Progress.{HasPassed, keeps_side, place_from, side_in, pr
 
 -- ---- one entry more
 
-connections-append : (a b : List Entry) → connections (a ++ b) ≡ connections a + connections b
+pub connections-append : (a b : List Entry) → connections (a ++ b) ≡ connections a + connections b
 connections-append [] b = omega arith
 connections-append (Begin ∷ a) b = omega (arith, connections-append a b)
 connections-append (Call m ∷ a) b = connections-append a b
@@ -23,7 +23,7 @@ connections-append (Reply id m ∷ a) b = connections-append a b
 connections-append (Close ∷ a) b = connections-append a b
 connections-append (End ∷ a) b = connections-append a b
 
-records-append : (n : ℕ) (a b : List Entry) → records_after n (a ++ b) ≡ records_after (records_after n a) b
+pub records-append : (n : ℕ) (a b : List Entry) → records_after n (a ++ b) ≡ records_after (records_after n a) b
 records-append n [] b = refl
 records-append n (Begin ∷ a) b = records-append 0 a b
 records-append n (Call m ∷ a) b = records-append (n + 1) a b

@@ -4,6 +4,7 @@ use Rattle.xdr3.specs.Item.{Item}
 use Rattle.capture3.specs.Bodies.{ReplyItems}
 use Rattle.capture3.specs.Capture.{Version, One, Streams, size, total_size, max_connections}
 use Rattle.capture3.specs.Chunks.{max_bytes}
+use Rattle.capture3.specs.Entries.{AreFirstReached}
 use Rattle.capture3.specs.Entry.{Entry, Begin, Call, Turn, Close, End}
 use Rattle.capture3.specs.Reached.{AreWhole, InMagic, BetweenConnections, InConnection, Reached, ReachesInside}
 use Rattle.capture3.specs.Typed.{Converses, HaveEntries, connection_entries, reply_entry}
@@ -14,6 +15,7 @@ use Rattle.canon3.specs.Laws.{AreFirst}
 use Rattle.canon3.proofs.Conversations.{AreConversing, Conversation, weight}
 use Rattle.canon3.proofs.Conversing.{conversing, conversing_weight}
 use Rattle.canon3.proofs.Files.{AreCapture, all_of, entries_of, have, total_weight, typed_anew}
+use Rattle.canon3.proofs.Growing.{first_front}
 use Rattle.canon3.proofs.Items.{all_append}
 
 first_of : (cs : List Conversation) (entries rest : List Entry) → AreCapture cs → all_of cs ≡ entries ++ rest → AreFirst entries
@@ -78,3 +80,7 @@ reached_first bytes entries (inl h) = record { file = bytes; all = entries; more
 reached_first bytes entries (inr h) =
     let (bad, front, whole, more, longest, is_whole, is) = h in
     subst AreFirst (sym (is ∙ ap (λ (l : List Entry). whole ++ l) (longest_more bytes front more longest) ∙ append-nil whole)) (whole_first front whole is_whole)
+
+-- the first of what they reach are so too
+pub first_reached : (given : List ℕ) (entries : List Entry) → AreFirstReached given entries → AreFirst entries
+first_reached given entries (more, reached) = first_front entries more (reached_first given (entries ++ more) reached)

@@ -1,11 +1,11 @@
 -- Numbers of keys by what they hold.
-use Rattle.std.proofs.Common.{◌≡◌, ℕ, ◌+◌, Bool, true, false, List, [], ◌∷◌, ◌++◌, length, map, refl, ap, ap₂, ◌∙◌, min, Result, Ok, Err}
-use Rattle.std.specs.Prelude.{if◌then◌else◌, bytes_eq, IfOk}
+use Rattle.std.proofs.Common.{◌≡◌, ℕ, List, [], ◌∷◌, ◌++◌, map, ap, ap₂, ◌∙◌, min, Result, Ok, Err}
+use Rattle.std.specs.Prelude.{bytes_eq, IfOk}
 use Rattle.std.proofs.lemmas.List.{map-append}
 use Rattle.nfs3_types.specs.declared.handle.Handle as declared
 use Rattle.nfs3_types.specs.Handle.{bytes_of}
 use Rattle.canon3.specs.Gathering.{HoldsHandles, same_handle}
-use Rattle.canon3.specs.Rank.{before, distinct, number_limit, rank, StandsFor}
+use Rattle.canon3.specs.Rank.{number_limit, rank, StandsFor}
 use Rattle.canon3.proofs.Gathering.{rank_mapped}
 
 mapped_more : (given : List declared.Handle) (handle : declared.Handle) (hs : List (List ℕ)) (bytes : List ℕ) → map bytes_of given ≡ hs → bytes_of handle ≡ bytes → map bytes_of (given ++ handle ∷ []) ≡ hs ++ bytes ∷ []

@@ -1,5 +1,5 @@
 -- What a sink has taken of bytes, piece by piece.
-use Rattle.std.proofs.Common.{◌≡◌, ℕ, List, ◌++◌, ◌∙◌, ap, append_assoc, drop, sym, length, length-drop, take, take-append-drop, arith, ◌+◌, ◌^◌, ◌≤◌}
+use Rattle.std.proofs.Common.{◌≡◌, ℕ, List, [], ◌++◌, ◌∙◌, ap, append_assoc, append-nil, drop, sym, length, length-drop, take, take-append-drop, arith, ◌+◌, ◌^◌, ◌≤◌}
 use Rattle.std.proofs.lemmas.List.{take_all}
 use Rattle.std.specs.Prelude.{Option}
 use Rattle.std.specs.Io.KnownBytes.{Appends}
@@ -17,6 +17,9 @@ taken_more {bytes = bytes} {rest = rest} first old new n m taken appended whole 
       split = taken.split ∙ ap (λ (l : List ℕ). taken.front ++ l) (sym (take-append-drop n rest)) ∙ sym (append_assoc taken.front (take n rest) (drop n rest));
       appended = Appends-trans first old new taken.front (take n rest) taken.appended appended;
     })
+
+pub whole_front : (old new : Option (List ℕ)) (bytes : List ℕ) → Appends old new bytes → AppendsFront old new bytes
+whole_front old new bytes appended = (bytes, [], sym (append-nil bytes), appended)
 
 -- ---- two lists of bytes, one after the other
 

@@ -14,6 +14,7 @@ pub mod Examples
 pub mod Written
 pub mod Numbered
 pub mod Writing
+pub mod EntryWriter
 pub mod Rewriting
 pub mod Progress
 pub mod Spelling

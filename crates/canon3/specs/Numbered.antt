@@ -1,8 +1,6 @@
 -- A writer of messages with numbers in place of file handles, write verifiers and xids.
-use Rattle.std.specs.Prelude.{◌≡◌, ◌≢◌, ◌⊎◌, ℕ, ◌<◌, ◌≤◌, ◌^◌, List, [], ◌∷◌, ◌++◌, length, map, min, bytes_eq, nat_eq}
+use Rattle.std.specs.Prelude.{◌≡◌, ◌≢◌, ◌⊎◌, ℕ, ◌<◌, ◌≤◌, ◌^◌, List, [], ◌∷◌, ◌++◌, length, min, bytes_eq, nat_eq}
 use Rattle.xdr3.specs.Item.{Item, Word, Hyper, Rest, zero_spelling}
-use Rattle.nfs3_types.specs.declared.handle.Handle as declared
-use Rattle.nfs3_types.specs.Handle.{bytes_of}
 use Rattle.canon3.specs.declared.numbered.Numbering.{Numbering}
 use Rattle.canon3.specs.declared.numbered.Stage.{Stage}
 use Rattle.canon3.specs.declared.numbered.Stage.TheVariants.{Begins, Goes, Failed}

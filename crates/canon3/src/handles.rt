@@ -17,14 +17,15 @@ use std::alloc::{AllocError, Global};
 use std::hash::BuildHasher;
 use xdr3::{Visit, Walk};
 
-/// A visitor that gathers the distinct file handles that are not empty.
+/// A visitor that gathers the distinct file handles that are not empty (RFC 1813, section 2.5).
 #[derive(Drop)]
-pub(crate) struct HandleTable<S: BuildHasher + Drop> {
+pub struct HandleTable<S: BuildHasher + Drop> {
     pub(crate) numbers: Numbers<Handle, S>,
 }
 
 impl<S: BuildHasher + Drop> HandleTable<S> {
-    pub(crate) fn new(alloc: Global, hasher: S) -> HandleTable<S>
+    /// No handles.
+    pub fn new(alloc: Global, hasher: S) -> HandleTable<S>
         ensures { Gathers result.numbers [] }
     {
         HandleTable {
@@ -66,7 +67,7 @@ impl<S: BuildHasher + Drop> HandleTable<S> {
     }
 
     /// How many there are, at most 4,294,967,295.
-    pub(crate) fn len(&self) -> u32
+    pub fn len(&self) -> u32
         ensures { (items : List Item) → Gathers self.now.numbers items → result ≡ min (length (distinct bytes_eq (handles_in items))) number_limit }
     {
         self.numbers.len()

@@ -2,6 +2,7 @@
 #![tactic(auto)]
 
 mod comparison;
+mod entry_writer;
 pub mod examples;
 mod form;
 mod handles;
@@ -20,9 +21,12 @@ mod verdict;
 mod writing;
 
 pub use comparison::same;
+pub use entry_writer::{EntryWriter, write_entries};
+pub use handles::HandleTable;
 pub use numbers::Numbers;
+pub use progress::Progress;
 pub use rewriting::canon;
 pub use sink::{MemSink, Sink, ToWrite};
-pub use summary::{Summary, check};
+pub use summary::{Counts, Summary, check};
 pub use verdict::{SameError, Verdict, Which};
 pub use writing::write_all;

@@ -7,7 +7,7 @@ use capture3::{Entry, Place, Side};
 
 /// How many connections began, and how many records the open stream has so far.
 #[derive(Clone, Copy)]
-pub(crate) struct Progress {
+pub struct Progress {
     connections: u32,
     records: u32,
 }
@@ -25,7 +25,7 @@ fn side_of(entry: &Entry) -> Option<Side>
 
 impl Progress {
     /// Before any entry.
-    pub(crate) fn new() -> Progress
+    pub fn new() -> Progress
         ensures behind { HasPassed result [] }
         ensures none { steps_of result ≡ 0 }
     {
@@ -35,8 +35,22 @@ impl Progress {
         }
     }
 
+    /// How many connections began.
+    pub fn connections(&self) -> u32
+        ensures { result ≡ self.now.connections }
+    {
+        self.connections
+    }
+
+    /// How many records the open stream has so far.
+    pub fn records(&self) -> u32
+        ensures { result ≡ self.now.records }
+    {
+        self.records
+    }
+
     /// One entry more.
-    pub(crate) fn pass(&mut self, entry: &Entry)
+    pub fn pass(&mut self, entry: &Entry)
         requires { steps_of self.old + 1 < 2 ^ 32 }
         ensures few { steps_of self.new ≤ steps_of self.old + 1 }
         ensures after { self.new ≡ progress_after self.old entry.now }

@@ -71,14 +71,15 @@ fn summed<R: Source, S: BuildHasher + Drop>(
 
 /// How many connections, calls and replies came.
 #[derive(Drop)]
-pub(crate) struct Counts {
+pub struct Counts {
     connections: u32,
     calls: u32,
     replies: u32,
 }
 
 impl Counts {
-    pub(crate) fn new() -> Counts
+    /// Before any entry.
+    pub fn new() -> Counts
         ensures counted { AreCounted result [] }
         ensures none { total result ≡ 0 }
     {
@@ -89,7 +90,8 @@ impl Counts {
         }
     }
 
-    pub(crate) fn add(&mut self, entry: &Entry)
+    /// One entry more.
+    pub fn add(&mut self, entry: &Entry)
         requires { total self.old + 1 < 2 ^ 32 }
         ensures few { total self.new ≤ total self.old + 1 }
         ensures counted { (one : spec.Entry) (entries : List spec.Entry) → IsKept entry.now one → AreCounted self.old entries → AreCounted self.new (entries ++ one ∷ []) }
@@ -112,7 +114,7 @@ impl Counts {
     }
 
     /// The summary with so many distinct handles.
-    pub(crate) fn summary(&self, handles: u32) -> Summary
+    pub fn summary(&self, handles: u32) -> Summary
         ensures { (entries : List spec.Entry) → AreCounted self.now entries → handles ≡ min (length (distinct bytes_eq (handles_in (all_items entries)))) number_limit → Sums result entries }
     {
         Summary {

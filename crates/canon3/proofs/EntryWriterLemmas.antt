@@ -1,0 +1,55 @@
+-- What is written of the entries that a reader hands out.
+use Rattle.std.proofs.Common.{◌≡◌, ⊎_elim, ℕ, Bool, true, false, List, [], ◌∷◌, ◌++◌, refl, Option, Result, Ok, Err, IfErr, IfOk, arith}
+use Rattle.std.specs.Prelude.{IsTrue}
+use Rattle.std.specs.Io.KnownBytes.{Appends, Consumes}
+use Rattle.std.proofs.KnownBytes.{Appends-nil, Consumes-nil}
+use Rattle.std.specs.declared.hash.BuildHasher as BuildHasher
+use Rattle.std.specs.declared.hash.Hasher as Hasher
+use Rattle.capture3.specs.declared.entries.Entries.{Entries}
+use Rattle.capture3.specs.declared.fault.Error.{Error}
+use Rattle.capture3.specs.declared.fault.Error.TheVariants as errors
+use Rattle.capture3.specs.Entries.{AreFirstReached, IsMetBy, StandsFor}
+use Rattle.capture3.specs.Entry.{Entry}
+use Rattle.capture3.specs.Reached.{Reached}
+use Rattle.capture3.proofs.Emits.{reached_by_machine}
+use Rattle.canon3.specs.EntryWriter.{GoesOn, HasWrittenOrCut, IsDone, IsStoppedBy, KeepsPrefixes, WritesGiven}
+use Rattle.canon3.specs.Writing.{IsOfWriting}
+use Rattle.canon3.specs.Written.{AppendsFront}
+use Rattle.canon3.proofs.Reaching.{reached_first}
+use Rattle.canon3.proofs.Written.{front_of_first, whole_front}
+
+module _ (form : List Entry → List ℕ) (prefixes : KeepsPrefixes form) where
+  cut_reached : (old new : Option (List ℕ)) (given : List ℕ) (entries : List Entry) → AreFirstReached given entries → AppendsFront old new (form entries)
+      → (all : List Entry) × Reached given all × AppendsFront old new (form all)
+  cut_reached old new given entries (more, reached) cut =
+      let (rest, is) = prefixes entries more (reached_first given (entries ++ more) reached) in
+      (entries ++ more, reached, front_of_first old new (form entries) rest (form (entries ++ more)) is cut)
+
+  -- the reader met an error
+  pub met_stops : (error : Error) (left old new : Option (List ℕ)) (given : List ℕ) (entries : List Entry) → IsMetBy error left given entries → Appends old new (form entries) → IsStoppedBy form error left given old new
+  met_stops (errors.Refused fault) left old new given entries met written = (entries, met, written)
+  met_stops errors.Read left old new given entries met written = (entries, met, written)
+  met_stops errors.Write left old new given entries met written = absurd met
+  met_stops errors.Memory left old new given entries met written = cut_reached old new given entries met (whole_front old new (form entries) written)
+
+  -- before any byte was read
+  pub nothing_written : (left old : Option (List ℕ)) → WritesGiven form left left old old (Err errors.Memory)
+  nothing_written left old = ([], Consumes-nil left, (_, reached_by_machine [] (λ k. omega arith), ([], _, refl, Appends-nil old)))
+
+  -- ---- along a reader
+
+  module _ {R S H T : Type 0} {builds : BuildHasher.Ghosts S H} {hashes : Hasher.Ghosts H} (stands : T → List Entry → Type 0) (left : R → Option (List ℕ)) (first old : Option (List ℕ)) (reader : Entries R S H builds hashes) (writer : T) (new : Option (List ℕ)) where
+    -- an entry was handed out and written, or cut
+    pub written_goes_on : (given : List ℕ) (handed : List Entry) (one : Entry) (result : Result Bool Error) → IfOk result IsTrue → IfErr result IsOfWriting
+        → Consumes first (left reader.source.now) given → AreFirstReached given (handed ++ one ∷ []) → StandsFor left reader given (handed ++ one ∷ [])
+        → HasWrittenOrCut form stands writer old new (handed ++ one ∷ []) result → GoesOn form stands left first old reader writer new result
+    written_goes_on given handed one (Ok true) more error consumed reached reads writes = record { given = given; handed = handed ++ one ∷ []; consumed = consumed; reads = reads; writes = writes }
+    written_goes_on given handed one (Ok false) more error consumed reached reads writes = absurd (cc)
+    written_goes_on given handed one (Err errors.Memory) more error consumed reached reads cut = record { given = given; consumed = consumed; stopped = cut_reached old new given (handed ++ one ∷ []) reached cut }
+    written_goes_on given handed one (Err errors.Write) more error consumed reached reads cut = record { given = given; consumed = consumed; stopped = cut_reached old new given (handed ++ one ∷ []) reached cut }
+    written_goes_on given handed one (Err errors.Read) more error consumed reached reads cut = ⊎_elim (λ e. absurd (cc)) (λ e. absurd (cc)) error
+    written_goes_on given handed one (Err (errors.Refused fault)) more error consumed reached reads cut = ⊎_elim (λ e. absurd (cc)) (λ e. absurd (cc)) error
+
+    pub is_done : (more : Bool) → more ≡ false → GoesOn form stands left first old reader writer new (Ok more) → IsDone form stands left first old reader writer new
+    is_done false ends done = done
+    is_done true ends done = absurd (cc)

@@ -1,0 +1,99 @@
+-- What is written of a capture's entries while it is read. A form says which bytes a list of entries is written as.
+use Rattle.std.specs.Prelude.{◌≡◌, ℕ, ◌<◌, ◌^◌, Bool, true, false, Option, List, [], ◌∷◌, ◌++◌, length, Result, Ok, Err}
+use Rattle.std.specs.Io.KnownBytes.{Appends, Consumes, IsAtEnd}
+use Rattle.std.specs.declared.hash.BuildHasher as BuildHasher
+use Rattle.std.specs.declared.hash.Hasher as Hasher
+use Rattle.capture3.specs.declared.entries.Entries.{Entries}
+use Rattle.capture3.specs.declared.entry.Entry as kept
+use Rattle.capture3.specs.declared.fault.Error.{Error}
+use Rattle.capture3.specs.declared.fault.Error.TheVariants as errors
+use Rattle.capture3.specs.Entries.{IsMetBy, StandsFor}
+use Rattle.capture3.specs.Entry.{Entry}
+use Rattle.capture3.specs.Kept.{IsKept}
+use Rattle.capture3.specs.Reached.{Reached}
+use Rattle.capture3.specs.Typed.{Typed}
+use Rattle.canon3.specs.declared.summary.Summary.{Summary}
+use Rattle.canon3.specs.Laws.{AreFirst}
+use Rattle.canon3.specs.Summing.{IsSummary}
+use Rattle.canon3.specs.Written.{AppendsFront}
+
+module _ (form : List Entry → List ℕ) where
+  -- What an error says, where the source gave these bytes and has so much left, and the sink had the old bytes and has the new ones. The fault is
+  -- the first of all bytes, and the form of the entries that these reach was written; or a read failed, and the form of the entries that the bytes
+  -- given reach before a capture's end; or a write failed or memory ran out, and a front was written of the form of the entries that the bytes
+  -- given reach.
+  abbrev pub IsStoppedBy : Error → (left : Option (List ℕ)) (given : List ℕ) (old new : Option (List ℕ)) → Type 0
+  IsStoppedBy (errors.Refused fault) left given old new = (entries : List Entry) × IsMetBy (errors.Refused fault) left given entries × Appends old new (form entries)
+  IsStoppedBy errors.Read left given old new = (entries : List Entry) × IsMetBy errors.Read left given entries × Appends old new (form entries)
+  IsStoppedBy errors.Write left given old new = (entries : List Entry) × Reached given entries × AppendsFront old new (form entries)
+  IsStoppedBy errors.Memory left given old new = (entries : List Entry) × Reached given entries × AppendsFront old new (form entries)
+
+  -- all bytes were a capture's, this is its summary, and the form of its entries was written; or an error came
+  abbrev pub Writes : (left : Option (List ℕ)) (given : List ℕ) (old new : Option (List ℕ)) → Result Summary Error → Type 0
+  Writes left given old new (Ok summary) = (entries : List Entry) × IsAtEnd left × Typed given entries × IsSummary given summary × Appends old new (form entries)
+  Writes left given old new (Err error) = IsStoppedBy error left given old new
+
+  -- the source gave some bytes, and the form of their entries was written
+  abbrev pub WritesGiven : (before left old new : Option (List ℕ)) → Result Summary Error → Type 0
+  WritesGiven before left old new result = (given : List ℕ) × Consumes before left given × Writes left given old new result
+
+-- the form of the first entries is a prefix of the form of all
+abbrev pub KeepsPrefixes : (List Entry → List ℕ) → Type 0
+KeepsPrefixes form = (entries more : List Entry) → AreFirst (entries ++ more) → (rest : List ℕ) × (form (entries ++ more) ≡ form entries ++ rest)
+
+-- a writer of a form, and which entries it stands for
+module _ {T : Type 0} (form : List Entry → List ℕ) (stands : T → List Entry → Type 0) where
+  -- the writer stands for these entries, and their form was written
+  pub record HasWritten (writer : T) (old new : Option (List ℕ)) (entries : List Entry) : Type 0 where
+    pub stands_for : stands writer entries
+    pub written : Appends old new (form entries)
+
+  -- the same, or a front of their form was written
+  abbrev pub HasWrittenOrCut : {X : Type 0} → T → (old new : Option (List ℕ)) → List Entry → Result X Error → Type 0
+  HasWrittenOrCut writer old new entries (Ok x) = HasWritten writer old new entries
+  HasWrittenOrCut writer old new entries (Err error) = AppendsFront old new (form entries)
+
+  -- One entry more of a well-formed capture is written, or cut. The sink had the bytes before, and has those after.
+  abbrev pub WritesOne : (was now : T) (before after : Option (List ℕ)) → kept.Entry → {X : Type 0} → Result X Error → Type 0
+  WritesOne was now before after entry result =
+      (old : Option (List ℕ)) (entries : List Entry) (one : Entry) → IsKept entry one → AreFirst (entries ++ one ∷ []) → length (entries ++ one ∷ []) < 2 ^ 32
+      → HasWritten was old before entries → HasWrittenOrCut now old after (entries ++ one ∷ []) result
+
+-- ---- within the crate
+
+-- all that was left was read, and is a capture with these entries
+pub record IsEnded (first left : Option (List ℕ)) (given : List ℕ) (entries : List Entry) : Type 0 where
+  pub consumed : Consumes first left given
+  pub ended : IsAtEnd left
+  pub typed : Typed given entries
+
+-- a reader that hands out entries, from when so much was left first, and a writer to a sink, from when it had the old bytes
+module _ {T R S H : Type 0} {builds : BuildHasher.Ghosts S H} {hashes : Hasher.Ghosts H} (form : List Entry → List ℕ) (stands : T → List Entry → Type 0) (left : R → Option (List ℕ)) (first old : Option (List ℕ)) where
+  -- what it handed out was written
+  pub record IsUnderWay (reader : Entries R S H builds hashes) (writer : T) (new : Option (List ℕ)) : Type 0 where
+    pub given : List ℕ
+    pub handed : List Entry
+    pub consumed : Consumes first (left reader.source.now) given
+    pub reads : StandsFor left reader given handed
+    pub writes : HasWritten form stands writer old new handed
+
+  -- all bytes were a capture's, and the form of all its entries was written
+  pub record IsDone (reader : Entries R S H builds hashes) (writer : T) (new : Option (List ℕ)) : Type 0 where
+    pub given : List ℕ
+    pub handed : List Entry
+    pub ended : IsEnded first (left reader.source.now) given handed
+    pub writes : HasWritten form stands writer old new handed
+
+  pub record HasStopped (reader : Entries R S H builds hashes) (new : Option (List ℕ)) (error : Error) : Type 0 where
+    pub given : List ℕ
+    pub consumed : Consumes first (left reader.source.now) given
+    pub stopped : IsStoppedBy form error (left reader.source.now) given old new
+
+  abbrev pub GoesOn : Entries R S H builds hashes → T → Option (List ℕ) → Result Bool Error → Type 0
+  GoesOn reader writer new (Ok true) = IsUnderWay reader writer new
+  GoesOn reader writer new (Ok false) = IsDone reader writer new
+  GoesOn reader writer new (Err error) = HasStopped reader new error
+
+  abbrev pub IsOver : {X : Type 0} → Entries R S H builds hashes → T → Option (List ℕ) → Result X Error → Type 0
+  IsOver reader writer new (Ok x) = IsDone reader writer new
+  IsOver reader writer new (Err error) = HasStopped reader new error

@@ -1,0 +1,13 @@
+//! The listing of a capture: one line for each message.
+#![tactic(auto)]
+
+pub mod examples;
+mod item_text;
+pub mod laws;
+mod line_writer;
+mod listing;
+#[cfg(test)]
+mod tests;
+mod text;
+
+pub use listing::show;

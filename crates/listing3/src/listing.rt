@@ -1,0 +1,39 @@
+// The listing of a capture, from a source to a sink.
+
+ghost use Rattle.capture3.specs.Entries.{CountsReading};
+ghost use Rattle.canon3.specs.EntryWriter.{WritesGiven};
+ghost use Rattle.canon3.specs.Writing.{CountsWriting};
+ghost use Rattle.listing3.specs.Listing.{shown};
+
+use crate::line_writer::LineWriter;
+use canon3::{Sink, Summary, write_entries};
+use capture3::{Error, Hashers, Source};
+use std::alloc::Global;
+use std::hash::BuildHasher;
+
+/// Reads a capture to its end, writes one line for each message as it comes, and flushes the sink. A line
+/// is the connection's number, `client` or `server`, the record's number in its stream, ` xid=` and the
+/// xid, the procedure's name or `RAW`, and then ` name=value` for each other item: numbers in decimal,
+/// bytes in hexadecimal, strings in quotation marks with `\x` escapes. Xids, file handles and write
+/// verifiers are those that were recorded. It holds one block of the source's bytes, one record, the calls
+/// of the open connection, the distinct file handles, and one line.
+///
+/// # Errors
+///
+/// `Refused` with the first fault of a capture that is not well formed, and `Read` where a read failed:
+/// the lines of the messages before it are written whole. `Write` where a write or the flush failed, and
+/// `Memory` where none was to be had: a front of the listing is written. After an error nothing is flushed.
+pub fn show<R: Source, W: Sink, S: BuildHasher + Drop>(
+    alloc: Global,
+    hashers: Hashers<S>,
+    source: &mut R,
+    sink: &mut W,
+) -> Result<Summary, Error>
+    ensures lists { WritesGiven shown (R.left source.old) (R.left source.new) (W.written sink.old)
+        (W.written sink.new) result }
+    ensures read { CountsReading (R.failures source.old) (R.failures source.new) result }
+    ensures write { CountsWriting (W.failures sink.old) (W.failures sink.new) result }
+{
+    let mut lines = LineWriter::new(alloc, hashers.handles);
+    write_entries(alloc, hashers.calls, source, sink, &mut lines)
+}

@@ -1,0 +1,162 @@
+use super::show;
+use super::text::{push_decimal, push_hex, push_quoted};
+use canon3::{MemSink, Summary};
+use capture3::{Error, Fault, Hashers, MemSource, Place};
+use std::alloc::{AllocError, Global};
+use std::hash::{BuildHasherDefault, FoldHasher};
+use std::test::Fail;
+use xdr3::Reason;
+
+/// MNT of `/x` and its reply, and in another connection GETATTR of the handle. In hexadecimal.
+static CAPTURE: [&str; 9] = [
+    "4e46533343415031",
+    "00000001",
+    "0000003480000030000000030000000000000002000186a50000000300000001000000000000000000000000",
+    "00000000000000022f780000",
+    "0000000000000034800000300000000300000001000000000000000000000000000000000000000000000008",
+    "01020304050607080000000100000001",
+    "0000000000000001",
+    "0000003880000034000000040000000000000002000186a30000000300000001000000000000000000000000",
+    "00000000000000080102030405060708000000000000000000000000",
+];
+
+static LINES: [&str; 6] = [
+    "1 client 1 xid=3 MOUNTPROC3_MNT mtype=0 rpcvers=2 prog=100005 vers=3 proc=1 cred_flavor=0",
+    " cred_body= verf_flavor=0 verf_body= dirpath=\"/x\"\n",
+    "1 server 1 xid=3 MOUNTPROC3_MNT mtype=1 reply_stat=0 verf_flavor=0 verf_body= accept_stat=0",
+    " status=0 fh=0102030405060708 flavors=1 flavor=1\n",
+    "2 client 1 xid=4 NFSPROC3_GETATTR mtype=0 rpcvers=2 prog=100003 vers=3 proc=1 cred_flavor=0",
+    " cred_body= verf_flavor=0 verf_body= fh=0102030405060708\n",
+];
+
+fn capture(alloc: Global) -> Result<Vec<u8>, Fail> {
+    let mut bytes = Vec::new(alloc);
+    for digits in CAPTURE {
+        bytes.extend_from_slice(&hex::decode(alloc, digits)?)?;
+    }
+    Ok(bytes)
+}
+
+fn lines(alloc: Global) -> Result<Vec<u8>, AllocError> {
+    let mut text = Vec::new(alloc);
+    for part in LINES {
+        text.extend_from_slice(part.as_bytes())?;
+    }
+    Ok(text)
+}
+
+fn hashers() -> Hashers<BuildHasherDefault<FoldHasher>> {
+    Hashers {
+        calls: BuildHasherDefault::default(),
+        xids: BuildHasherDefault::default(),
+        handles: BuildHasherDefault::default(),
+        verfs: BuildHasherDefault::default(),
+    }
+}
+
+// In blocks of so many bytes, where the read with this number fails.
+fn listed(
+    rt: &HostRuntime,
+    file: &[u8],
+    block: usize,
+    fail: u64,
+    sink: &mut MemSink,
+) -> Result<Summary, Error> {
+    show(
+        rt.alloc(),
+        hashers(),
+        &mut MemSource::new(file, block, fail),
+        sink,
+    )
+}
+
+#[test]
+fn lines_of_two_connections(rt: HostRuntime) -> Result<(), Fail> {
+    let bytes = capture(rt.alloc())?;
+    let mut sink = MemSink::new(rt.alloc(), 999, 999, 0)?;
+    let summary = Summary {
+        connections: 2,
+        calls: 2,
+        replies: 1,
+        handles: 1,
+    };
+    assert_eq!(rt; listed(&rt, &bytes, 999, 0, &mut sink), Ok(summary));
+    assert_eq!(rt; sink.bytes(), lines(rt.alloc())?.as_slice());
+    Ok(())
+}
+
+#[test]
+fn one_byte_a_read_and_one_a_write(rt: HostRuntime) -> Result<(), Fail> {
+    let bytes = capture(rt.alloc())?;
+    let mut sink = MemSink::new(rt.alloc(), 999, 1, 0)?;
+    assert_eq!(rt; listed(&rt, &bytes, 1, 0, &mut sink)?.calls, 2);
+    assert_eq!(rt; sink.bytes(), lines(rt.alloc())?.as_slice());
+    Ok(())
+}
+
+// The second line is written before the capture is found to be cut.
+#[test]
+fn the_lines_before_a_fault(rt: HostRuntime) -> Result<(), Fail> {
+    let mut bytes = capture(rt.alloc())?;
+    bytes.truncate(150);
+    let mut sink = MemSink::new(rt.alloc(), 999, 9, 0)?;
+    let fault = Fault {
+        place: Place::File { at: 150 },
+        reason: Reason::CaptureCut,
+    };
+    assert_eq!(rt;
+        listed(&rt, &bytes, 7, 0, &mut sink),
+        Err(Error::Refused(fault))
+    );
+    let mut text = lines(rt.alloc())?;
+    text.truncate(LINES[0].len() + LINES[1].len() + LINES[2].len() + LINES[3].len());
+    assert_eq!(rt; sink.bytes(), text.as_slice());
+    Ok(())
+}
+
+// Ten reads of 7 bytes have the first call, which ends at byte 68.
+#[test]
+fn the_lines_before_a_failed_read(rt: HostRuntime) -> Result<(), Fail> {
+    let bytes = capture(rt.alloc())?;
+    let mut sink = MemSink::new(rt.alloc(), 999, 9, 0)?;
+    assert_eq!(rt; listed(&rt, &bytes, 7, 11, &mut sink), Err(Error::Read));
+    let mut text = lines(rt.alloc())?;
+    text.truncate(LINES[0].len() + LINES[1].len());
+    assert_eq!(rt; sink.bytes(), text.as_slice());
+    Ok(())
+}
+
+#[test]
+fn a_front_where_room_is_wanting(rt: HostRuntime) -> Result<(), Fail> {
+    let bytes = capture(rt.alloc())?;
+    let mut sink = MemSink::new(rt.alloc(), 200, 9, 0)?;
+    assert_eq!(rt; listed(&rt, &bytes, 7, 0, &mut sink), Err(Error::Write));
+    let mut text = lines(rt.alloc())?;
+    text.truncate(200);
+    assert_eq!(rt; sink.bytes(), text.as_slice());
+    Ok(())
+}
+
+// Two writes for each line come before it.
+#[test]
+fn a_failed_flush(rt: HostRuntime) -> Result<(), Fail> {
+    let bytes = capture(rt.alloc())?;
+    let mut sink = MemSink::new(rt.alloc(), 999, 999, 7)?;
+    assert_eq!(rt; listed(&rt, &bytes, 999, 0, &mut sink), Err(Error::Write));
+    assert_eq!(rt; sink.bytes(), lines(rt.alloc())?.as_slice());
+    Ok(())
+}
+
+#[test]
+fn values_of_each_kind(rt: HostRuntime) -> Result<(), Fail> {
+    let mut text = Vec::new(rt.alloc());
+    push_decimal(&mut text, 18_446_744_073_709_551_615)?;
+    push_decimal(&mut text, 0)?;
+    push_hex(&mut text, &[0, 0xaf])?;
+    push_quoted(&mut text, b"a\"\\\n\xff\x7f ~")?;
+    assert_eq!(rt;
+        text.as_slice(),
+        b"18446744073709551615000af\"a\\x22\\x5c\\x0a\\xff\\x7f ~\"".as_slice()
+    );
+    Ok(())
+}
