@@ -18,8 +18,7 @@ ghost use Rattle.canon3.specs.Written.{AppendsFront};
 use crate::numbered::Numbering;
 use crate::sink::Sink;
 use crate::writing::write_all;
-use byteorder::{BigEndian, ByteOrder};
-use capture3::{Entry, Error, KeptCall, KeptReply};
+use capture3::{Entry, Error, KeptCall, KeptReply, pack_chunk};
 use std::alloc::{AllocError, Global};
 use std::hash::BuildHasher;
 
@@ -141,9 +140,7 @@ fn write_word<W: Sink>(sink: &mut W, n: u32) -> Result<(), Error>
     ensures count { CountsWriting (W.failures sink.old) (W.failures sink.new) result }
     ensures error { IfErr result (λ error. error ≡ Error.Write) }
 {
-    let mut word = [0u8; 4];
-    BigEndian::write_u32(&mut word, n);
-    match write_all(sink, &word) {
+    match write_all(sink, &pack_chunk(n)) {
         Ok(()) => Ok(()),
         Err(_) => Err(Error::Write),
     }

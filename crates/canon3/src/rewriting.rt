@@ -85,7 +85,7 @@ impl<S: BuildHasher + Drop> Rewriting<S> {
             return Ok(());
         }
         self.opened = true;
-        match write_all(sink, b"NFS3CAP1") {
+        match write_all(sink, &capture3::pack_header()) {
             Ok(()) => Ok(()),
             Err(_) => Err(Error::Write),
         }

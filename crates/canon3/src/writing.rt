@@ -9,8 +9,7 @@ ghost use Rattle.canon3.specs.Bytes.{chunk_bytes, record_bytes};
 ghost use Rattle.canon3.specs.Written.{AppendsFront};
 
 use crate::sink::Sink;
-use byteorder::{BigEndian, ByteOrder};
-use capture3::DeviceFailed;
+use capture3::{DeviceFailed, pack_chunk};
 use record_mark::{BODY_LIMIT, header};
 
 /// Writes all of the bytes, in as many pieces as the sink takes them. After an error a front of them was
@@ -51,7 +50,7 @@ fn front(len: u32) -> [u8; 8]
     ensures { result ≡ word_bytes (4 + len) ++ word_bytes (2 ^ 31 + len) }
 {
     let mut front = [0u8; 8];
-    BigEndian::write_u32(&mut front, 4 + len);
+    front[..4].copy_from_slice(&pack_chunk(4 + len));
     front[4..].copy_from_slice(&header(len));
     front
 }

@@ -1,5 +1,6 @@
 use super::{
-    DeviceFailed, Entries, Entry, Error, Fault, FromRead, MemSource, Place, Source, parse,
+    DeviceFailed, Entries, Entry, Error, Fault, FromRead, MemSource, Place, Source, pack_chunk,
+    pack_header, parse,
 };
 use rpc_head::ProcId;
 use std::alloc::Global;
@@ -236,5 +237,18 @@ fn calls_with_many_xids(rt: HostRuntime) -> Result<(), Fail> {
     }
     assert_eq!(rt; calls, 20_000);
     assert!(rt; matches!(entries.next(), Ok(None)));
+    Ok(())
+}
+
+#[test]
+fn magic_and_words(rt: HostRuntime) -> Result<(), Fail> {
+    assert_eq!(rt;
+        pack_header(),
+        [0x4e, 0x46, 0x53, 0x33, 0x43, 0x41, 0x50, 0x31]
+    );
+    assert_eq!(rt; pack_chunk(0), [0, 0, 0, 0]);
+    assert_eq!(rt; pack_chunk(1), [0, 0, 0, 1]);
+    assert_eq!(rt; pack_chunk(0x0102_0304), [1, 2, 3, 4]);
+    assert_eq!(rt; pack_chunk(0xffff_ffff), [0xff, 0xff, 0xff, 0xff]);
     Ok(())
 }

@@ -1,0 +1,115 @@
+-- What each call makes of the pairs for which a packing stood.
+use Rattle.std.proofs.Common.{arith, refl, sym, ap, subst, inl, inr, ◌≡◌, ◌∙◌, ◌≤◌, ◌+◌, ℕ, List, [], ◌∷◌, ◌++◌, length, length-append, append_assoc}
+use Rattle.std.specs.Prelude.{Option, None, Result, Ok, Err, OnOk, OnErr, IfErr}
+use Rattle.std.specs.Io.KnownBytes.{Appends, Consumes}
+use Rattle.std.proofs.KnownBytes.{Appends-trans, Consumes-nil}
+use Rattle.record_mark.proofs.Words.{Joins-snoc}
+use Rattle.xdr3.specs.declared.reason.Reason.TheVariants as reasons
+use Rattle.xdr3.specs.Item.{word_bytes}
+use Rattle.capture3.specs.declared.fault.Error.{Error}
+use Rattle.capture3.specs.declared.fault.Error.TheVariants as errors
+use Rattle.capture3.specs.declared.fault.Place.TheVariants as places
+use Rattle.capture3.specs.Capture.{One, Streams, magic, max_connections, size, total_size}
+use Rattle.capture3.specs.Chunks.{max_bytes}
+use Rattle.canon3.specs.Written.{AppendsFront}
+use Rattle.canon3.proofs.Written.{front_of_second}
+use Rattle.packing3.specs.declared.packing.Packing.{Packing}
+use Rattle.packing3.specs.Packed.{ArePacked, IsPackedConnection}
+use Rattle.packing3.specs.Packing.{Adds, FailsToAdd, Finishes, IsFull, StandsFor, ending_of}
+use Rattle.packing3.specs.Stopped.{HasNoRoom, IsCutShort, Tells}
+use Rattle.packing3.specs.Streaming.{HasConnection, IsStopped, StopsInConnection}
+use Rattle.packing3.proofs.Captures.{is_capture}
+use Rattle.packing3.proofs.Stops.{stopped_after, stopped_before}
+
+-- one connection more
+packed_more : (front bytes : List ℕ) (pairs : List Streams) (streams : Streams) → ArePacked front pairs → IsPackedConnection bytes streams → ArePacked (front ++ bytes) (pairs ++ streams ∷ [])
+packed_more front bytes pairs streams packed more = record {
+  connections = packed.connections ++ bytes;
+  split = ap (λ (l : List ℕ). l ++ bytes) packed.split ∙ append_assoc (magic One) packed.connections bytes;
+  joined = Joins-snoc IsPackedConnection pairs packed.connections bytes streams packed.joined more;
+}
+
+total_more : (pairs : List Streams) (streams : Streams) → total_size (pairs ++ streams ∷ []) ≡ total_size pairs + size streams
+total_more [] streams = omega arith
+total_more (p ∷ pairs) streams = omega (arith, total_more pairs streams)
+
+module _ {W : Type 0} (written : W → Option (List ℕ)) where
+  pub added : (old new : Packing W) (first c0 c1 s0 s1 : Option (List ℕ)) (pairs : List Streams) → HasConnection c0 c1 s0 s1 (written old.sink) (written new.sink) old.extent new.extent → new.connections ≡ old.connections + 1 → ending_of new ≡ None
+      → StandsFor written old first pairs → Adds written new first c0 c1 s0 s1 pairs (Ok (tt {0}))
+  added old new first c0 c1 s0 s1 pairs it count going h = record {
+    streams = it.streams;
+    from_client = it.from_client;
+    from_server = it.from_server;
+    adds = (
+      it.client_ended,
+      it.server_ended,
+      record {
+        going = going;
+        front = h.front ++ it.bytes;
+        packed = packed_more h.front it.bytes pairs it.streams h.packed it.packed;
+        appended = Appends-trans first (written old.sink) (written new.sink) h.front it.bytes h.appended it.appended;
+        count = omega (arith, count, h.count, length-append pairs (it.streams ∷ []));
+        streamed = omega (arith, it.grows.streamed_is, h.streamed, total_more pairs it.streams);
+        at = omega (arith, it.grows.at, h.at, length-append h.front it.bytes);
+      },
+    );
+  }
+
+  cut_short : (old : Packing W) (first c0 c1 s0 s1 w1 : Option (List ℕ)) (pairs : List Streams) (error : Error) (it : StopsInConnection c0 c1 s0 s1 (written old.sink) w1 old.extent error)
+      → StandsFor written old first pairs → IsCutShort first w1 (pairs ++ it.streams ∷ []) error
+  cut_short old first c0 c1 s0 s1 w1 pairs error it h =
+      let before = old.extent.streamed + size it.streams in
+      let all : IsStopped first w1 ((h.front ++ it.bytes) ++ word_bytes 0) 0 before error =
+      stopped_before first w1 (h.front ++ it.bytes) (word_bytes 0) 0 before error (stopped_after first (written old.sink) w1 h.front it.bytes 0 old.extent.at before error h.appended (omega (arith, h.at)) it.stopped) in
+      let total : before ≡ total_size (pairs ++ it.streams ∷ []) = omega (arith, h.streamed, total_more pairs it.streams) in
+      let at : 0 + length all.front ≡ length all.front = omega arith in
+      record {
+        file = (h.front ++ it.bytes) ++ word_bytes 0;
+        front = all.front;
+        next = all.next;
+        packed = record { front = h.front ++ it.bytes; split = refl; packed = packed_more h.front it.bytes pairs it.streams h.packed it.packed };
+        split = all.split;
+        appended = all.appended;
+        told = subst (λ n. Tells error (length all.front) all.next n) total (subst (λ n. Tells error n all.next before) at all.told);
+      }
+
+  no_room : (old : Packing W) (first c0 c1 s0 s1 w1 : Option (List ℕ)) (pairs : List Streams) (error : Error) → IsFull old c0 c1 s0 s1 (written old.sink) w1 error
+      → StandsFor written old first pairs → HasNoRoom first w1 pairs error
+  no_room old first c0 c1 s0 s1 w1 pairs error full h = record {
+    front = h.front;
+    packed = h.packed;
+    appended = subst (λ w. Appends first w h.front) (sym full.same_sink) h.appended;
+    full = sym h.count ∙ full.full;
+    is = full.is ∙ ap (λ (n : ℕ). errors.Refused (record { place = places.File n; reason = reasons.TooManyConnections })) h.at;
+  }
+
+  pub not_added : (old new : Packing W) (first c0 c1 s0 s1 : Option (List ℕ)) (pairs : List Streams) (error : Error) → FailsToAdd old c0 c1 s0 s1 (written old.sink) (written new.sink) error
+      → StandsFor written old first pairs → Adds written new first c0 c1 s0 s1 pairs (Err error)
+  not_added old new first c0 c1 s0 s1 pairs error (inl full) h = record {
+    streams = record { client = []; server = [] };
+    from_client = subst (λ l. Consumes c0 l []) (sym full.same_client) (Consumes-nil c0);
+    from_server = subst (λ l. Consumes s0 l []) (sym full.same_server) (Consumes-nil s0);
+    adds = inl (refl, no_room old first c0 c1 s0 s1 (written new.sink) pairs error full h);
+  }
+  not_added old new first c0 c1 s0 s1 pairs error (inr it) h = record {
+    streams = it.streams;
+    from_client = it.from_client;
+    from_server = it.from_server;
+    adds = inr (cut_short old first c0 c1 s0 s1 (written new.sink) pairs error it h);
+  }
+
+  pub finishes : (old : Packing W) (first w1 : Option (List ℕ)) (pairs : List Streams) (result : Result (Unit {0}) Error) → old.connections ≤ max_connections → old.extent.streamed ≤ max_bytes
+      → OnOk result (Appends (written old.sink) w1 (word_bytes 0)) → OnErr result (AppendsFront (written old.sink) w1 (word_bytes 0)) → IfErr result (λ error. error ≡ errors.Write)
+      → StandsFor written old first pairs → Finishes first w1 pairs result
+  finishes old first w1 pairs (Ok done) few room whole front is h = record {
+    file = h.front ++ word_bytes 0;
+    packed = record { front = h.front; split = refl; packed = h.packed };
+    capture = is_capture h.front pairs h.packed (omega (arith, few, h.count)) (omega (arith, room, h.streamed));
+    appended = Appends-trans first (written old.sink) w1 h.front (word_bytes 0) h.appended whole;
+  }
+  finishes old first w1 pairs (Err error) few room whole front is h = record {
+    file = h.front ++ word_bytes 0;
+    packed = record { front = h.front; split = refl; packed = h.packed };
+    appended = front_of_second first (written old.sink) w1 h.front (word_bytes 0) (h.front ++ word_bytes 0) refl h.appended front;
+    is = is;
+  }

@@ -1,0 +1,6 @@
+-- Lemmas of packing.
+pub mod Stops
+pub mod Chunks
+pub mod Connections
+pub mod Captures
+pub mod Histories

@@ -1,0 +1,21 @@
+use Rattle.std.proofs.Common.{rules, ap, sym, ◌≡◌, ◌∙◌, ◌≤◌, ◌+◌, ℕ, List, ◌++◌, length, take}
+use Rattle.std.proofs.lemmas.List.{take-append-le, length-take-le}
+use Rattle.std.proofs.Math.Seq.{take-append-add}
+use Rattle.std.proofs.KnownBytes.{Consumes-trans}
+use Rattle.packing3.proofs.block.fill.Goals as goal
+
+-- a front of what was put behind the first bytes
+front_of : (a n : ℕ) (xs ys rest : List ℕ) → a ≤ length xs → n ≤ length ys → take (a + n) (take a xs ++ (ys ++ rest)) ≡ take a xs ++ take n ys
+front_of a n xs ys rest within few =
+    ap (λ m. take (m + n) (take a xs ++ (ys ++ rest))) (sym (length-take-le a xs within)) ∙ take-append-add (take a xs) (ys ++ rest) n ∙ ap (λ l. take a xs ++ l) (take-append-le n ys rest few)
+
+pub loop-filled-preserved : goal.loop-filled-preserved
+loop-filled-preserved g c =
+    let inv = c.loop-filled.invariant in
+    let got = Consumes-trans (g.R.Source.left c.args.source.now) (g.R.Source.left c.loop-filled.source) (g.R.Source.left c.read_some.new.self) (take c.loop-filled.filled c.loop-filled.block) (take c.in-Ok.count c.read_some.new.buf) inv.bytes c.in-Ok.ensures.bytes.0 in
+    record {
+      within = search rules;
+      size = search rules;
+      bytes = rw (front_of c.loop-filled.filled c.in-Ok.count c.loop-filled.block c.read_some.new.buf _ inv.within c.in-Ok.ensures.within) got;
+      count = c.in-Ok.ensures.count ∙ inv.count;
+    }

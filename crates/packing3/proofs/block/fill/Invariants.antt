@@ -1,0 +1,14 @@
+use Rattle.std.proofs.Common.{◌≡◌, ◌≤◌, ◌-◌, length, take}
+use Rattle.std.specs.Io.KnownBytes.{Consumes}
+use Rattle.packing3.proofs.block.fill.Given as goal
+
+abbrev pub invariant-loop-filled : goal.invariant-loop-filled
+invariant-loop-filled g l = record {
+  within : l.filled ≤ length l.block;
+  size : length l.block ≡ length l.fn.block;
+  bytes : Consumes (g.R.Source.left l.fn.source) (g.R.Source.left l.source) (take l.filled l.block);
+  count : g.R.Source.failures l.source ≡ g.R.Source.failures l.fn.source;
+}
+
+abbrev pub decreases-loop-filled : goal.decreases-loop-filled
+decreases-loop-filled g l = length l.block - l.filled

@@ -1,0 +1,5 @@
+pub mod Packed
+pub mod Stopped
+pub mod Devices
+pub mod Packing
+pub mod Streaming

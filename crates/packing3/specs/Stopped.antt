@@ -1,0 +1,46 @@
+-- What an error says of what was packed.
+use Rattle.std.specs.Prelude.{◌≡◌, ℕ, ◌+◌, ◌<◌, ◌≤◌, List, ◌++◌, length, Option, ⊤}
+use Rattle.std.specs.Io.KnownBytes.{Appends}
+use Rattle.xdr3.specs.declared.reason.Reason.TheVariants as reasons
+use Rattle.capture3.specs.declared.fault.Error.{Error}
+use Rattle.capture3.specs.declared.fault.Error.TheVariants as errors
+use Rattle.capture3.specs.declared.fault.Fault.{Fault}
+use Rattle.capture3.specs.declared.fault.Place.TheVariants as places
+use Rattle.capture3.specs.Capture.{Streams, total_size, max_connections}
+use Rattle.capture3.specs.Chunks.{max_bytes}
+use Rattle.canon3.specs.Bytes.{chunk_bytes}
+use Rattle.packing3.specs.Packed.{ArePacked, IsPacked}
+
+-- A chunk comes next. With it the stream bytes of all that was read, `total`, pass the limit, and without it they keep it. The fault is at its length word.
+pub record PassesLimit (fault : Fault) (at : ℕ) (next : List ℕ) (total : ℕ) : Type 0 where
+  pub chunk : List ℕ
+  pub more : List ℕ
+  pub begins : next ≡ chunk_bytes chunk ++ more
+  pub over : max_bytes < total
+  pub within : total ≤ max_bytes + length chunk
+  pub is : fault ≡ record { place = places.File at; reason = reasons.TooManyBytes }
+
+-- What an error says where `at` bytes of the file are written, and `next` are its other bytes.
+abbrev pub Tells : Error → (at : ℕ) (next : List ℕ) (total : ℕ) → Type 0
+Tells (errors.Refused fault) at next total = PassesLimit fault at next total
+Tells errors.Read at next total = ⊤
+Tells errors.Write at next total = ⊤
+Tells errors.Memory at next total = ⊥
+
+-- A front is written of the capture of all that was read: of what was added, and of the pair that an error stopped.
+pub record IsCutShort (old new : Option (List ℕ)) (pairs : List Streams) (error : Error) : Type 0 where
+  pub file : List ℕ
+  pub front : List ℕ
+  pub next : List ℕ
+  pub packed : IsPacked file pairs
+  pub split : file ≡ front ++ next
+  pub appended : Appends old new front
+  pub told : Tells error (length front) next (total_size pairs)
+
+-- The pairs are as many as a capture may have. They are written, and the fault is at the byte after them.
+pub record HasNoRoom (old new : Option (List ℕ)) (pairs : List Streams) (error : Error) : Type 0 where
+  pub front : List ℕ
+  pub packed : ArePacked front pairs
+  pub appended : Appends old new front
+  pub full : length pairs ≡ max_connections
+  pub is : error ≡ errors.Refused (record { place = places.File (length front); reason = reasons.TooManyConnections })

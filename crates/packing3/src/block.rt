@@ -1,0 +1,42 @@
+// A block of a source's bytes.
+
+ghost use Rattle.std.specs.Prelude.{◌≡◌, ◌≤◌, ◌<◌, length, take, vec_len, IfOk, OnErr};
+ghost use Rattle.std.specs.Io.KnownBytes.{Consumes, IsAtEnd};
+ghost use Rattle.capture3.specs.Device.{Counts};
+ghost use Rattle.packing3.specs.Streaming.{ConsumesFewer};
+
+use capture3::{DeviceFailed, Source};
+use std::alloc::{AllocError, Global};
+
+/// So many zeros.
+pub(crate) fn zeros(alloc: Global, count: usize) -> Result<Vec<u8>, AllocError>
+    ensures { IfOk result (λ block. vec_len block ≡ count) }
+{
+    vec![in alloc; 0; count]
+}
+
+/// Fills the block by as many reads as it takes, and gives how many bytes were read: fewer than it
+/// holds only where none are left.
+pub(crate) fn fill<R: Source>(source: &mut R, block: &mut [u8]) -> Result<usize, DeviceFailed>
+    ensures size { length block.new ≡ length block.old }
+    ensures within { IfOk result (λ n. n ≤ length block.new) }
+    ensures bytes { IfOk result
+        (λ n. Consumes (R.left source.old) (R.left source.new) (take n block.new)) }
+    ensures end { IfOk result (λ n. n < length block.new → IsAtEnd (R.left source.new)) }
+    ensures err { OnErr result
+        (ConsumesFewer (R.left source.old) (R.left source.new) (length block.old)) }
+    ensures count { Counts (R.failures source.old) (R.failures source.new) result }
+{
+    let mut filled = 0;
+    while filled < block.len() {
+        let count = match source.read_some(&mut block[filled..]) {
+            Ok(count) => count,
+            Err(error) => return Err(error),
+        };
+        if count == 0 {
+            return Ok(filled);
+        }
+        filled += count;
+    }
+    Ok(filled)
+}

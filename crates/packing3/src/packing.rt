@@ -1,0 +1,195 @@
+// A capture made of recorded streams.
+
+ghost use Rattle.std.specs.Prelude.{◌≡◌, ◌≤◌, ◌+◌, ◌*◌, ℕ, List, [], Option, None, Some, Err, vec_len, IfErr, IfOk, IsSome, MatchResult, OnErr, OnOk};
+ghost use Rattle.std.specs.Io.KnownBytes.{Appends};
+ghost use Rattle.xdr3.specs.Item.{word_bytes};
+ghost use Rattle.capture3.specs.Capture.{max_connections, Streams};
+ghost use Rattle.capture3.specs.Chunks.{max_bytes};
+ghost use Rattle.canon3.specs.Writing.{CountsWriting};
+ghost use Rattle.canon3.specs.Written.{AppendsFront};
+ghost use Rattle.packing3.specs.Packed.{full_size};
+ghost use Rattle.packing3.specs.Devices.{CountsReadings};
+ghost use Rattle.packing3.specs.Streaming.{HasConnection};
+
+use crate::block::zeros;
+use crate::stream::{Extent, FULL_CHUNK, write, write_connection};
+use canon3::Sink;
+use capture3::{Error, Source, pack_chunk, pack_header};
+use std::alloc::Global;
+use xdr3::Reason;
+
+/// The most connections of a capture.
+const MAX_CONNECTIONS: u32 = 65_535;
+
+/// Packs recorded streams into a capture, one connection after another. It holds one chunk.
+///
+/// The records of a stream are not looked at. Each chunk has 65,536 bytes but the last of a stream,
+/// which has what is left, and no chunk is empty. A capture has at most 65,535 connections, and at
+/// most 1,073,741,824 stream bytes, all its streams together.
+#[derive(Drop)]
+pub struct Packing<W> {
+    sink: W,
+    block: Vec<u8>,
+    // The connections that have begun.
+    connections: u32,
+    extent: Extent,
+    // What `add` and `finish` answer from now on.
+    ended: Option<Result<(), Error>>,
+    ghost fits: { vec_len block ≡ full_size },
+    ghost few: { connections ≤ max_connections },
+    ghost room: { extent.streamed ≤ max_bytes },
+    ghost small: { extent.at ≤ 8 + 12 * connections + 5 * extent.streamed },
+}
+
+impl<W: Sink> Packing<W> {
+    ghost use Rattle.packing3.specs.Packing.{Adds, CountsStart, ending_of, FailsToAdd, FailsToStart, Finishes, StandsFor};
+
+    /// Takes the memory of one chunk, and writes the magic.
+    ///
+    /// # Errors
+    ///
+    /// `Memory`, and nothing is written; or `Write`, and a front of the magic is written. The sink
+    /// is given back.
+    pub fn start(alloc: Global, sink: W) -> Result<Packing<W>, (Error, W)>
+        ensures stands { IfOk result (λ packing. StandsFor W.written packing (W.written sink) []) }
+        ensures err { IfErr result (λ failed. FailsToStart W.written sink failed.0 failed.1) }
+        ensures write { CountsStart W.failures sink result }
+    {
+        let block = match zeros(alloc, FULL_CHUNK) {
+            Ok(block) => block,
+            Err(_) => return Err((Error::Memory, sink)),
+        };
+        let mut sink = sink;
+        match write(&mut sink, &pack_header()) {
+            Ok(()) => Ok(Packing {
+                sink,
+                block,
+                connections: 0,
+                extent: Extent { streamed: 0, at: 8 },
+                ended: None,
+            }),
+            Err(error) => Err((error, sink)),
+        }
+    }
+
+    /// Where the capture is written to.
+    pub fn sink(&self) -> &W
+        ensures { result.now ≡ self.now.sink }
+    {
+        &self.sink
+    }
+
+    /// Writes one connection: the bytes of both sources, to their ends.
+    ///
+    /// # Errors
+    ///
+    /// `Refused`, at the byte of the file after all that is written: with `TooManyConnections`
+    /// before anything is read, and with `TooManyBytes` where the next chunk would pass the limit,
+    /// whose bytes are read and not written. `Read` and `Write` where the device failed: a front is
+    /// written of the capture of what was read. After an error it is answered again, and after
+    /// `finish` what that answered, and nothing is read or written.
+    pub fn add<C: Source, S: Source>(&mut self, client: &mut C, server: &mut S) -> Result<(), Error>
+        ensures adds { (old : Option (List ℕ)) (pairs : List Streams)
+            → StandsFor W.written self.old old pairs
+            → Adds W.written self.new old
+            (C.left client.old) (C.left client.new) (S.left server.old) (S.left server.new)
+            pairs result }
+        ensures ended { ending_of self.old ≡ None
+            → MatchResult result
+            (λ _. ending_of self.new ≡ None)
+            (λ error. ending_of self.new ≡ Some (Err error)) }
+        ensures again { IsSome (ending_of self.old) → ending_of self.old ≡ Some result }
+        ensures unchanged { IsSome (ending_of self.old) → self.new ≡ self.old }
+        ensures unread { IsSome (ending_of self.old)
+            → (client.new ≡ client.old) × (server.new ≡ server.old) }
+        ensures read { ending_of self.old ≡ None
+            → CountsReadings
+            (C.failures client.old) (C.failures client.new)
+            (S.failures server.old) (S.failures server.new) result }
+        ensures write { ending_of self.old ≡ None
+            → CountsWriting (W.failures self.old.sink) (W.failures self.new.sink) result }
+    {
+        if let Some(result) = self.ended {
+            return result;
+        }
+        match self.write_pair(client, server) {
+            Ok(()) => Ok(()),
+            Err(error) => {
+                self.ended = Some(Err(error));
+                Err(error)
+            }
+        }
+    }
+
+    /// Writes the word 0 after the last connection, and flushes the sink.
+    ///
+    /// # Errors
+    ///
+    /// `Write` where a write or the flush failed. What it answered is answered again, and after an
+    /// error of `add` that error, and nothing is written.
+    pub fn finish(&mut self) -> Result<(), Error>
+        ensures finishes { (old : Option (List ℕ)) (pairs : List Streams)
+            → StandsFor W.written self.old old pairs
+            → Finishes old (W.written self.new.sink) pairs result }
+        ensures ended { ending_of self.old ≡ None → ending_of self.new ≡ Some result }
+        ensures again { IsSome (ending_of self.old) → ending_of self.old ≡ Some result }
+        ensures unchanged { IsSome (ending_of self.old) → self.new ≡ self.old }
+        ensures write { ending_of self.old ≡ None
+            → CountsWriting (W.failures self.old.sink) (W.failures self.new.sink) result }
+    {
+        if let Some(result) = self.ended {
+            return result;
+        }
+        let result = self.close();
+        self.ended = Some(result);
+        result
+    }
+
+    /// Writes one connection, where one more has room.
+    fn write_pair<C: Source, S: Source>(
+        &mut self,
+        client: &mut C,
+        server: &mut S,
+    ) -> Result<(), Error>
+        ensures ok { OnOk result (HasConnection
+            (C.left client.old) (C.left client.new) (S.left server.old) (S.left server.new)
+            (W.written self.old.sink) (W.written self.new.sink)
+            self.old.extent self.new.extent) }
+        ensures one_more { OnOk result (self.new.connections ≡ self.old.connections + 1) }
+        ensures err { IfErr result (FailsToAdd self.old
+            (C.left client.old) (C.left client.new) (S.left server.old) (S.left server.new)
+            (W.written self.old.sink) (W.written self.new.sink)) }
+        ensures same_ending { ending_of self.new ≡ ending_of self.old }
+        ensures read { CountsReadings
+            (C.failures client.old) (C.failures client.new)
+            (S.failures server.old) (S.failures server.new) result }
+        ensures write { CountsWriting (W.failures self.old.sink) (W.failures self.new.sink) result }
+    {
+        if self.connections == MAX_CONNECTIONS {
+            return Err(self.extent.refusal(Reason::TooManyConnections));
+        }
+        self.connections += 1;
+        write_connection(
+            &mut self.sink,
+            &mut self.block,
+            &mut self.extent,
+            client,
+            server,
+        )
+    }
+
+    fn close(&mut self) -> Result<(), Error>
+        ensures ok { OnOk result
+            (Appends (W.written self.old.sink) (W.written self.new.sink) (word_bytes 0)) }
+        ensures err { OnErr result
+            (AppendsFront (W.written self.old.sink) (W.written self.new.sink) (word_bytes 0)) }
+        ensures error { IfErr result (λ error. error ≡ Error.Write) }
+        ensures write { CountsWriting (W.failures self.old.sink) (W.failures self.new.sink) result }
+    {
+        write(&mut self.sink, &pack_chunk(0))?;
+        match self.sink.flush_all() {
+            Ok(()) => Ok(()),
+            Err(_) => Err(Error::Write),
+        }
+    }
+}

@@ -1,0 +1,168 @@
+// A stream in chunks.
+
+ghost use Rattle.std.specs.Prelude.{◌≡◌, ◌<◌, ◌≤◌, ◌+◌, ◌^◌, length, IfErr, IfOk, OnErr, OnOk};
+ghost use Rattle.std.specs.Io.KnownBytes.{Appends};
+ghost use Rattle.capture3.specs.Chunks.{max_bytes};
+ghost use Rattle.capture3.specs.Entries.{CountsReading};
+ghost use Rattle.canon3.specs.Writing.{CountsWriting};
+ghost use Rattle.canon3.specs.Written.{AppendsFront};
+ghost use Rattle.packing3.specs.Packed.{full_size};
+ghost use Rattle.packing3.specs.Devices.{CountsReadings};
+ghost use Rattle.packing3.specs.Streaming.{HasChunk, HasConnection, HasStream, GrowsLittle, StopsInChunk, StopsInConnection, StopsInStream};
+
+use crate::block::fill;
+use canon3::{Sink, write_all};
+use capture3::{Error, Fault, Place, Source, pack_chunk};
+use xdr3::Reason;
+
+/// How many bytes a full chunk has.
+pub(crate) const FULL_CHUNK: usize = 65_536;
+
+/// The most stream bytes of a capture, all its streams together.
+const MAX_BYTES: u32 = 1_073_741_824;
+
+/// How much of a capture is written.
+#[derive(Clone, Copy)]
+pub(crate) struct Extent {
+    /// The bytes that chunks carry.
+    pub(crate) streamed: u32,
+    /// All bytes.
+    pub(crate) at: u64,
+}
+
+impl Extent {
+    /// The refusal of the word that comes next.
+    pub(crate) fn refusal(&self, reason: Reason) -> Error
+        ensures { result ≡ Error.Refused
+            (record { place = Place.File self.now.at; reason = reason }) }
+    {
+        Error::Refused(Fault {
+            place: Place::File { at: self.at },
+            reason,
+        })
+    }
+}
+
+/// Writes a connection: the word 1, and both sources' bytes to their ends.
+///
+/// # Errors
+///
+/// As for one stream.
+pub(crate) fn write_connection<C: Source, S: Source, W: Sink>(
+    sink: &mut W,
+    block: &mut [u8],
+    extent: &mut Extent,
+    client: &mut C,
+    server: &mut S,
+) -> Result<(), Error>
+    requires block { length block.old ≡ full_size }
+    requires room { extent.old.streamed ≤ max_bytes }
+    requires small { extent.old.at ≤ 2 ^ 50 }
+    ensures room { extent.new.streamed ≤ max_bytes }
+    ensures small { GrowsLittle 12 extent.old extent.new }
+    ensures ok { OnOk result (HasConnection
+        (C.left client.old) (C.left client.new) (S.left server.old) (S.left server.new)
+        (W.written sink.old) (W.written sink.new) extent.old extent.new) }
+    ensures err { IfErr result (StopsInConnection
+        (C.left client.old) (C.left client.new) (S.left server.old) (S.left server.new)
+        (W.written sink.old) (W.written sink.new) extent.old) }
+    ensures read { CountsReadings
+        (C.failures client.old) (C.failures client.new)
+        (S.failures server.old) (S.failures server.new) result }
+    ensures write { CountsWriting (W.failures sink.old) (W.failures sink.new) result }
+{
+    write(sink, &pack_chunk(1))?;
+    extent.at += 4;
+    write_stream(sink, block, extent, client)?;
+    write_stream(sink, block, extent, server)
+}
+
+/// Writes the source's bytes to their end: chunks, and the word 0. Each chunk fills the block but
+/// the last. The bytes that a source gave before an error are lost.
+///
+/// # Errors
+///
+/// `Refused` with `TooManyBytes` where the next chunk would pass the limit, whose length word and
+/// bytes are not written; `Read` and `Write` where the device failed.
+fn write_stream<R: Source, W: Sink>(
+    sink: &mut W,
+    block: &mut [u8],
+    extent: &mut Extent,
+    source: &mut R,
+) -> Result<(), Error>
+    requires block { length block.old ≡ full_size }
+    requires room { extent.old.streamed ≤ max_bytes }
+    requires small { extent.old.at ≤ 2 ^ 60 }
+    ensures room { extent.new.streamed ≤ max_bytes }
+    ensures small { GrowsLittle 4 extent.old extent.new }
+    ensures ok { OnOk result (HasStream
+        (R.left source.old) (R.left source.new) (W.written sink.old) (W.written sink.new)
+        extent.old extent.new) }
+    ensures err { IfErr result (StopsInStream
+        (R.left source.old) (R.left source.new) (W.written sink.old) (W.written sink.new)
+        extent.old) }
+    ensures read { CountsReading (R.failures source.old) (R.failures source.new) result }
+    ensures write { CountsWriting (W.failures sink.old) (W.failures sink.new) result }
+{
+    loop {
+        let count = write_chunk(sink, block, extent, source)?;
+        if count < FULL_CHUNK {
+            break;
+        }
+    }
+    write(sink, &pack_chunk(0))?;
+    extent.at += 4;
+    Ok(())
+}
+
+/// Writes the bytes that fill the block, or that are left, as one chunk, and gives how many they
+/// are; none make no chunk.
+fn write_chunk<R: Source, W: Sink>(
+    sink: &mut W,
+    block: &mut [u8],
+    extent: &mut Extent,
+    source: &mut R,
+) -> Result<usize, Error>
+    requires block { length block.old ≡ full_size }
+    requires room { extent.old.streamed ≤ max_bytes }
+    requires small { extent.old.at < 2 ^ 62 }
+    ensures room { extent.new.streamed ≤ max_bytes }
+    ensures small { GrowsLittle 0 extent.old extent.new }
+    ensures ok { IfOk result (HasChunk
+        (R.left source.old) (R.left source.new) (W.written sink.old) (W.written sink.new)
+        extent.old extent.new) }
+    ensures err { IfErr result (StopsInChunk
+        (R.left source.old) (R.left source.new) (W.written sink.old) (W.written sink.new)
+        extent.old) }
+    ensures read { CountsReading (R.failures source.old) (R.failures source.new) result }
+    ensures write { CountsWriting (W.failures sink.old) (W.failures sink.new) result }
+{
+    let count = match fill(source, block) {
+        Ok(count) => count,
+        Err(_) => return Err(Error::Read),
+    };
+    if count as u32 > MAX_BYTES - extent.streamed {
+        return Err(extent.refusal(Reason::TooManyBytes));
+    }
+    if count == 0 {
+        return Ok(0);
+    }
+    write(sink, &pack_chunk(count as u32))?;
+    write(sink, &block[..count])?;
+    extent.streamed += count as u32;
+    extent.at += 4 + count as u64;
+    Ok(count)
+}
+
+/// Writes all of the bytes. After an error a front of them was written.
+pub(crate) fn write<W: Sink>(sink: &mut W, bytes: &[u8]) -> Result<(), Error>
+    ensures ok { OnOk result (Appends (W.written sink.old) (W.written sink.new) bytes.now) }
+    ensures err { OnErr result (AppendsFront (W.written sink.old) (W.written sink.new) bytes.now) }
+    ensures error { IfErr result (λ error. error ≡ Error.Write) }
+    ensures count { CountsWriting (W.failures sink.old) (W.failures sink.new) result }
+{
+    match write_all(sink, bytes) {
+        Ok(()) => Ok(()),
+        Err(_) => Err(Error::Write),
+    }
+}

@@ -1,0 +1,250 @@
+ghost use Rattle.std.specs.Prelude.{◌<◌, None};
+
+use super::Packing;
+use canon3::{MemSink, Sink};
+use capture3::{DeviceFailed, Error, Fault, MemSource, Place, Source};
+use std::alloc::{AllocError, Global};
+use std::process::Abort;
+use std::test::Fail;
+use xdr3::Reason;
+
+// The client stream of a call of NULL, and the server stream of its reply.
+const CALL: [u8; 44] = [
+    0x80, 0, 0, 0x28, 0xde, 0xad, 0xbe, 0xef, 0, 0, 0, 0, 0, 0, 0, 2, 0, 1, 0x86, 0xa3, 0, 0, 0, 3,
+    0, 0, 0, 0, 0, 0, 0, 0, 0, 0, 0, 0, 0, 0, 0, 0, 0, 0, 0, 0,
+];
+
+const REPLY: [u8; 28] = [
+    0x80, 0, 0, 0x18, 0xde, 0xad, 0xbe, 0xef, 0, 0, 0, 1, 0, 0, 0, 0, 0, 0, 0, 0, 0, 0, 0, 0, 0, 0,
+    0, 0,
+];
+
+// Their capture.
+const NULL: [u8; 104] = [
+    0x4e, 0x46, 0x53, 0x33, 0x43, 0x41, 0x50, 0x31, 0, 0, 0, 1, 0, 0, 0, 0x2c, 0x80, 0, 0, 0x28,
+    0xde, 0xad, 0xbe, 0xef, 0, 0, 0, 0, 0, 0, 0, 2, 0, 1, 0x86, 0xa3, 0, 0, 0, 3, 0, 0, 0, 0, 0, 0,
+    0, 0, 0, 0, 0, 0, 0, 0, 0, 0, 0, 0, 0, 0, 0, 0, 0, 0, 0, 0, 0, 0x1c, 0x80, 0, 0, 0x18, 0xde,
+    0xad, 0xbe, 0xef, 0, 0, 0, 1, 0, 0, 0, 0, 0, 0, 0, 0, 0, 0, 0, 0, 0, 0, 0, 0, 0, 0, 0, 0, 0, 0,
+    0, 0,
+];
+
+// Into so much room, where the write or flush with this number fails.
+fn packing(alloc: Global, room: usize, fail: u64) -> Result<Packing<MemSink>, Fail> {
+    match Packing::start(alloc, MemSink::new(alloc, room, 1_000_000, fail)?) {
+        Ok(packing) => Ok(packing),
+        Err((error, _)) => Err(error.into()),
+    }
+}
+
+// Adds the streams from sources that give at most so many bytes a read.
+fn add(
+    packing: &mut Packing<MemSink>,
+    client: &[u8],
+    server: &[u8],
+    block: usize,
+) -> Result<(), Error>
+    requires { 0 < block }
+{
+    packing.add(
+        &mut MemSource::new(client, block, 0),
+        &mut MemSource::new(server, block, 0),
+    )
+}
+
+#[test]
+fn two_empty_streams(rt: HostRuntime) -> Result<(), Fail> {
+    let mut packing = packing(rt.alloc(), 99, 0)?;
+    assert_eq!(rt; packing.sink().bytes(), b"NFS3CAP1".as_slice());
+    add(&mut packing, &[], &[], 1)?;
+    let wanted = b"NFS3CAP1\0\0\0\x01\0\0\0\0\0\0\0\0\0\0\0\0";
+    assert_eq!(rt; packing.sink().bytes(), &wanted[..20]);
+    packing.finish()?;
+    assert_eq!(rt; packing.sink().bytes(), wanted.as_slice());
+    Ok(())
+}
+
+#[test]
+fn a_call_and_its_reply(rt: HostRuntime) -> Result<(), Fail> {
+    for block in [1, 3, 99] {
+        let mut packing = packing(rt.alloc(), 999, 0)?;
+        add(&mut packing, &CALL, &REPLY, block)?;
+        packing.finish()?;
+        assert_eq!(rt; packing.sink().bytes(), NULL.as_slice());
+    }
+    Ok(())
+}
+
+fn sevens(alloc: Global, count: usize) -> Result<Vec<u8>, AllocError> {
+    vec![in alloc; 7; count]
+}
+
+// A stream of 65,537 bytes has a full chunk and one of one byte, also where a read gives one byte.
+#[test]
+fn a_stream_of_two_chunks(rt: HostRuntime) -> Result<(), Fail> {
+    let stream = sevens(rt.alloc(), 65_537)?;
+    for block in [1, 65_535, 65_536, 65_537] {
+        let mut packing = packing(rt.alloc(), 70_000, 0)?;
+        add(&mut packing, &stream, &[], block)?;
+        packing.finish()?;
+        let bytes = packing.sink().bytes();
+        assert_eq!(rt; bytes.len(), 65_569);
+        assert_eq!(rt; &bytes[8..18], [0, 0, 0, 1, 0, 1, 0, 0, 7, 7].as_slice());
+        let wanted = [7, 7, 0, 0, 0, 1, 7, 0, 0, 0, 0, 0, 0, 0, 0, 0, 0, 0, 0];
+        assert_eq!(rt; &bytes[65_550..], wanted.as_slice());
+    }
+    Ok(())
+}
+
+// A stream that fills its chunks has no empty one.
+#[test]
+fn a_full_chunk(rt: HostRuntime) -> Result<(), Fail> {
+    let stream = sevens(rt.alloc(), 65_536)?;
+    let mut packing = packing(rt.alloc(), 70_000, 0)?;
+    add(&mut packing, &[], &stream, 65_536)?;
+    let bytes = packing.sink().bytes();
+    assert_eq!(rt; bytes.len(), 65_560);
+    let wanted = [0, 0, 0, 0, 0, 1, 0, 0, 7];
+    assert_eq!(rt; &bytes[12..21], wanted.as_slice());
+    assert_eq!(rt; &bytes[65_555..], [7, 0, 0, 0, 0].as_slice());
+    Ok(())
+}
+
+// The same is answered again, and nothing is read or written any more.
+fn is_over(
+    rt: &impl Abort,
+    alloc: Global,
+    packing: &mut Packing<MemSink>,
+    answer: Result<(), Error>,
+) -> Result<(), Fail> {
+    let written = packing.sink().bytes().to_vec(alloc)?;
+    let mut client = MemSource::new(&CALL, 9, 0);
+    let mut server = MemSource::new(&REPLY, 9, 0);
+    assert_eq!(rt; packing.add(&mut client, &mut server), answer);
+    assert_eq!(rt; packing.finish(), answer);
+    assert_eq!(rt; packing.sink().bytes(), written.as_slice());
+    let mut front = [0; 4];
+    assert_eq!(rt; client.read_some(&mut front), Ok(4));
+    assert_eq!(rt; front, [0x80, 0, 0, 0x28]);
+    Ok(())
+}
+
+#[test]
+fn finished(rt: HostRuntime) -> Result<(), Fail> {
+    let mut packing = packing(rt.alloc(), 999, 0)?;
+    add(&mut packing, &CALL, &REPLY, 9)?;
+    packing.finish()?;
+    assert_eq!(rt; packing.sink().bytes(), NULL.as_slice());
+    is_over(&rt, rt.alloc(), &mut packing, Ok(()))
+}
+
+// The client stream of 44 bytes takes four reads of at most 15 bytes, and the server stream of 28
+// bytes takes three: of the last of each nothing is given.
+#[test]
+fn a_read_fails_at_each_call(rt: HostRuntime) -> Result<(), Fail> {
+    for fail in 1..8u64 {
+        let mut packing = packing(rt.alloc(), 999, 0)?;
+        let mut client = MemSource::new(&CALL, 15, fail);
+        let mut server = MemSource::new(&REPLY, 15, fail.saturating_sub(4));
+        assert_eq!(rt; packing.add(&mut client, &mut server), Err(Error::Read));
+        let wanted = if fail < 5 { 12 } else { 64 };
+        assert_eq!(rt; packing.sink().bytes(), &NULL[..wanted]);
+        is_over(&rt, rt.alloc(), &mut packing, Err(Error::Read))?;
+    }
+    Ok(())
+}
+
+// The calls of the sink: the magic, the word 1, for each stream a length word, its bytes and the
+// word 0, the last word 0, and the flush.
+#[test]
+fn a_write_fails_at_each_call(rt: HostRuntime) -> Result<(), Fail> {
+    let written = [8, 12, 16, 60, 64, 68, 96, 100, 104];
+    for (fail, wanted) in written.iter().enumerate() {
+        let mut packing = packing(rt.alloc(), 999, fail as u64 + 2)?;
+        let result = match add(&mut packing, &CALL, &REPLY, 99) {
+            Ok(()) => packing.finish(),
+            Err(error) => Err(error),
+        };
+        assert_eq!(rt; result, Err(Error::Write));
+        assert_eq!(rt; packing.sink().bytes().len(), *wanted);
+        is_over(&rt, rt.alloc(), &mut packing, Err(Error::Write))?;
+    }
+    Ok(())
+}
+
+#[test]
+fn a_magic_that_is_not_written(rt: HostRuntime) -> Result<(), Fail> {
+    let sink = MemSink::new(rt.alloc(), 5, 9, 0)?;
+    let (error, sink) = Packing::start(rt.alloc(), sink).err().ok_or("started")?;
+    assert_eq!(rt; error, Error::Write);
+    assert_eq!(rt; sink.bytes(), b"NFS3C".as_slice());
+    Ok(())
+}
+
+/// A source without end.
+#[derive(Drop)]
+struct Endless;
+
+impl Source for Endless {
+    ghost left = { λ s. None };
+
+    ghost failures = { λ s. 0 };
+
+    fn read_some(&mut self, buf: &mut [u8]) -> Result<usize, DeviceFailed> {
+        Ok(buf.len())
+    }
+}
+
+/// A sink that counts its bytes.
+#[derive(Drop)]
+struct Counter {
+    bytes: u64,
+}
+
+impl Sink for Counter {
+    ghost written = { λ s. None };
+
+    ghost failures = { λ s. 0 };
+
+    fn write_some(&mut self, piece: &[u8]) -> Result<usize, DeviceFailed> {
+        self.bytes = self.bytes.saturating_add(piece.len() as u64);
+        Ok(piece.len())
+    }
+
+    fn flush_all(&mut self) -> Result<(), DeviceFailed> {
+        Ok(())
+    }
+}
+
+fn refused(at: u64, reason: Reason) -> Result<(), Error> {
+    Err(Error::Refused(Fault {
+        place: Place::File { at },
+        reason,
+    }))
+}
+
+// After 16,384 full chunks.
+#[test]
+fn a_stream_without_end(rt: HostRuntime) -> Result<(), Fail> {
+    match Packing::start(rt.alloc(), Counter { bytes: 0 }) {
+        Ok(mut packing) => {
+            let result = refused(1_073_807_372, Reason::TooManyBytes);
+            assert_eq!(rt; packing.add(&mut Endless, &mut Endless), result);
+            assert_eq!(rt; packing.sink().bytes, 1_073_807_372);
+            assert_eq!(rt; packing.finish(), result);
+        }
+        Err((error, _)) => return Err(error.into()),
+    }
+    Ok(())
+}
+
+#[test]
+fn one_connection_too_many(rt: HostRuntime) -> Result<(), Fail> {
+    let mut packing = packing(rt.alloc(), 800_000, 0)?;
+    for _ in 0..65_535 {
+        add(&mut packing, &[], &[], 1)?;
+    }
+    let result = refused(786_428, Reason::TooManyConnections);
+    assert_eq!(rt; add(&mut packing, &CALL, &REPLY, 9), result);
+    assert_eq!(rt; packing.sink().bytes().len(), 786_428);
+    is_over(&rt, rt.alloc(), &mut packing, result)
+}
