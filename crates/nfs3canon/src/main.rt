@@ -10,9 +10,8 @@ mod printed;
 #[cfg(test)]
 mod tests;
 
-use capture3::Error;
 use command::job;
-use jobs::{checked, compared, rewritten};
+use jobs::{checked, compared, listed, packed, rewritten};
 use outcome::{Job, LineFault, Outcome, Report};
 use output::is_standard_output;
 use printed::{OUTSIDE, aside, report};
@@ -36,19 +35,18 @@ fn run(rt: &HostRuntime) -> Result<Report, AllocError> {
         Ok(words) => words,
         Err(fault) => return report(alloc, &Outcome::Line(fault)),
     };
-    match job(alloc, &words) {
-        Ok(Job::Check(name)) => report(alloc, &checked(rt, name)),
-        Ok(Job::Canon(input, output)) => {
-            let report = report(alloc, &rewritten(rt, input, output))?;
-            if is_standard_output(rt, output) {
-                aside(alloc, report)
-            } else {
-                Ok(report)
-            }
-        }
-        Ok(Job::Same(first, second)) => report(alloc, &compared(rt, first, second)),
-        Ok(Job::Show(_) | Job::Pack(_, _)) => report(alloc, &Outcome::Listed(Err(Error::Read))),
-        Err(fault) => report(alloc, &Outcome::Line(fault)),
+    let (outcome, output) = match job(alloc, &words) {
+        Ok(Job::Check(name)) => (checked(rt, name), None),
+        Ok(Job::Show(name)) => (listed(rt, name), None),
+        Ok(Job::Canon(input, output)) => (rewritten(rt, input, output), Some(output)),
+        Ok(Job::Same(first, second)) => (compared(rt, first, second), None),
+        Ok(Job::Pack(output, streams)) => (packed(rt, output, streams), Some(output)),
+        Err(fault) => (Outcome::Line(fault), None),
+    };
+    let report = report(alloc, &outcome)?;
+    match output {
+        Some(output) if is_standard_output(rt, output) => aside(alloc, report),
+        _ => Ok(report),
     }
 }
 

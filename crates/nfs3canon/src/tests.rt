@@ -364,6 +364,8 @@ fn command_lines(rt: HostRuntime) -> Result<(), Fail> {
         "nfs3canon same a",
         "nfs3canon pack a",
         "nfs3canon help",
+        "nfs3canon --help",
+        "nfs3canon check -- a",
     ];
     for line in &lines {
         let words = words_of(alloc, line)?;
@@ -374,9 +376,19 @@ fn command_lines(rt: HostRuntime) -> Result<(), Fail> {
     }
     let words = words_of(alloc, "nfs3canon check a")?;
     assert!(rt; matches!(job(alloc, &words), Ok(Job::Check("a"))));
+    let words = words_of(alloc, "nfs3canon show a")?;
+    assert!(rt; matches!(job(alloc, &words), Ok(Job::Show("a"))));
     let words = words_of(alloc, "nfs3canon canon a b")?;
     assert!(rt; matches!(job(alloc, &words), Ok(Job::Canon("a", "b"))));
     let words = words_of(alloc, "nfs3canon canon a a")?;
+    assert!(rt; matches!(job(alloc, &words), Err(LineFault::SameName)));
+    let words = words_of(alloc, "nfs3canon same a b")?;
+    assert!(rt; matches!(job(alloc, &words), Ok(Job::Same("a", "b"))));
+    let words = words_of(alloc, "nfs3canon pack a b c")?;
+    assert!(rt; matches!(job(alloc, &words), Ok(Job::Pack("a", [_, _]))));
+    let words = words_of(alloc, "nfs3canon pack a b")?;
+    assert!(rt; matches!(job(alloc, &words), Err(LineFault::Odd)));
+    let words = words_of(alloc, "nfs3canon pack a b a")?;
     assert!(rt; matches!(job(alloc, &words), Err(LineFault::SameName)));
     Ok(())
 }
