@@ -1,1 +1,2 @@
-mod FileWords
+mod GrammarLemmas
+mod LineLemmas

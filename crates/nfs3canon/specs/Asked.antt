@@ -1,36 +1,93 @@
 -- What the words of a command line ask for.
-use Rattle.std.specs.Prelude.{◌≡◌, ◌≢◌, List, [], ◌∷◌, ℕ, Result, Ok, Err, codes, string_bytes}
+use Rattle.std.specs.Prelude.{◌≡◌, ◌≢◌, ◌==◌, false, ◌<◌, ◌%◌, ◌⊎◌, List, [], ◌∷◌, ℕ, Contains, codes, length, map, string_bytes}
+use Rattle.std.specs.List.{All}
 use Rattle.nfs3canon.specs.declared.outcome.Job.{Job}
-use Rattle.nfs3canon.specs.declared.outcome.Job.TheVariants.{Check, Canon}
+use Rattle.nfs3canon.specs.declared.outcome.Job.TheVariants as jobs
 use Rattle.nfs3canon.specs.declared.outcome.LineFault.{LineFault}
-use Rattle.nfs3canon.specs.declared.outcome.LineFault.TheVariants.{Usage, SameName, Memory}
+use Rattle.nfs3canon.specs.declared.outcome.LineFault.TheVariants.{Usage, Odd, SameName, NotText, Memory}
 
--- the program's name, a command, and names of files
-pub record AreWords (words : List (List ℕ)) (command : List ℕ) (names : List (List ℕ)) : Type 0 where
+-- the five forms of a line, with the names of its files
+pub data Form : Type 0 where
+  Check : List ℕ → Form
+  Show : List ℕ → Form
+  Canon : List ℕ → List ℕ → Form
+  Same : List ℕ → List ℕ → Form
+  -- the output, a stream, and more streams
+  Pack : List ℕ → List ℕ → List (List ℕ) → Form
+
+-- a form's words: a command, and the names
+abbrev pub words_of : Form → List (List ℕ)
+words_of (Check file) = codes "check" ∷ file ∷ []
+words_of (Show file) = codes "show" ∷ file ∷ []
+words_of (Canon input output) = codes "canon" ∷ input ∷ output ∷ []
+words_of (Same first second) = codes "same" ∷ first ∷ second ∷ []
+words_of (Pack output stream streams) = codes "pack" ∷ output ∷ stream ∷ streams
+
+-- the program's name, and then these words
+pub record IsLine (words said : List (List ℕ)) : Type 0 where
   pub program : List ℕ
-  pub all : words ≡ program ∷ command ∷ names
+  pub all : words ≡ program ∷ said
 
--- the words ask for the job; an output is no input
+-- streams come in pairs of a client's and a server's, and none is the output
+pub record IsPacking (output : List ℕ) (streams : List (List ℕ)) : Type 0 where
+  pub paired : length streams % 2 ≡ 0
+  pub some : 0 < length streams
+  pub distinct : Contains streams output → ⊥
+
+-- the line's words are those of the job, in their order; an output is no input
 abbrev pub Asks : List (List ℕ) → Job → Type 0
-Asks words (Check name) = AreWords words (codes "check") (name.now ∷ [])
-Asks words (Canon input output) = AreWords words (codes "canon") (input.now ∷ output.now ∷ []) × (input.now ≢ output.now)
+Asks words (jobs.Check file) = IsLine words (codes "check" ∷ file.now ∷ [])
+Asks words (jobs.Show file) = IsLine words (codes "show" ∷ file.now ∷ [])
+Asks words (jobs.Canon input output) = IsLine words (codes "canon" ∷ input.now ∷ output.now ∷ []) × (input.now ≢ output.now)
+Asks words (jobs.Same first second) = IsLine words (codes "same" ∷ first.now ∷ second.now ∷ [])
+Asks words (jobs.Pack output streams) = IsLine words (codes "pack" ∷ output.now ∷ map string_bytes streams.now) × IsPacking output.now (map string_bytes streams.now)
 
--- where the fault is the usage, the words have none of the program's forms
+-- the output of a canonical form is its input
+pub record RewritesItself (words : List (List ℕ)) : Type 0 where
+  pub name : List ℕ
+  pub line : IsLine words (words_of (Canon name name))
+
+-- streams in pairs, of which the output is one
+pub record PacksItself (words : List (List ℕ)) : Type 0 where
+  pub output : List ℕ
+  pub streams : List (List ℕ)
+  pub line : IsLine words (codes "pack" ∷ output ∷ streams)
+  pub paired : length streams % 2 ≡ 0
+  pub own : Contains streams output
+
+-- a stream without its counterpart
+pub record HasOddStream (words : List (List ℕ)) : Type 0 where
+  pub output : List ℕ
+  pub streams : List (List ℕ)
+  pub line : IsLine words (codes "pack" ∷ output ∷ streams)
+  pub odd : length streams % 2 ≢ 0
+
+-- a word that is not empty and does not begin with a hyphen (2d)
+pub record IsFileWord (word : List ℕ) : Type 0 where
+  pub first : ℕ
+  pub rest : List ℕ
+  pub split : word ≡ first ∷ rest
+  pub no_hyphen : (first == 45) ≡ false
+
+abbrev pub AreFileWords : Form → Type 0
+AreFileWords (Check file) = IsFileWord file
+AreFileWords (Show file) = IsFileWord file
+AreFileWords (Canon input output) = IsFileWord input × IsFileWord output
+AreFileWords (Same first second) = IsFileWord first × IsFileWord second
+AreFileWords (Pack output stream streams) = IsFileWord output × IsFileWord stream × All IsFileWord streams
+
+-- where the fault is the usage, the line has none of the forms, or a file's name that is empty or begins with a hyphen
 abbrev pub AreRefused : List (List ℕ) → LineFault → Type 0
-AreRefused words (Usage _) =
-    ((name : List ℕ) → AreWords words (codes "check") (name ∷ []) → ⊥) × ((input output : List ℕ) → AreWords words (codes "canon") (input ∷ output ∷ []) → ⊥)
-AreRefused words SameName = (name : List ℕ) × AreWords words (codes "canon") (name ∷ name ∷ [])
+AreRefused words (Usage _) = (form : Form) → IsLine words (words_of form) → AreFileWords form → ⊥
+AreRefused words Odd = HasOddStream words
+AreRefused words SameName = RewritesItself words ⊎ PacksItself words
+AreRefused words NotText = ⊥
 AreRefused words Memory = Unit
-
--- the text of a usage
-abbrev pub HasText : List ℕ → LineFault → Type 0
-HasText usage (Usage text) = string_bytes text ≡ usage
-HasText usage _ = Unit
 
 -- ---- within the crate
 
--- the two are named, or are the same
-abbrev pub IsRewriting : (input output : List ℕ) → Result Job LineFault → Type 0
-IsRewriting input output (Ok (Canon first second)) = (first.now ≡ input) × (second.now ≡ output) × (input ≢ output)
-IsRewriting input output (Err SameName) = input ≡ output
-IsRewriting input output _ = ⊥
+-- a usage, or want of memory for its text
+abbrev pub IsUsage : LineFault → Type 0
+IsUsage (Usage _) = Unit
+IsUsage Memory = Unit
+IsUsage _ = ⊥

@@ -1,29 +1,31 @@
-// Checks recorded NFS version 3 traffic.
+// Checks, lists, compares and packs recorded NFS version 3 traffic, and brings it into a canonical form.
 #![tactic(auto)]
 
 mod command;
+mod grammar;
+mod jobs;
 mod outcome;
+mod output;
 mod printed;
 #[cfg(test)]
 mod tests;
 
-use canon3::{ToWrite, canon, check};
-use capture3::{Error, FromRead, Hashers};
 use command::job;
+use jobs::{checked, compared, listed, packed, rewritten};
 use outcome::{Job, LineFault, Outcome, Report};
-use printed::report;
+use output::is_standard_output;
+use printed::{OUTSIDE, aside, report};
 use std::alloc::AllocError;
-use std::hash::RandomState;
-use std::io::{BufWriter, Write};
+use std::io::{ErrorKind, Write};
 use std::process::ExitCode;
-use std::{env, fs, io};
-
-/// The status of an ending that the outside brought about: a file, a device, or memory.
-const OUTSIDE: u8 = 3;
+use std::{env, io};
 
 /// The words of the command line, the program's name first.
 fn words(rt: &HostRuntime) -> Result<Vec<String>, LineFault> {
-    let args = env::args(rt).map_err(|_| LineFault::Memory)?;
+    let args = env::args(rt).map_err(|error| match error.kind() {
+        ErrorKind::InvalidData => LineFault::NotText,
+        _ => LineFault::Memory,
+    })?;
     args.collect(rt.alloc()).map_err(|_| LineFault::Memory)
 }
 
@@ -33,67 +35,39 @@ fn run(rt: &HostRuntime) -> Result<Report, AllocError> {
         Ok(words) => words,
         Err(fault) => return report(alloc, &Outcome::Line(fault)),
     };
-    match job(alloc, &words) {
-        Ok(Job::Check(name)) => report(alloc, &checked(rt, name)),
-        Ok(Job::Canon(input, output)) => report(alloc, &rewritten(rt, input, output)),
-        Err(fault) => report(alloc, &Outcome::Line(fault)),
+    let (outcome, output) = match job(alloc, &words) {
+        Ok(Job::Check(name)) => (checked(rt, name), None),
+        Ok(Job::Show(name)) => (listed(rt, name), None),
+        Ok(Job::Canon(input, output)) => (rewritten(rt, input, output), Some(output)),
+        Ok(Job::Same(first, second)) => (compared(rt, first, second), None),
+        Ok(Job::Pack(output, streams)) => (packed(rt, output, streams), Some(output)),
+        Err(fault) => (Outcome::Line(fault), None),
+    };
+    let report = report(alloc, &outcome)?;
+    match output {
+        Some(output) if is_standard_output(rt, output) => aside(alloc, report),
+        _ => Ok(report),
     }
-}
-
-/// The hashers have keys that nobody who writes a capture can know.
-fn hashers(rt: &HostRuntime) -> io::Result<Hashers<RandomState>> {
-    Ok(Hashers {
-        calls: RandomState::new(rt)?,
-        xids: RandomState::new(rt)?,
-        handles: RandomState::new(rt)?,
-        verfs: RandomState::new(rt)?,
-    })
-}
-
-fn checked<'a>(rt: &HostRuntime, name: &'a str) -> Outcome<'a> {
-    let Ok(hashers) = hashers(rt) else {
-        return Outcome::Counted(Err(Error::Read));
-    };
-    match fs::open(rt, name) {
-        Ok(file) => Outcome::Counted(check(rt.alloc(), hashers, &mut FromRead::new(file))),
-        Err(_) => Outcome::Unopened(name),
-    }
-}
-
-/// The output is made, or emptied, once the input is open.
-fn rewritten<'a>(rt: &HostRuntime, input: &'a str, output: &'a str) -> Outcome<'a> {
-    let Ok(hashers) = hashers(rt) else {
-        return Outcome::Counted(Err(Error::Read));
-    };
-    let Ok(source) = fs::open(rt, input) else {
-        return Outcome::Unopened(input);
-    };
-    let Ok(sink) = fs::create(rt, output) else {
-        return Outcome::Unopened(output);
-    };
-    Outcome::Counted(match BufWriter::new(rt.alloc(), sink) {
-        Ok(sink) => canon(
-            rt.alloc(),
-            hashers,
-            &mut FromRead::new(source),
-            &mut ToWrite::new(sink),
-        ),
-        Err(_) => Err(Error::Memory),
-    })
 }
 
 fn print_report(rt: &HostRuntime, report: &Report) -> io::Result<()> {
     rt.stdout().write_all(&report.out)?;
-    rt.stdout().flush()?;
-    rt.stderr().write_all(&report.err)
+    rt.stdout().flush()
+}
+
+/// Nothing is left to be told where standard error fails.
+fn print_error(rt: &HostRuntime, text: &[u8]) {
+    let _ = rt.stderr().write_all(text);
 }
 
 fn main(rt: HostRuntime) -> ExitCode {
     let Ok(report) = run(&rt) else {
         return ExitCode::from(OUTSIDE);
     };
-    match print_report(&rt, &report) {
-        Ok(()) => ExitCode::from(report.status),
-        Err(_) => ExitCode::from(OUTSIDE),
+    if print_report(&rt, &report).is_err() {
+        print_error(&rt, b"write failed\n");
+        return ExitCode::from(OUTSIDE);
     }
+    print_error(&rt, &report.err);
+    ExitCode::from(report.status)
 }

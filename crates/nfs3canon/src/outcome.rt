@@ -1,35 +1,58 @@
 // What the program is asked for, what came of it, and what it prints.
 
-use canon3::Summary;
-use capture3::Error;
+use canon3::{SameError, Summary, Verdict};
+use capture3 as captures;
+use thiserror::Error;
 
 /// What a command line asks for.
 #[derive(Clone, Copy, Debug, PartialEq, Eq)]
 pub enum Job<'a> {
-    /// The capture of this name.
+    /// The counts of the capture of this name.
     Check(&'a str),
-    /// The capture of the first name. Its canonical form goes to a file of the second.
+    /// The listing of the capture of this name.
+    Show(&'a str),
+    /// The canonical form of the capture of the first name, in a file of the second.
     Canon(&'a str, &'a str),
+    /// Whether the captures of these names are the same up to renaming.
+    Same(&'a str, &'a str),
+    /// A capture in a file of the first name. Its streams are those of the other names: of each connection
+    /// the client's and then the server's.
+    Pack(&'a str, &'a [String]),
 }
 
 /// Why a command line is refused.
-#[derive(Debug, Drop)]
+#[derive(Debug, Drop, Error)]
 pub enum LineFault {
-    /// It has none of the program's forms. The text says which there are.
+    /// It has none of the program's forms, or asks for help. The text says so.
+    #[error("{0}")]
     Usage(String),
+    /// A stream has no counterpart.
+    #[error("streams come in pairs")]
+    Odd,
     /// The output is an input.
+    #[error("output names an input")]
     SameName,
-    /// No memory was to be had.
+    /// A word is not UTF-8.
+    #[error("a word of the line is not UTF-8")]
+    NotText,
+    /// Memory ran out.
+    #[error("out of memory")]
     Memory,
 }
 
 /// What came of a job.
 #[derive(Debug, Drop)]
-pub enum Outcome<'a> {
-    /// A capture was read to its end, or its first fault or a failure met.
-    Counted(Result<Summary, Error>),
-    /// A file of this name could not be opened.
-    Unopened(&'a str),
+pub enum Outcome {
+    /// A capture was read to its end and counted, or its first fault or a failure met.
+    Counted(Result<Summary, captures::Error>),
+    /// A capture was listed, or its first fault or a failure met.
+    Listed(Result<Summary, captures::Error>),
+    /// Two captures were compared, or a fault or a failure met.
+    Compared(Result<Verdict, SameError>),
+    /// Streams were packed, or a limit or a failure met.
+    Packed(Result<(), captures::Error>),
+    /// A file of this name could not be opened or made.
+    Unopened(String),
     /// The command line is refused.
     Line(LineFault),
 }

@@ -330,7 +330,11 @@ fn endings_without_a_capture(rt: HostRuntime) -> Result<(), Fail> {
         (Outcome::Counted(Err(Error::Read)), 3, "read failed\n"),
         (Outcome::Counted(Err(Error::Write)), 3, "write failed\n"),
         (Outcome::Counted(Err(Error::Memory)), 3, "out of memory\n"),
-        (Outcome::Unopened("a b"), 3, "open failed: a b\n"),
+        (
+            Outcome::Unopened(String::from_str(rt.alloc(), "a b\n\\")?),
+            3,
+            "open failed: a b\\x0a\\x5c\n",
+        ),
         (Outcome::Line(LineFault::Memory), 3, "out of memory\n"),
         (
             Outcome::Line(LineFault::SameName),
@@ -356,21 +360,35 @@ fn command_lines(rt: HostRuntime) -> Result<(), Fail> {
         "nfs3canon check a b",
         "nfs3canon canon a",
         "nfs3canon canon a b c",
-        "nfs3canon show a",
+        "nfs3canon show a b",
+        "nfs3canon same a",
+        "nfs3canon pack a",
         "nfs3canon help",
+        "nfs3canon --help",
+        "nfs3canon check -- a",
     ];
     for line in &lines {
         let words = words_of(alloc, line)?;
         let Err(LineFault::Usage(text)) = job(alloc, &words) else {
             return Err(Fail::from("taken"));
         };
-        assert!(rt; text.as_str().starts_with("usage: nfs3canon"), "{line}");
+        assert!(rt; !text.is_empty(), "{line}");
     }
     let words = words_of(alloc, "nfs3canon check a")?;
     assert!(rt; matches!(job(alloc, &words), Ok(Job::Check("a"))));
+    let words = words_of(alloc, "nfs3canon show a")?;
+    assert!(rt; matches!(job(alloc, &words), Ok(Job::Show("a"))));
     let words = words_of(alloc, "nfs3canon canon a b")?;
     assert!(rt; matches!(job(alloc, &words), Ok(Job::Canon("a", "b"))));
     let words = words_of(alloc, "nfs3canon canon a a")?;
+    assert!(rt; matches!(job(alloc, &words), Err(LineFault::SameName)));
+    let words = words_of(alloc, "nfs3canon same a b")?;
+    assert!(rt; matches!(job(alloc, &words), Ok(Job::Same("a", "b"))));
+    let words = words_of(alloc, "nfs3canon pack a b c")?;
+    assert!(rt; matches!(job(alloc, &words), Ok(Job::Pack("a", [_, _]))));
+    let words = words_of(alloc, "nfs3canon pack a b")?;
+    assert!(rt; matches!(job(alloc, &words), Err(LineFault::Odd)));
+    let words = words_of(alloc, "nfs3canon pack a b a")?;
     assert!(rt; matches!(job(alloc, &words), Err(LineFault::SameName)));
     Ok(())
 }

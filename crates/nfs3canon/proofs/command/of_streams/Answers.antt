@@ -1,0 +1,27 @@
+use Rattle.std.proofs.Common.{rules, arith, subst, sym, ◌≡◌, ◌≤◌, ◌∷◌, ℕ, List, IfErr, IfOk, codes, length, map, string_bytes}
+use Rattle.std.proofs.lemmas.List.{length-map}
+use Rattle.nfs3canon.specs.Asked.{AreRefused, Asks}
+use Rattle.nfs3canon.proofs.LineLemmas.{told_other}
+use Rattle.nfs3canon.proofs.command.of_streams.Goals as goal
+
+pub returns-then-eq-clause-asked : goal.returns-then-eq-clause-asked
+returns-then-eq-clause-asked c = λ program.
+    let e : c.args.command.now ≡ codes "pack" = search rules in
+    subst (λ (command : List ℕ). IfOk c.packing.result (Asks (program ∷ command ∷ string_bytes c.args.output.now ∷ map string_bytes c.args.streams.now))) (sym e) (c.packing.ensures.asked program)
+
+pub returns-then-eq-clause-refused : goal.returns-then-eq-clause-refused
+returns-then-eq-clause-refused c = λ program.
+    let e : c.args.command.now ≡ codes "pack" = search rules in
+    subst (λ (command : List ℕ). IfErr c.packing.result (AreRefused (program ∷ command ∷ string_bytes c.args.output.now ∷ map string_bytes c.args.streams.now))) (sym e) (c.packing.ensures.refused program)
+
+pub returns-else-eq-clause-refused : goal.returns-else-eq-clause-refused
+returns-else-eq-clause-refused c = λ program.
+    let many : length (map string_bytes c.args.streams.now) ≡ length c.args.streams.now = length-map c.args.streams.now string_bytes in
+    let low : 2 ≤ length c.args.streams.now = c.requires in
+    told_other program c.args.command.now (string_bytes c.args.output.now ∷ map string_bytes c.args.streams.now) c.usage.result c.usage.ensures (record {
+      check = λ e n. omega (arith, n, many, low);
+      show = λ e n. omega (arith, n, many, low);
+      canon = λ e n. omega (arith, n, many, low);
+      same = λ e n. omega (arith, n, many, low);
+      pack = λ e. let not : c.args.command.now ≡ codes "pack" → ⊥ = search rules in absurd (not e);
+    })
