@@ -78,7 +78,7 @@ class Case:
         self.making, self.content, self.wanted = [], {}, {}
         self.args, self.status, self.out, self.err = [], 0, b'', b''
         self.err_begins = False
-        self.stdout, self.stdin, self.through, self.gone = None, None, {}, set()
+        self.stdout, self.stdin, self.through, self.modes, self.gone = None, None, {}, {}, set()
 
     def add(self, key, value):
         name, _, rest = value.partition(':')
@@ -112,6 +112,8 @@ class Case:
             self.wanted[name] = make(rest)
         elif key == 'reads':
             self.through[name] = bytes_of(rest)
+        elif key == 'holds-mode':
+            self.modes[value.split()[0]] = int(value.split()[1], 8)
         elif key == 'gone':
             self.gone.add(value)
         else:
@@ -192,6 +194,10 @@ def judge(case, done, folder, before, got):
     elif done.stderr != case.err:
         wrong.append('standard error %r, wanted %r' % (done.stderr[:300], case.err[:300]))
     wrong += differing(case, before, what_is_there(folder))
+    for name, mode in case.modes.items():
+        found = stat.S_IMODE(os.stat(os.path.join(folder, name)).st_mode)
+        if found != mode:
+            wrong.append('%s has the mode %o, wanted %o' % (name, found, mode))
     for name, content in case.through.items():
         if got.get(name) != content:
             wrong.append('%s gave %r, wanted %r' % (name, got.get(name), content))

@@ -2,7 +2,7 @@
 
 use crate::outcome::Outcome;
 use capture3::Error;
-use std::fs::{File, OpenOptions};
+use std::fs::{File, Metadata, OpenOptions};
 use std::io::ErrorKind;
 use std::os::unix::fs::MetadataExt;
 use std::{fs, io};
@@ -58,8 +58,8 @@ impl OutputFile {
         match fs::metadata(rt, name) {
             Ok(data) if !data.is_file() => as_it_is(rt, name),
             Ok(data) if data.permissions().readonly() => Err(unopened(rt, name)),
-            Ok(_) => match fs::canonicalize(rt, name) {
-                Ok(path) => beside(rt, path.into_string()),
+            Ok(data) => match fs::canonicalize(rt, name) {
+                Ok(path) => with_mode(rt, beside(rt, path.into_string())?, &data),
                 Err(_) => Err(unopened(rt, name)),
             },
             Err(error) if error.kind() == ErrorKind::NotFound && !is_link(rt, name) => {
@@ -120,6 +120,21 @@ fn beside(rt: &HostRuntime, whole: String) -> Result<OutputFile, Outcome> {
         }),
         Err(error) if error.kind() == ErrorKind::AlreadyExists => Err(Outcome::Unopened(name)),
         Err(_) => Err(Outcome::Unopened(whole)),
+    }
+}
+
+/// Who may read the file that is replaced may read the new one, and nobody else.
+fn with_mode(
+    rt: &HostRuntime,
+    made: OutputFile,
+    replaced: &Metadata,
+) -> Result<OutputFile, Outcome> {
+    match made.file.set_permissions(replaced.permissions()) {
+        Ok(()) => Ok(made),
+        Err(_) => {
+            made.discard(rt);
+            Err(Outcome::Packed(Err(Error::Write)))
+        }
     }
 }
 
