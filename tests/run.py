@@ -19,51 +19,10 @@ import sys
 import tempfile
 import threading
 
+from texts import bytes_of, capture_of
+
 HERE = pathlib.Path(__file__).resolve().parent
 TIMEOUT = 20
-
-# Words that stand for bytes in hexadecimal.
-WORDS = {
-    'MAGIC': '4e46533343415031',
-    # mtype 0 and rpcvers 2 of a call (RFC 5531, section 9)
-    'CALL': '0000000000000002',
-    # program and version
-    'NFS': '000186a300000003',
-    'MOUNT': '000186a500000003',
-    # AUTH_NONE without a body
-    'NONE': '0000000000000000',
-    # mtype 1, MSG_ACCEPTED, AUTH_NONE without a body, SUCCESS
-    'SUCCESS': '0000000100000000000000000000000000000000',
-}
-
-
-def bytes_of(text):
-    """Bytes from hexadecimal words; `61*1024` is 1,024 times the byte 61."""
-    out = b''
-    for word in text.split():
-        digits, *counts = word.split('*')
-        piece = bytes.fromhex(WORDS.get(digits, digits))
-        for count in counts:
-            piece *= int(count)
-        out += piece
-    return out
-
-
-def word(n):
-    return n.to_bytes(4, 'big')
-
-
-def capture_of(text):
-    """A capture whose records are one chunk and one fragment each: `>` begins a call's body, `<` a reply's,
-    and `|` the next connection."""
-    out = bytes_of('MAGIC')
-    for connection in text.split('|'):
-        streams = {'>': b'', '<': b''}
-        for side, body in re.findall(r'([<>])([^<>]*)', connection):
-            body = bytes_of(body)
-            streams[side] += word(4 + len(body)) + word(0x80000000 + len(body)) + body
-        out += word(1) + streams['>'] + word(0) + streams['<'] + word(0)
-    return out + word(0)
 
 
 def text_of(text):
@@ -258,4 +217,5 @@ def main():
     sys.exit(1 if failed or not cases else 0)
 
 
-main()
+if __name__ == '__main__':
+    main()

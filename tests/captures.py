@@ -1,0 +1,175 @@
+#!/usr/bin/env python3
+"""Runs every command of the built program on the captures of captures.rows and the pairs of pairs.rows.
+
+    python3 tests/captures.py [PROGRAM] [-v]
+
+PROGRAM is crates/nfs3canon/out/nfs3canon where none is named. The last line is 'N passed, M failed', and the
+status is 1 where any failed. README.md says what a row is, and what is tried on it.
+"""
+import argparse
+import concurrent.futures
+import os
+import pathlib
+import re
+import subprocess
+import sys
+import tempfile
+
+from texts import bytes_of, capture_of, word
+
+HERE = pathlib.Path(__file__).resolve().parent
+TIMEOUT = 60
+# Longer captures are not cut into single bytes, nor cut short.
+SMALL = 2_000
+COUNTS = re.compile(r'ok connections=\d+ calls=(\d+) replies=(\d+) handles=\d+')
+
+
+def rows_of(name):
+    """The rows of a file, each a comment and the lines up to `line`."""
+    rows, row, comment = [], {}, ''
+    for text in (HERE / name).read_text().splitlines():
+        if text.startswith('#'):
+            comment = text.strip('# -')
+        elif text:
+            key, _, value = text.partition(' ')
+            row[key] = value
+            if key == 'line':
+                rows.append((comment, row))
+                row = {}
+    return rows
+
+
+def in_pieces(body):
+    """A record in three fragments, one of them empty, each byte a chunk."""
+    front = min(5, len(body))
+    fragments = [word(front) + body[:front], word(0), word(0x80000000 + len(body) - front) + body[front:]]
+    return b''.join(word(1) + bytes([byte]) for byte in b''.join(fragments))
+
+
+class Runs:
+    """Runs of the program in a folder of their own."""
+
+    def __init__(self, program, folder):
+        self.program, self.folder, self.wrong = program, folder, []
+
+    def write(self, name, content):
+        with open(os.path.join(self.folder, name), 'wb') as file:
+            file.write(content)
+
+    def read(self, name):
+        path = os.path.join(self.folder, name)
+        if not os.path.exists(path):
+            return None
+        with open(path, 'rb') as file:
+            return file.read()
+
+    def run(self, *words, stdin=None):
+        done = subprocess.run([self.program, *words], cwd=self.folder, input=stdin, timeout=TIMEOUT,
+                              stdout=subprocess.PIPE, stderr=subprocess.PIPE)
+        return done.returncode, done.stdout.decode(), done.stderr.decode()
+
+    def want(self, what, got, wanted):
+        if got != wanted:
+            self.wrong.append('%s: %.300r, wanted %.300r' % (what, got, wanted))
+
+    def same_answer(self, name, line):
+        """`check` and `canon` answer the line, and what canon writes is given."""
+        accepted = line.startswith('ok ')
+        wanted = (0, line + '\n', '') if accepted else (2, '', line + '\n')
+        self.want('check ' + name, self.run('check', name), wanted)
+        self.want('canon ' + name, self.run('canon', name, name + '.out'), wanted)
+        form = self.read(name + '.out')
+        self.want('what canon made of ' + name, form is not None, accepted)
+        self.want('what canon left beside it', self.read(name + '.out.part'), None)
+        return form
+
+
+def accepted(runs, line, form):
+    """Of a capture `a` that is accepted, with its canonical form `a.out`."""
+    runs.want('canon of canon', runs.same_answer('a.out', line), form)
+    for pair in (('a', 'a.out'), ('a.out', 'a'), ('a', 'a')):
+        runs.want('same %s %s' % pair, runs.run('same', *pair), (0, 'same\n', ''))
+    status, listing, error = runs.run('show', 'a')
+    runs.want('show', (status, error), (0, ''))
+    runs.want('lines', listing.count('\n'), sum(int(n) for n in COUNTS.fullmatch(line).groups()))
+
+
+def refused(runs, line):
+    """Of a capture `a` that is refused."""
+    status, _, error = runs.run('show', 'a')
+    runs.want('show', (status, error), (2, line + '\n'))
+    runs.write('good', bytes_of('MAGIC 00000000'))
+    runs.want('same a good', runs.run('same', 'a', 'good'), (2, '', 'first: ' + line + '\n'))
+    runs.want('same good a', runs.run('same', 'good', 'a'), (2, '', 'second: ' + line + '\n'))
+
+
+def cut_short(runs, capture, line, every):
+    """A front of a capture is cut at its length, or has the fault of the whole."""
+    if line.endswith('AfterEnd'):
+        return
+    lengths = range(len(capture)) if every else sorted({len(capture) * k // 5 for k in range(5)} | {max(len(capture) - 1, 0)})
+    for n in lengths:
+        runs.write('front', capture[:n])
+        status, out, error = runs.run('check', 'front')
+        cut = 'file %d: CaptureCut\n' % n
+        if n < len(capture) and (status, out) != (2, '') or error not in (cut, line + '\n'):
+            runs.wrong.append('the first %d bytes: %r' % (n, (status, out, error)))
+
+
+def try_capture(program, row):
+    with tempfile.TemporaryDirectory(prefix='nfs3canon') as folder:
+        runs, line = Runs(program, folder), row['line']
+        capture = capture_of(row['capture']) if 'capture' in row else bytes_of(row['file'])
+        runs.write('a', capture)
+        form = runs.same_answer('a', line)
+        if form is None:
+            refused(runs, line)
+        else:
+            accepted(runs, line, form)
+        if len(capture) <= SMALL:
+            wanted = (0, line + '\n', '') if form is not None else (2, '', line + '\n')
+            runs.want('check by standard input', runs.run('check', '/dev/stdin', stdin=capture), wanted)
+            cut_short(runs, capture, line, 'fronts' in row)
+            if 'capture' in row:
+                runs.write('pieces', capture_of(row['capture'], in_pieces))
+                runs.want('the form of the pieces', runs.same_answer('pieces', line), form)
+        return runs.wrong
+
+
+def try_pair(program, row):
+    with tempfile.TemporaryDirectory(prefix='nfs3canon') as folder:
+        runs, line = Runs(program, folder), row['line']
+        runs.write('a', capture_of(row['first']))
+        runs.write('b', capture_of(row['second']))
+        wanted = (0, line + '\n', '') if line == 'same' else (1, line + '\n', '') if line.startswith('differ') else (2, '', line + '\n')
+        runs.want('same a b', runs.run('same', 'a', 'b'), wanted)
+        if wanted[0] < 2:
+            runs.want('same b a', runs.run('same', 'b', 'a'), wanted)
+            for name in 'ab':
+                runs.run('canon', name, name + '.out')
+            runs.want('equal forms', runs.read('a.out') == runs.read('b.out'), line == 'same')
+        return runs.wrong
+
+
+def main():
+    parser = argparse.ArgumentParser(description=__doc__, formatter_class=argparse.RawDescriptionHelpFormatter)
+    parser.add_argument('program', nargs='?', default=str(HERE.parent / 'crates/nfs3canon/out/nfs3canon'))
+    parser.add_argument('-v', action='store_true')
+    words = parser.parse_args()
+    program = os.path.abspath(words.program)
+    tries = [(try_capture, *row) for row in rows_of('captures.rows')]
+    tries += [(try_pair, *row) for row in rows_of('pairs.rows')]
+    failed = 0
+    with concurrent.futures.ThreadPoolExecutor(2 * (os.cpu_count() or 2)) as pool:
+        for (_, comment, row), wrong in zip(tries, pool.map(lambda t: t[0](program, t[2]), tries)):
+            failed += bool(wrong)
+            if wrong:
+                print('FAILED %s: %s: %s' % (comment, row['line'], '; '.join(wrong)))
+            elif words.v:
+                print('ok %s: %s' % (comment, row['line']))
+    print('%d passed, %d failed' % (len(tries) - failed, failed))
+    sys.exit(1 if failed or not tries else 0)
+
+
+if __name__ == '__main__':
+    main()
