@@ -34,8 +34,8 @@ pub trait EntryWriter {
     fn write<W: Sink>(&mut self, alloc: Global, sink: &mut W, entry: &Entry) -> Result<(), Error>
         requires { steps self.old + 1 < 2 ^ 32 }
         ensures few { steps self.new ≤ steps self.old + 1 }
-        ensures writes { WritesOne form stands self.old self.new (W.written sink.old) (W.written sink.new) entry.now
-            result }
+        ensures writes { WritesOne form stands self.old self.new (W.written sink.old)
+            (W.written sink.new) entry.now result }
         ensures count { CountsWriting (W.failures sink.old) (W.failures sink.new) result }
         ensures error { IfErr result IsOfWriting };
 
@@ -92,9 +92,11 @@ fn write_new<R: Source, W: Sink, E: EntryWriter, S: BuildHasher + Drop>(
     requires prefixes { KeepsPrefixes E.form }
     requires fresh { StandsFor R.left entries.old [] [] }
     requires going { failure_of entries.old ≡ None }
-    ensures writes { WritesGiven E.form (R.left entries.old.source.now) (R.left entries.new.source.now)
+    ensures writes { WritesGiven E.form (R.left entries.old.source.now)
+        (R.left entries.new.source.now)
         (W.written sink.old) (W.written sink.new) result }
-    ensures read { CountsReading (R.failures entries.old.source.now) (R.failures entries.new.source.now) result }
+    ensures read { CountsReading (R.failures entries.old.source.now)
+        (R.failures entries.new.source.now) result }
     ensures write { CountsWriting (W.failures sink.old) (W.failures sink.new) result }
     ensures same_reference { entries.new.source.ghost_name ≡ entries.old.source.ghost_name }
 {
@@ -131,8 +133,10 @@ fn write_rest<R: Source, W: Sink, E: EntryWriter, S: BuildHasher + Drop>(
     requires room { E.steps writer.old + entries_left entries.old ≤ most_entries }
     ensures over { (first old : Option (List ℕ))
         → IsUnderWay E.form E.stands R.left first old entries.old writer.old (W.written sink.old)
-        → IsOver E.form E.stands R.left first old entries.new writer.new (W.written sink.new) result }
-    ensures read { CountsReading (R.failures entries.old.source.now) (R.failures entries.new.source.now) result }
+        → IsOver E.form E.stands R.left first old entries.new writer.new (W.written sink.new)
+        result }
+    ensures read { CountsReading (R.failures entries.old.source.now)
+        (R.failures entries.new.source.now) result }
     ensures write { CountsWriting (W.failures sink.old) (W.failures sink.new) result }
     ensures same_reference { entries.new.source.ghost_name ≡ entries.old.source.ghost_name }
 {
@@ -152,12 +156,15 @@ fn write_next<R: Source, W: Sink, E: EntryWriter, S: BuildHasher + Drop>(
     requires room { E.steps writer.old + entries_left entries.old ≤ most_entries }
     ensures goes_on { (first old : Option (List ℕ))
         → IsUnderWay E.form E.stands R.left first old entries.old writer.old (W.written sink.old)
-        → GoesOn E.form E.stands R.left first old entries.new writer.new (W.written sink.new) result }
-    ensures fewer { IfOk result (λ more. IsTrue more → entries_left entries.new < entries_left entries.old) }
+        → GoesOn E.form E.stands R.left first old entries.new writer.new (W.written sink.new)
+        result }
+    ensures fewer { IfOk result
+        (λ more. IsTrue more → entries_left entries.new < entries_left entries.old) }
     ensures going { OnOk result (failure_of entries.new ≡ None) }
     ensures room { IfOk result
         (λ more. IsTrue more → E.steps writer.new + entries_left entries.new ≤ most_entries) }
-    ensures read { CountsReading (R.failures entries.old.source.now) (R.failures entries.new.source.now) result }
+    ensures read { CountsReading (R.failures entries.old.source.now)
+        (R.failures entries.new.source.now) result }
     ensures write { CountsWriting (W.failures sink.old) (W.failures sink.new) result }
     ensures same_reference { entries.new.source.ghost_name ≡ entries.old.source.ghost_name }
 {
@@ -178,8 +185,8 @@ fn write_one<W: Sink, E: EntryWriter>(
     requires { E.steps writer.old + 1 < 2 ^ 32 }
     ensures more { IfOk result IsTrue }
     ensures few { E.steps writer.new ≤ E.steps writer.old + 1 }
-    ensures writes { WritesOne E.form E.stands writer.old writer.new (W.written sink.old) (W.written sink.new)
-        entry.now result }
+    ensures writes { WritesOne E.form E.stands writer.old writer.new (W.written sink.old)
+        (W.written sink.new) entry.now result }
     ensures count { CountsWriting (W.failures sink.old) (W.failures sink.new) result }
     ensures error { IfErr result IsOfWriting }
 {

@@ -99,12 +99,14 @@ impl<S: BuildHasher + Drop> Rewriting<S> {
         ensures counted { (one : spec.Entry) (entries : List spec.Entry) → IsKept entry.now one
             → AreCounted self.old.counts entries
             → AreCounted self.new.counts (entries ++ one ∷ []) }
-        ensures follows { (one : spec.Entry) (hs vs : List (List ℕ)) (xs : List ℕ) → IsKept entry.now one
+        ensures follows { (one : spec.Entry) (hs vs : List (List ℕ)) (xs : List ℕ)
+            → IsKept entry.now one
             → Holds self.old.numbering hs vs xs → IsInTurn xs one
             → OnOk result
             (HasFollowed self.new.numbering (W.written sink.old) (W.written sink.new) hs vs
             xs one) }
-        ensures cut { (one : spec.Entry) (hs vs : List (List ℕ)) (xs : List ℕ) → IsKept entry.now one
+        ensures cut { (one : spec.Entry) (hs vs : List (List ℕ)) (xs : List ℕ)
+            → IsKept entry.now one
             → Holds self.old.numbering hs vs xs → IsInTurn xs one
             → OnErr result (IsCut (W.written sink.old) (W.written sink.new) hs vs xs one) }
         ensures count { CountsWriting (W.failures sink.old) (W.failures sink.new) result }

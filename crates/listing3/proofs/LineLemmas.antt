@@ -1,4 +1,4 @@
--- A line, and what is held behind it.
+-- A line, and what is held after it.
 use Rattle.std.proofs.Common.{◌≡◌, ◌≤◌, ◌⊎◌, inl, inr, ℕ, ◌+◌, List, [], ◌∷◌, ◌++◌, drop, length, length-append, sym, ap, ◌∙◌, subst, append_assoc, arith, Result, Ok, Err}
 use Rattle.std.proofs.Math.Seq.{drop-append_seam}
 use Rattle.std.specs.Prelude.{Option, IfOk, OnErr, OnOk, codes, decimal}

@@ -1,4 +1,4 @@
--- The listing grows behind the entries so far.
+-- The listing grows after the entries so far.
 use Rattle.std.proofs.Common.{◌≡◌, ℕ, ◌+◌, List, [], ◌∷◌, ◌++◌, sym, ap, ap₂, ◌∙◌, append_assoc, append-nil, arith}
 use Rattle.capture3.specs.Entry.{Entry}
 use Rattle.canon3.specs.EntryWriter.{KeepsPrefixes}

@@ -88,7 +88,8 @@ impl ItemText {
 
     fn append_hex(&mut self, name: &'static str, bytes: &[u8]) -> Result<(), AllocError>
         requires { length bytes.now ≤ body_limit }
-        ensures ok { OnOk result (self.new ≡ self.old ++ (opening name.now ++ encode_lower bytes.now)) }
+        ensures ok { OnOk result
+            (self.new ≡ self.old ++ (opening name.now ++ encode_lower bytes.now)) }
         ensures err { OnErr result (self.new ≡ self.old) }
     {
         let before = self.open(name)?;

@@ -10,7 +10,8 @@ ghost use Rattle.listing3.specs.Listing.{shown};
 /// last message: two listings are equal exactly where the captures are equal up to these. Chunks, fragments
 /// and residual bytes are no part of the entries.
 pub fn listing_tells_the_entries()
-    ensures tells { (file other : List ℕ) (a b : List Entry) → Typed file a → Typed other b → shown a ≡ shown b
+    ensures tells { (file other : List ℕ) (a b : List Entry) → Typed file a → Typed other b
+        → shown a ≡ shown b
         → AreEqualUpToSilence a b }
     ensures silence { (a b : List Entry) → AreEqualUpToSilence a b → shown a ≡ shown b }
 {}

@@ -83,7 +83,8 @@ fn push_prefix(out: &mut Vec<u8>, progress: Progress, side: &'static str) -> Res
 }
 
 fn push_xid(out: &mut Vec<u8>, xid: u32) -> Result<(), AllocError>
-    ensures ok { OnOk result (out.new.items ≡ out.old.items ++ (opening (codes "xid") ++ decimal xid)) }
+    ensures ok { OnOk result
+        (out.new.items ≡ out.old.items ++ (opening (codes "xid") ++ decimal xid)) }
 {
     push_name(out, "xid")?;
     push_decimal(out, u64::from(xid))
@@ -91,7 +92,8 @@ fn push_xid(out: &mut Vec<u8>, xid: u32) -> Result<(), AllocError>
 
 /// Writes all of one piece and then of the other.
 fn write_two<W: Sink>(sink: &mut W, first: &[u8], second: &[u8]) -> Result<(), DeviceFailed>
-    ensures ok { OnOk result (Appends (W.written sink.old) (W.written sink.new) (first.now ++ second.now)) }
+    ensures ok { OnOk result
+        (Appends (W.written sink.old) (W.written sink.new) (first.now ++ second.now)) }
     ensures err { OnErr result
         (AppendsFront (W.written sink.old) (W.written sink.new) (first.now ++ second.now)) }
     ensures count { devices.Counts (W.failures sink.old) (W.failures sink.new) result }
@@ -125,7 +127,8 @@ impl<S: BuildHasher + Drop> LineWriter<S> {
     ) -> Result<usize, AllocError>
         requires within { AreWithinLimit (M.items message.now) }
         requires begins { (rest : List Item) × (M.items message.now ≡ Word names.xid xid ∷ rest) }
-        ensures kept { (self.new.counts ≡ self.old.counts) × (self.new.progress ≡ self.old.progress) ×
+        ensures kept { (self.new.counts ≡ self.old.counts) ×
+            (self.new.progress ≡ self.old.progress) ×
             (self.new.handles ≡ self.old.handles) }
         ensures within { IfOk result (λ skip. skip ≤ length self.new.items) }
         ensures line { IfOk result
@@ -147,7 +150,8 @@ impl<S: BuildHasher + Drop> LineWriter<S> {
     }
 
     fn compose_call(&mut self, alloc: Global, call: &KeptCall) -> Result<usize, AllocError>
-        ensures kept { (self.new.counts ≡ self.old.counts) × (self.new.progress ≡ self.old.progress) }
+        ensures kept { (self.new.counts ≡ self.old.counts) ×
+            (self.new.progress ≡ self.old.progress) }
         ensures within { IfOk result (λ skip. skip ≤ length self.new.items) }
         ensures gathers { (items before : List Item) → IsCall call.now.body.items items
             → Gathers self.old.handles.numbers before
@@ -164,7 +168,8 @@ impl<S: BuildHasher + Drop> LineWriter<S> {
     }
 
     fn compose_reply(&mut self, alloc: Global, reply: &KeptReply) -> Result<usize, AllocError>
-        ensures kept { (self.new.counts ≡ self.old.counts) × (self.new.progress ≡ self.old.progress) }
+        ensures kept { (self.new.counts ≡ self.old.counts) ×
+            (self.new.progress ≡ self.old.progress) }
         ensures within { IfOk result (λ skip. skip ≤ length self.new.items) }
         ensures gathers { (items before : List Item)
             → IsReply reply.now.body.items (record { id = reply.now.id; items = items })
@@ -206,7 +211,8 @@ impl<S: BuildHasher + Drop> LineWriter<S> {
         sink: &mut W,
         call: &KeptCall,
     ) -> Result<(), Error>
-        ensures kept { (self.new.counts ≡ self.old.counts) × (self.new.progress ≡ self.old.progress) }
+        ensures kept { (self.new.counts ≡ self.old.counts) ×
+            (self.new.progress ≡ self.old.progress) }
         ensures gathers { (items before : List Item) → IsCall call.now.body.items items
             → Gathers self.old.handles.numbers before
             → OnOk result (Gathers self.new.handles.numbers (before ++ items)) }
@@ -233,7 +239,8 @@ impl<S: BuildHasher + Drop> LineWriter<S> {
         sink: &mut W,
         reply: &KeptReply,
     ) -> Result<(), Error>
-        ensures kept { (self.new.counts ≡ self.old.counts) × (self.new.progress ≡ self.old.progress) }
+        ensures kept { (self.new.counts ≡ self.old.counts) ×
+            (self.new.progress ≡ self.old.progress) }
         ensures gathers { (items before : List Item)
             → IsReply reply.now.body.items (record { id = reply.now.id; items = items })
             → Gathers self.old.handles.numbers before
@@ -264,7 +271,8 @@ impl<S: BuildHasher + Drop> LineWriter<S> {
         sink: &mut W,
         entry: &Entry,
     ) -> Result<(), Error>
-        ensures kept { (self.new.counts ≡ self.old.counts) × (self.new.progress ≡ self.old.progress) }
+        ensures kept { (self.new.counts ≡ self.old.counts) ×
+            (self.new.progress ≡ self.old.progress) }
         ensures gathers { (one : spec.Entry) (before : List Item) → IsKept entry.now one
             → Gathers self.old.handles.numbers before
             → OnOk result (Gathers self.new.handles.numbers (before ++ items_of one)) }
