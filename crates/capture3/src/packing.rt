@@ -14,7 +14,7 @@ pub fn pack_header() -> [u8; 8]
     MAGIC
 }
 
-/// A word of the container, four bytes with the highest first (RFC 4506, section 4.1): the length of a
+/// A word of the container, four bytes with the highest first (RFC 4506, section 4.2): the length of a
 /// chunk, the word 1 before a connection, or the word 0 after a stream and after the last connection.
 pub fn pack_chunk(n: u32) -> [u8; 4]
     ensures { result ≡ word_bytes n }
