@@ -1,5 +1,5 @@
 -- Attributes by the ends of their shapes.
-use Rattle.std.proofs.Common.{◌≡◌, List, refl}
+use Rattle.std.proofs.Common.{List}
 use Rattle.xdr3.specs.declared.reason.GetError.{GetError}
 use Rattle.xdr3.specs.Item.{Item}
 use Rattle.xdr3.specs.Scan.{Scans, Stops}

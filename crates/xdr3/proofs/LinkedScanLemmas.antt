@@ -1,11 +1,10 @@
 -- Scans of lists, link by link.
-use Rattle.std.proofs.Common.{◌≡◌, ℕ, ◌<◌, ◌≤◌, ◌+◌, Bool, List, [], ◌∷◌, ◌++◌, length, Ok, Err, refl, sym, ap, subst, ◌∙◌, arith}
+use Rattle.std.proofs.Common.{◌≡◌, ℕ, ◌<◌, ◌≤◌, Bool, List, [], ◌∷◌, ◌++◌, length, Ok, Err, refl, ap, subst, ◌∙◌, arith}
 use Rattle.xdr3.specs.declared.reason.GetError.{GetError}
 use Rattle.xdr3.specs.declared.reason.Reason.{Reason}
 use Rattle.xdr3.specs.declared.reason.Reason.TheVariants.{BadBool}
-use Rattle.xdr3.specs.declared.reason.Stop.{Stop}
 use Rattle.xdr3.specs.Item.{Item, Word}
-use Rattle.xdr3.specs.Reading.{reading, word_at, ◌>>=◌}
+use Rattle.xdr3.specs.Reading.{reading, word_at}
 use Rattle.xdr3.specs.Shape.{Shape, is_bool, linked, optional}
 use Rattle.xdr3.specs.View.{MovesOn, View}
 use Rattle.xdr3.specs.Visit.{Adds}

@@ -11,7 +11,6 @@ use Rattle.xdr3.specs.Reading.{reading, word_at, run_at, opaque_at, ◌>>=◌}
 use Rattle.xdr3.proofs.Bytes.{bind_ok, pair_is, run_takes}
 use Rattle.xdr3.specs.Shape.{Shape, both, choose, nothing, is_at_most}
 use Rattle.xdr3.specs.View.{MovesOn, View}
-use Rattle.xdr3.specs.Visit.{Adds}
 use Rattle.xdr3.proofs.Walks.{adds_both, adds_joined, adds_nothing}
 use Rattle.xdr3.specs.declared.reason.GetError.TheVariants as errors
 use Rattle.xdr3.specs.Layout.{Layout, exactly, reading_layout}

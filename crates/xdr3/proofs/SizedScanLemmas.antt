@@ -1,14 +1,13 @@
 -- Scans of bodies of a told length.
-use Rattle.std.proofs.Common.{◌≡◌, ℕ, ◌+◌, ◌≤◌, Bool, false, ltb, List, [], ◌∷◌, ◌++◌, length, take, Ok, Err, refl, sym, ap, subst, ◌∙◌, arith}
+use Rattle.std.proofs.Common.{◌≡◌, ℕ, ◌+◌, ltb, List, [], ◌∷◌, length, take, Ok, Err, refl, sym, ap, subst}
 use Rattle.xdr3.specs.declared.reason.GetError.{GetError}
 use Rattle.xdr3.specs.declared.reason.Reason.TheVariants.{Short, TooLong}
 use Rattle.xdr3.specs.declared.reason.Stop.{Stop}
 use Rattle.xdr3.specs.Gives.{Fails}
 use Rattle.xdr3.specs.Item.{Item, Word}
-use Rattle.xdr3.specs.Reading.{reading, word_at, from_window, ◌>>=◌}
+use Rattle.xdr3.specs.Reading.{reading, word_at, from_window}
 use Rattle.xdr3.specs.Shape.{Shape, is_at_most, sized}
 use Rattle.xdr3.specs.View.{MovesOn, View, view_at}
-use Rattle.xdr3.specs.Visit.{Adds}
 use Rattle.xdr3.proofs.Bytes.{guard_ok, guard_err}
 use Rattle.xdr3.proofs.Walks.{adds_joined}
 use Rattle.xdr3.specs.Scan.{Scans, ScansInside, ScansWord, Stops, StopsInside, StopsWord}

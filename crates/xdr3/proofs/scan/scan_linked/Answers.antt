@@ -1,4 +1,4 @@
-use Rattle.std.proofs.Common.{ℕ, Bool, length, ap, ◌∙◌, arith, subst}
+use Rattle.std.proofs.Common.{Bool, length, ap, arith, subst}
 use Rattle.std.specs.Int.{from_bool}
 use Rattle.std.proofs.lemmas.Result.{err_from_is_err_and}
 use Rattle.xdr3.specs.declared.reason.Reason.TheVariants.{BadBool}
