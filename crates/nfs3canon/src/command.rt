@@ -1,6 +1,6 @@
 // The command line.
 
-ghost use Rattle.std.specs.Prelude.{◌≤◌, ◌∷◌, ℕ, List, [], IfErr, IfOk, codes, length, map, string_bytes, ◌≡◌};
+ghost use Rattle.std.specs.Prelude.{◌≡◌, ◌≤◌, ◌∷◌, ℕ, List, [], IfErr, IfOk, codes, length, map, string_bytes};
 ghost use Rattle.clap.specs.Words.{kind_of};
 ghost use Rattle.nfs3canon.specs.Asked.{AreRefused, Asks, IsUsage};
 
@@ -71,8 +71,10 @@ fn placed<'a>(alloc: Global, words: &'a [String]) -> Result<Job<'a>, LineFault>
 
 /// A command and the name of a file.
 fn of_one_file<'a>(alloc: Global, command: &str, file: &'a str) -> Result<Job<'a>, LineFault>
-    ensures asked { (program : List ℕ) → IfOk result (Asks (program ∷ command.now ∷ file.now ∷ [])) }
-    ensures refused { (program : List ℕ) → IfErr result (AreRefused (program ∷ command.now ∷ file.now ∷ [])) }
+    ensures asked { (program : List ℕ)
+        → IfOk result (Asks (program ∷ command.now ∷ file.now ∷ [])) }
+    ensures refused { (program : List ℕ)
+        → IfErr result (AreRefused (program ∷ command.now ∷ file.now ∷ [])) }
 {
     match command {
         "check" => Ok(Job::Check(file)),
@@ -109,16 +111,10 @@ fn of_streams<'a>(
     streams: &'a [String],
 ) -> Result<Job<'a>, LineFault>
     requires { 2 ≤ length streams.now }
-    ensures asked { (program : List ℕ)
-        → IfOk result
-        (Asks
-        (program ∷ command.now ∷ string_bytes output.now ∷ map string_bytes
-        streams.now)) }
-    ensures refused { (program : List ℕ)
-        → IfErr result
-        (AreRefused
-        (program ∷ command.now ∷ string_bytes output.now ∷ map string_bytes
-        streams.now)) }
+    ensures asked { let names = map string_bytes streams.now in (program : List ℕ)
+        → IfOk result (Asks (program ∷ command.now ∷ string_bytes output.now ∷ names)) }
+    ensures refused { let names = map string_bytes streams.now in (program : List ℕ)
+        → IfErr result (AreRefused (program ∷ command.now ∷ string_bytes output.now ∷ names)) }
 {
     if command == "pack" {
         packing(output, streams)
@@ -142,16 +138,10 @@ fn rewriting<'a>(input: &'a str, output: &'a str) -> Result<Job<'a>, LineFault>
 
 fn packing<'a>(output: &'a String, streams: &'a [String]) -> Result<Job<'a>, LineFault>
     requires { 2 ≤ length streams.now }
-    ensures asked { (program : List ℕ)
-        → IfOk result
-        (Asks
-        (program ∷ codes "pack" ∷ string_bytes output.now ∷ map string_bytes
-        streams.now)) }
-    ensures refused { (program : List ℕ)
-        → IfErr result
-        (AreRefused
-        (program ∷ codes "pack" ∷ string_bytes output.now ∷ map string_bytes
-        streams.now)) }
+    ensures asked { let names = map string_bytes streams.now in (program : List ℕ)
+        → IfOk result (Asks (program ∷ codes "pack" ∷ string_bytes output.now ∷ names)) }
+    ensures refused { let names = map string_bytes streams.now in (program : List ℕ)
+        → IfErr result (AreRefused (program ∷ codes "pack" ∷ string_bytes output.now ∷ names)) }
 {
     if streams.len() % 2 != 0 {
         Err(LineFault::Odd)

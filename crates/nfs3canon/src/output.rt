@@ -25,7 +25,8 @@ pub fn is_standard_output(rt: &HostRuntime, name: &str) -> bool {
     }
 }
 
-/// The name of a file that could not be opened or made.
+/// The outcome where no file of this name could be opened or made. Want of memory is printed alike of every
+/// outcome.
 pub fn unopened(rt: &HostRuntime, name: &str) -> Outcome {
     match String::from_str(rt.alloc(), name) {
         Ok(name) => Outcome::Unopened(name),
