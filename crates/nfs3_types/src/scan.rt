@@ -51,7 +51,8 @@ impl<'a> Scan for DirOp<'a> {
 
     #[tactic(auto, using(xdr3::proofs::ScanLemmas::scans), unfolding(crate::specs::Shapes::dir_op, crate::specs::Names::names))]
     fn scan<V: Visit>(input: &mut Input, visitor: &mut V) -> Result<(), GetError>
-        ensures ok { OnOk result (Scans V.stands dir_op input.old input.new visitor.old visitor.new) }
+        ensures ok { OnOk result
+            (Scans V.stands dir_op input.old input.new visitor.old visitor.new) }
         ensures err { IfErr result (λ error. Stops dir_op input.old error) }
     {
         Handle::scan(input, visitor)?;
@@ -94,7 +95,8 @@ pub fn scan_time<V: Visit>(
 #[inline]
 #[tactic(auto, using(xdr3::proofs::ScanLemmas::scans), unfolding(crate::specs::Shapes::times, crate::specs::Names::names))]
 fn scan_times<V: Visit>(input: &mut Input, visitor: &mut V) -> Result<(), GetError>
-    ensures ok { OnOk result (Scans V.stands shapes.times input.old input.new visitor.old visitor.new) }
+    ensures ok { OnOk result
+        (Scans V.stands shapes.times input.old input.new visitor.old visitor.new) }
     ensures err { IfErr result (λ error. Stops shapes.times input.old error) }
 {
     scan_time("atime_sec", "atime_nsec", input, visitor)?;
@@ -233,7 +235,8 @@ fn scan_set_hyper<V: Visit>(
 ) -> Result<(), GetError>
     ensures ok { OnOk result (Scans V.stands (shapes.set_hyper set.now name.now) input.old input.new
         visitor.old visitor.new) }
-    ensures err { IfErr result (λ error. Stops (shapes.set_hyper set.now name.now) input.old error) }
+    ensures err { IfErr result
+        (λ error. Stops (shapes.set_hyper set.now name.now) input.old error) }
 {
     if scan_boolean(set, input, visitor)? {
         scan_hyper(name, input, visitor)
@@ -252,9 +255,11 @@ fn scan_time_how<V: Visit>(
     input: &mut Input,
     visitor: &mut V,
 ) -> Result<(), GetError>
-    ensures ok { OnOk result (Scans V.stands (shapes.time_how how.now sec.now nsec.now) input.old input.new
-        visitor.old visitor.new) }
-    ensures err { IfErr result (λ error. Stops (shapes.time_how how.now sec.now nsec.now) input.old error) }
+    ensures ok { OnOk result
+        (Scans V.stands (shapes.time_how how.now sec.now nsec.now) input.old input.new visitor.old
+        visitor.new) }
+    ensures err { IfErr result
+        (λ error. Stops (shapes.time_how how.now sec.now nsec.now) input.old error) }
 {
     if scan_listed(how, &[0, 1, 2], input, visitor)? == 2 {
         scan_time(sec, nsec, input, visitor)
@@ -281,7 +286,8 @@ impl Scan for Sattr {
 #[inline]
 #[tactic(auto, using(xdr3::proofs::ScanLemmas::scans), unfolding(crate::specs::AttributeTails::settable_times, crate::specs::Names::names))]
 fn scan_settable_times<V: Visit>(input: &mut Input, visitor: &mut V) -> Result<(), GetError>
-    ensures ok { OnOk result (Scans V.stands settable_times input.old input.new visitor.old visitor.new) }
+    ensures ok { OnOk result
+        (Scans V.stands settable_times input.old input.new visitor.old visitor.new) }
     ensures err { IfErr result (λ error. Stops settable_times input.old error) }
 {
     scan_time_how("set_atime", "atime_sec", "atime_nsec", input, visitor)?;
@@ -373,7 +379,8 @@ impl<'a> Scan for Mounted<'a> {
 
     #[tactic(auto, using(xdr3::proofs::ScanLemmas::scans), unfolding(crate::specs::Shapes::mounted, crate::specs::Names::names))]
     fn scan<V: Visit>(input: &mut Input, visitor: &mut V) -> Result<(), GetError>
-        ensures ok { OnOk result (Scans V.stands mounted input.old input.new visitor.old visitor.new) }
+        ensures ok { OnOk result
+            (Scans V.stands mounted input.old input.new visitor.old visitor.new) }
         ensures err { IfErr result (λ error. Stops mounted input.old error) }
     {
         scan_text("hostname", 255, input, visitor)?;
@@ -388,7 +395,8 @@ impl<'a> Scan for MountList<'a> {
 
     #[tactic(auto, unfolding(crate::specs::Shapes::mount_list, crate::specs::Names::names))]
     fn scan<V: Visit>(input: &mut Input, visitor: &mut V) -> Result<(), GetError>
-        ensures ok { OnOk result (Scans V.stands mount_list input.old input.new visitor.old visitor.new) }
+        ensures ok { OnOk result
+            (Scans V.stands mount_list input.old input.new visitor.old visitor.new) }
         ensures err { IfErr result (λ error. Stops mount_list input.old error) }
     {
         scan_linked::<Mounted, V>("entry", input, visitor)
@@ -402,7 +410,8 @@ impl<'a> Scan for Group<'a> {
 
     #[tactic(auto, unfolding(crate::specs::Shapes::group, crate::specs::Names::names))]
     fn scan<V: Visit>(input: &mut Input, visitor: &mut V) -> Result<(), GetError>
-        ensures ok { OnOk result (Scans V.stands group input.old input.new visitor.old visitor.new) }
+        ensures ok { OnOk result
+            (Scans V.stands group input.old input.new visitor.old visitor.new) }
         ensures err { IfErr result (λ error. Stops group input.old error) }
     {
         scan_text("name", 255, input, visitor)
@@ -416,7 +425,8 @@ impl<'a> Scan for Export<'a> {
 
     #[tactic(auto, using(xdr3::proofs::ScanLemmas::scans), unfolding(crate::specs::Shapes::export, crate::specs::Names::names))]
     fn scan<V: Visit>(input: &mut Input, visitor: &mut V) -> Result<(), GetError>
-        ensures ok { OnOk result (Scans V.stands export input.old input.new visitor.old visitor.new) }
+        ensures ok { OnOk result
+            (Scans V.stands export input.old input.new visitor.old visitor.new) }
         ensures err { IfErr result (λ error. Stops export input.old error) }
     {
         scan_path("directory", input, visitor)?;
@@ -431,7 +441,8 @@ impl<'a> Scan for Exports<'a> {
 
     #[tactic(auto, unfolding(crate::specs::Shapes::exports, crate::specs::Names::names))]
     fn scan<V: Visit>(input: &mut Input, visitor: &mut V) -> Result<(), GetError>
-        ensures ok { OnOk result (Scans V.stands exports input.old input.new visitor.old visitor.new) }
+        ensures ok { OnOk result
+            (Scans V.stands exports input.old input.new visitor.old visitor.new) }
         ensures err { IfErr result (λ error. Stops exports input.old error) }
     {
         scan_linked::<Export, V>("entry", input, visitor)

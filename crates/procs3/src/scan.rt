@@ -32,7 +32,8 @@ use xdr3::{
 #[inline]
 #[tactic(auto, using(xdr3::proofs::ScanLemmas::scans), unfolding(nfs3_types::specs::Names::names))]
 fn scan_createverf<V: Visit>(input: &mut Input, visitor: &mut V) -> Result<(), GetError>
-    ensures ok { OnOk result (Scans V.stands (fixed names.createverf) input.old input.new visitor.old visitor.new) }
+    ensures ok { OnOk result
+        (Scans V.stands (fixed names.createverf) input.old input.new visitor.old visitor.new) }
     ensures err { IfErr result (λ error. Stops (fixed names.createverf) input.old error) }
 {
     scan_fixed("createverf", input, visitor)
@@ -41,7 +42,8 @@ fn scan_createverf<V: Visit>(input: &mut Input, visitor: &mut V) -> Result<(), G
 #[inline]
 #[tactic(auto, using(xdr3::proofs::ScanLemmas::scans), unfolding(nfs3_types::specs::Names::names))]
 fn scan_cookieverf<V: Visit>(input: &mut Input, visitor: &mut V) -> Result<(), GetError>
-    ensures ok { OnOk result (Scans V.stands (fixed names.cookieverf) input.old input.new visitor.old visitor.new) }
+    ensures ok { OnOk result
+        (Scans V.stands (fixed names.cookieverf) input.old input.new visitor.old visitor.new) }
     ensures err { IfErr result (λ error. Stops (fixed names.cookieverf) input.old error) }
 {
     scan_fixed("cookieverf", input, visitor)
@@ -50,7 +52,8 @@ fn scan_cookieverf<V: Visit>(input: &mut Input, visitor: &mut V) -> Result<(), G
 #[inline]
 #[tactic(auto, using(xdr3::proofs::ScanLemmas::scans), unfolding(nfs3_types::specs::Names::names))]
 fn scan_maxfilesize<V: Visit>(input: &mut Input, visitor: &mut V) -> Result<(), GetError>
-    ensures ok { OnOk result (Scans V.stands (hyper names.maxfilesize) input.old input.new visitor.old visitor.new) }
+    ensures ok { OnOk result
+        (Scans V.stands (hyper names.maxfilesize) input.old input.new visitor.old visitor.new) }
     ensures err { IfErr result (λ error. Stops (hyper names.maxfilesize) input.old error) }
 {
     scan_hyper("maxfilesize", input, visitor)
@@ -59,8 +62,11 @@ fn scan_maxfilesize<V: Visit>(input: &mut Input, visitor: &mut V) -> Result<(), 
 #[inline]
 #[tactic(auto, using(xdr3::proofs::ScanLemmas::scans), unfolding(nfs3_types::specs::Names::names))]
 fn scan_delta<V: Visit>(input: &mut Input, visitor: &mut V) -> Result<(), GetError>
-    ensures ok { OnOk result (Scans V.stands (time names.delta_sec names.delta_nsec) input.old input.new visitor.old visitor.new) }
-    ensures err { IfErr result (λ error. Stops (time names.delta_sec names.delta_nsec) input.old error) }
+    ensures ok { OnOk result
+        (Scans V.stands (time names.delta_sec names.delta_nsec) input.old input.new visitor.old
+        visitor.new) }
+    ensures err { IfErr result
+        (λ error. Stops (time names.delta_sec names.delta_nsec) input.old error) }
 {
     scan_time("delta_sec", "delta_nsec", input, visitor)
 }
@@ -68,7 +74,8 @@ fn scan_delta<V: Visit>(input: &mut Input, visitor: &mut V) -> Result<(), GetErr
 #[inline]
 #[tactic(auto, using(xdr3::proofs::ScanLemmas::scans), unfolding(nfs3_types::specs::Names::names))]
 fn scan_invarsec<V: Visit>(input: &mut Input, visitor: &mut V) -> Result<(), GetError>
-    ensures ok { OnOk result (Scans V.stands (word names.invarsec) input.old input.new visitor.old visitor.new) }
+    ensures ok { OnOk result
+        (Scans V.stands (word names.invarsec) input.old input.new visitor.old visitor.new) }
     ensures err { IfErr result (λ error. Stops (word names.invarsec) input.old error) }
 {
     scan_word("invarsec", input, visitor)?;
@@ -78,7 +85,8 @@ fn scan_invarsec<V: Visit>(input: &mut Input, visitor: &mut V) -> Result<(), Get
 #[inline]
 #[tactic(auto, using(xdr3::proofs::ScanLemmas::scans), unfolding(nfs3_types::specs::Names::names))]
 fn scan_name_max<V: Visit>(input: &mut Input, visitor: &mut V) -> Result<(), GetError>
-    ensures ok { OnOk result (Scans V.stands (word names.name_max) input.old input.new visitor.old visitor.new) }
+    ensures ok { OnOk result
+        (Scans V.stands (word names.name_max) input.old input.new visitor.old visitor.new) }
     ensures err { IfErr result (λ error. Stops (word names.name_max) input.old error) }
 {
     scan_word("name_max", input, visitor)?;
@@ -88,7 +96,8 @@ fn scan_name_max<V: Visit>(input: &mut Input, visitor: &mut V) -> Result<(), Get
 #[inline]
 #[tactic(auto, using(xdr3::proofs::ScanLemmas::scans), unfolding(nfs3_types::specs::Names::names))]
 fn scan_properties<V: Visit>(input: &mut Input, visitor: &mut V) -> Result<(), GetError>
-    ensures ok { OnOk result (Scans V.stands (word names.properties) input.old input.new visitor.old visitor.new) }
+    ensures ok { OnOk result
+        (Scans V.stands (word names.properties) input.old input.new visitor.old visitor.new) }
     ensures err { IfErr result (λ error. Stops (word names.properties) input.old error) }
 {
     scan_word("properties", input, visitor)?;
@@ -98,7 +107,9 @@ fn scan_properties<V: Visit>(input: &mut Input, visitor: &mut V) -> Result<(), G
 #[inline]
 #[tactic(auto, using(xdr3::proofs::ScanLemmas::scans), unfolding(nfs3_types::specs::Names::names))]
 fn scan_chown_restricted<V: Visit>(input: &mut Input, visitor: &mut V) -> Result<(), GetError>
-    ensures ok { OnOk result (Scans V.stands (boolean names.chown_restricted) input.old input.new visitor.old visitor.new) }
+    ensures ok { OnOk result
+        (Scans V.stands (boolean names.chown_restricted) input.old input.new visitor.old
+        visitor.new) }
     ensures err { IfErr result (λ error. Stops (boolean names.chown_restricted) input.old error) }
 {
     scan_boolean("chown_restricted", input, visitor)?;
@@ -108,7 +119,9 @@ fn scan_chown_restricted<V: Visit>(input: &mut Input, visitor: &mut V) -> Result
 #[inline]
 #[tactic(auto, using(xdr3::proofs::ScanLemmas::scans), unfolding(nfs3_types::specs::Names::names))]
 fn scan_case_insensitive<V: Visit>(input: &mut Input, visitor: &mut V) -> Result<(), GetError>
-    ensures ok { OnOk result (Scans V.stands (boolean names.case_insensitive) input.old input.new visitor.old visitor.new) }
+    ensures ok { OnOk result
+        (Scans V.stands (boolean names.case_insensitive) input.old input.new visitor.old
+        visitor.new) }
     ensures err { IfErr result (λ error. Stops (boolean names.case_insensitive) input.old error) }
 {
     scan_boolean("case_insensitive", input, visitor)?;
@@ -118,7 +131,8 @@ fn scan_case_insensitive<V: Visit>(input: &mut Input, visitor: &mut V) -> Result
 #[inline]
 #[tactic(auto, using(xdr3::proofs::ScanLemmas::scans), unfolding(nfs3_types::specs::Names::names))]
 fn scan_case_preserving<V: Visit>(input: &mut Input, visitor: &mut V) -> Result<(), GetError>
-    ensures ok { OnOk result (Scans V.stands (boolean names.case_preserving) input.old input.new visitor.old visitor.new) }
+    ensures ok { OnOk result
+        (Scans V.stands (boolean names.case_preserving) input.old input.new visitor.old visitor.new) }
     ensures err { IfErr result (λ error. Stops (boolean names.case_preserving) input.old error) }
 {
     scan_boolean("case_preserving", input, visitor)?;
@@ -128,9 +142,11 @@ fn scan_case_preserving<V: Visit>(input: &mut Input, visitor: &mut V) -> Result<
 #[inline]
 #[tactic(auto, unfolding(nfs3_types::specs::Names::names))]
 fn scan_committed<V: Visit>(input: &mut Input, visitor: &mut V) -> Result<u32, GetError>
-    ensures ok { IfOk result (λ n. ScansWord V.stands names.committed (is_listed stable_words) Reason.BadEnum n
-        input.old input.new visitor.old visitor.new) }
-    ensures err { IfErr result (λ error. StopsWord (is_listed stable_words) Reason.BadEnum input.old error) }
+    ensures ok { IfOk result
+        (λ n. ScansWord V.stands names.committed
+        (is_listed stable_words) Reason.BadEnum n input.old input.new visitor.old visitor.new) }
+    ensures err { IfErr result
+        (λ error. StopsWord (is_listed stable_words) Reason.BadEnum input.old error) }
 {
     scan_listed("committed", &[0, 1, 2], input, visitor)
 }
@@ -183,7 +199,8 @@ impl<'a> Scan for ReadLinkOk<'a> {
 
     #[tactic(auto, using(xdr3::proofs::ScanLemmas::scans), unfolding(crate::specs::Shapes::readlink_ok, nfs3_types::specs::Names::names))]
     fn scan<V: Visit>(input: &mut Input, visitor: &mut V) -> Result<(), GetError>
-        ensures ok { OnOk result (Scans V.stands readlink_ok input.old input.new visitor.old visitor.new) }
+        ensures ok { OnOk result
+            (Scans V.stands readlink_ok input.old input.new visitor.old visitor.new) }
         ensures err { IfErr result (λ error. Stops readlink_ok input.old error) }
     {
         PostOpAttr::scan(input, visitor)?;
@@ -212,7 +229,8 @@ impl<'a> Scan for ReadOk<'a> {
 
     #[tactic(auto, using(xdr3::proofs::ScanLemmas::scans), unfolding(crate::specs::Shapes::read_ok, nfs3_types::specs::Names::names))]
     fn scan<V: Visit>(input: &mut Input, visitor: &mut V) -> Result<(), GetError>
-        ensures ok { OnOk result (Scans V.stands read_ok input.old input.new visitor.old visitor.new) }
+        ensures ok { OnOk result
+            (Scans V.stands read_ok input.old input.new visitor.old visitor.new) }
         ensures err { IfErr result (λ error. Stops read_ok input.old error) }
     {
         PostOpAttr::scan(input, visitor)?;
@@ -229,7 +247,8 @@ impl<'a> Scan for WriteArgs<'a> {
 
     #[tactic(auto, using(crate::proofs::ShapeTailLemmas::wholes))]
     fn scan<V: Visit>(input: &mut Input, visitor: &mut V) -> Result<(), GetError>
-        ensures ok { OnOk result (Scans V.stands write_args input.old input.new visitor.old visitor.new) }
+        ensures ok { OnOk result
+            (Scans V.stands write_args input.old input.new visitor.old visitor.new) }
         ensures err { IfErr result (λ error. Stops write_args input.old error) }
     {
         scan_write_parts(input, visitor)
@@ -239,7 +258,8 @@ impl<'a> Scan for WriteArgs<'a> {
 #[inline]
 #[tactic(auto, using(xdr3::proofs::ScanLemmas::scans), unfolding(crate::specs::ShapeTails::write_parts, nfs3_types::specs::Names::names))]
 fn scan_write_parts<V: Visit>(input: &mut Input, visitor: &mut V) -> Result<(), GetError>
-    ensures ok { OnOk result (Scans V.stands write_parts input.old input.new visitor.old visitor.new) }
+    ensures ok { OnOk result
+        (Scans V.stands write_parts input.old input.new visitor.old visitor.new) }
     ensures err { IfErr result (λ error. Stops write_parts input.old error) }
 {
     Handle::scan(input, visitor)?;
@@ -308,7 +328,8 @@ impl<'a> Scan for CreateArgs<'a> {
 
     #[tactic(auto, using(xdr3::proofs::ScanLemmas::scans), unfolding(crate::specs::Shapes::create_args, nfs3_types::specs::Names::names))]
     fn scan<V: Visit>(input: &mut Input, visitor: &mut V) -> Result<(), GetError>
-        ensures ok { OnOk result (Scans V.stands create_args input.old input.new visitor.old visitor.new) }
+        ensures ok { OnOk result
+            (Scans V.stands create_args input.old input.new visitor.old visitor.new) }
         ensures err { IfErr result (λ error. Stops create_args input.old error) }
     {
         DirOp::scan(input, visitor)?;
@@ -323,7 +344,8 @@ impl<'a> Scan for MkDirArgs<'a> {
 
     #[tactic(auto, using(xdr3::proofs::ScanLemmas::scans), unfolding(crate::specs::Shapes::mkdir_args, nfs3_types::specs::Names::names))]
     fn scan<V: Visit>(input: &mut Input, visitor: &mut V) -> Result<(), GetError>
-        ensures ok { OnOk result (Scans V.stands mkdir_args input.old input.new visitor.old visitor.new) }
+        ensures ok { OnOk result
+            (Scans V.stands mkdir_args input.old input.new visitor.old visitor.new) }
         ensures err { IfErr result (λ error. Stops mkdir_args input.old error) }
     {
         DirOp::scan(input, visitor)?;
@@ -338,7 +360,8 @@ impl<'a> Scan for SymLinkArgs<'a> {
 
     #[tactic(auto, using(xdr3::proofs::ScanLemmas::scans), unfolding(crate::specs::Shapes::symlink_args, nfs3_types::specs::Names::names))]
     fn scan<V: Visit>(input: &mut Input, visitor: &mut V) -> Result<(), GetError>
-        ensures ok { OnOk result (Scans V.stands symlink_args input.old input.new visitor.old visitor.new) }
+        ensures ok { OnOk result
+            (Scans V.stands symlink_args input.old input.new visitor.old visitor.new) }
         ensures err { IfErr result (λ error. Stops symlink_args input.old error) }
     {
         DirOp::scan(input, visitor)?;
@@ -383,7 +406,8 @@ impl<'a> Scan for MkNodArgs<'a> {
 
     #[tactic(auto, using(xdr3::proofs::ScanLemmas::scans), unfolding(crate::specs::Shapes::mknod_args, nfs3_types::specs::Names::names))]
     fn scan<V: Visit>(input: &mut Input, visitor: &mut V) -> Result<(), GetError>
-        ensures ok { OnOk result (Scans V.stands mknod_args input.old input.new visitor.old visitor.new) }
+        ensures ok { OnOk result
+            (Scans V.stands mknod_args input.old input.new visitor.old visitor.new) }
         ensures err { IfErr result (λ error. Stops mknod_args input.old error) }
     {
         DirOp::scan(input, visitor)?;
@@ -426,7 +450,8 @@ impl<'a> Scan for RenameArgs<'a> {
 
     #[tactic(auto, using(xdr3::proofs::ScanLemmas::scans), unfolding(crate::specs::Shapes::rename_args, nfs3_types::specs::Names::names))]
     fn scan<V: Visit>(input: &mut Input, visitor: &mut V) -> Result<(), GetError>
-        ensures ok { OnOk result (Scans V.stands rename_args input.old input.new visitor.old visitor.new) }
+        ensures ok { OnOk result
+            (Scans V.stands rename_args input.old input.new visitor.old visitor.new) }
         ensures err { IfErr result (λ error. Stops rename_args input.old error) }
     {
         DirOp::scan(input, visitor)?;
@@ -453,7 +478,8 @@ impl<'a> Scan for LinkArgs<'a> {
 
     #[tactic(auto, using(xdr3::proofs::ScanLemmas::scans), unfolding(crate::specs::Shapes::link_args, nfs3_types::specs::Names::names))]
     fn scan<V: Visit>(input: &mut Input, visitor: &mut V) -> Result<(), GetError>
-        ensures ok { OnOk result (Scans V.stands link_args input.old input.new visitor.old visitor.new) }
+        ensures ok { OnOk result
+            (Scans V.stands link_args input.old input.new visitor.old visitor.new) }
         ensures err { IfErr result (λ error. Stops link_args input.old error) }
     {
         Handle::scan(input, visitor)?;
@@ -495,7 +521,8 @@ impl<'a> Scan for Entry<'a> {
 
     #[tactic(auto, using(xdr3::proofs::ScanLemmas::scans), unfolding(crate::specs::Shapes::entry, nfs3_types::specs::Names::names))]
     fn scan<V: Visit>(input: &mut Input, visitor: &mut V) -> Result<(), GetError>
-        ensures ok { OnOk result (Scans V.stands entry input.old input.new visitor.old visitor.new) }
+        ensures ok { OnOk result
+            (Scans V.stands entry input.old input.new visitor.old visitor.new) }
         ensures err { IfErr result (λ error. Stops entry input.old error) }
     {
         scan_hyper("fileid", input, visitor)?;
@@ -511,7 +538,8 @@ impl<'a> Scan for ReadDirOk<'a> {
 
     #[tactic(auto, using(xdr3::proofs::ScanLemmas::scans), unfolding(crate::specs::Shapes::readdir_ok, nfs3_types::specs::Names::names))]
     fn scan<V: Visit>(input: &mut Input, visitor: &mut V) -> Result<(), GetError>
-        ensures ok { OnOk result (Scans V.stands readdir_ok input.old input.new visitor.old visitor.new) }
+        ensures ok { OnOk result
+            (Scans V.stands readdir_ok input.old input.new visitor.old visitor.new) }
         ensures err { IfErr result (λ error. Stops readdir_ok input.old error) }
     {
         PostOpAttr::scan(input, visitor)?;
@@ -539,7 +567,8 @@ impl Scan for ReadDirPlusArgs {
 #[inline]
 #[tactic(auto, using(xdr3::proofs::ScanLemmas::scans), unfolding(crate::specs::ShapeTails::directory_counts, nfs3_types::specs::Names::names))]
 fn scan_directory_counts<V: Visit>(input: &mut Input, visitor: &mut V) -> Result<(), GetError>
-    ensures ok { OnOk result (Scans V.stands directory_counts input.old input.new visitor.old visitor.new) }
+    ensures ok { OnOk result
+        (Scans V.stands directory_counts input.old input.new visitor.old visitor.new) }
     ensures err { IfErr result (λ error. Stops directory_counts input.old error) }
 {
     scan_word("dircount", input, visitor)?;
@@ -554,7 +583,8 @@ impl<'a> Scan for EntryPlus<'a> {
 
     #[tactic(auto, using(xdr3::proofs::ScanLemmas::scans), unfolding(crate::specs::Shapes::entry_plus, nfs3_types::specs::Names::names))]
     fn scan<V: Visit>(input: &mut Input, visitor: &mut V) -> Result<(), GetError>
-        ensures ok { OnOk result (Scans V.stands entry_plus input.old input.new visitor.old visitor.new) }
+        ensures ok { OnOk result
+            (Scans V.stands entry_plus input.old input.new visitor.old visitor.new) }
         ensures err { IfErr result (λ error. Stops entry_plus input.old error) }
     {
         scan_hyper("fileid", input, visitor)?;
@@ -572,7 +602,8 @@ impl<'a> Scan for ReadDirPlusOk<'a> {
 
     #[tactic(auto, using(xdr3::proofs::ScanLemmas::scans), unfolding(crate::specs::Shapes::readdirplus_ok, nfs3_types::specs::Names::names))]
     fn scan<V: Visit>(input: &mut Input, visitor: &mut V) -> Result<(), GetError>
-        ensures ok { OnOk result (Scans V.stands readdirplus_ok input.old input.new visitor.old visitor.new) }
+        ensures ok { OnOk result
+            (Scans V.stands readdirplus_ok input.old input.new visitor.old visitor.new) }
         ensures err { IfErr result (λ error. Stops readdirplus_ok input.old error) }
     {
         PostOpAttr::scan(input, visitor)?;
@@ -599,7 +630,8 @@ impl Scan for FsStatOk {
 #[inline]
 #[tactic(auto, using(xdr3::proofs::ScanLemmas::scans), unfolding(crate::specs::ShapeTails::fsstat_parts, nfs3_types::specs::Names::names))]
 fn scan_fsstat_parts<V: Visit>(input: &mut Input, visitor: &mut V) -> Result<(), GetError>
-    ensures ok { OnOk result (Scans V.stands fsstat_parts input.old input.new visitor.old visitor.new) }
+    ensures ok { OnOk result
+        (Scans V.stands fsstat_parts input.old input.new visitor.old visitor.new) }
     ensures err { IfErr result (λ error. Stops fsstat_parts input.old error) }
 {
     PostOpAttr::scan(input, visitor)?;
@@ -609,7 +641,8 @@ fn scan_fsstat_parts<V: Visit>(input: &mut Input, visitor: &mut V) -> Result<(),
 #[inline]
 #[tactic(auto, using(xdr3::proofs::ScanLemmas::scans), unfolding(crate::specs::ShapeTails::fsstat_bytes, nfs3_types::specs::Names::names))]
 fn scan_fsstat_bytes<V: Visit>(input: &mut Input, visitor: &mut V) -> Result<(), GetError>
-    ensures ok { OnOk result (Scans V.stands fsstat_bytes input.old input.new visitor.old visitor.new) }
+    ensures ok { OnOk result
+        (Scans V.stands fsstat_bytes input.old input.new visitor.old visitor.new) }
     ensures err { IfErr result (λ error. Stops fsstat_bytes input.old error) }
 {
     scan_hyper("tbytes", input, visitor)?;
@@ -621,7 +654,8 @@ fn scan_fsstat_bytes<V: Visit>(input: &mut Input, visitor: &mut V) -> Result<(),
 #[inline]
 #[tactic(auto, using(xdr3::proofs::ScanLemmas::scans), unfolding(crate::specs::ShapeTails::fsstat_files, nfs3_types::specs::Names::names))]
 fn scan_fsstat_files<V: Visit>(input: &mut Input, visitor: &mut V) -> Result<(), GetError>
-    ensures ok { OnOk result (Scans V.stands fsstat_files input.old input.new visitor.old visitor.new) }
+    ensures ok { OnOk result
+        (Scans V.stands fsstat_files input.old input.new visitor.old visitor.new) }
     ensures err { IfErr result (λ error. Stops fsstat_files input.old error) }
 {
     scan_hyper("tfiles", input, visitor)?;
@@ -644,7 +678,8 @@ impl Scan for FsInfoOk {
 #[inline]
 #[tactic(auto, using(xdr3::proofs::ScanLemmas::scans), unfolding(crate::specs::ShapeTails::fsinfo_parts, nfs3_types::specs::Names::names))]
 fn scan_fsinfo_parts<V: Visit>(input: &mut Input, visitor: &mut V) -> Result<(), GetError>
-    ensures ok { OnOk result (Scans V.stands fsinfo_parts input.old input.new visitor.old visitor.new) }
+    ensures ok { OnOk result
+        (Scans V.stands fsinfo_parts input.old input.new visitor.old visitor.new) }
     ensures err { IfErr result (λ error. Stops fsinfo_parts input.old error) }
 {
     PostOpAttr::scan(input, visitor)?;
@@ -654,7 +689,8 @@ fn scan_fsinfo_parts<V: Visit>(input: &mut Input, visitor: &mut V) -> Result<(),
 #[inline]
 #[tactic(auto, using(xdr3::proofs::ScanLemmas::scans), unfolding(crate::specs::ShapeTails::fsinfo_reads, nfs3_types::specs::Names::names))]
 fn scan_fsinfo_reads<V: Visit>(input: &mut Input, visitor: &mut V) -> Result<(), GetError>
-    ensures ok { OnOk result (Scans V.stands fsinfo_reads input.old input.new visitor.old visitor.new) }
+    ensures ok { OnOk result
+        (Scans V.stands fsinfo_reads input.old input.new visitor.old visitor.new) }
     ensures err { IfErr result (λ error. Stops fsinfo_reads input.old error) }
 {
     scan_word("rtmax", input, visitor)?;
@@ -666,7 +702,8 @@ fn scan_fsinfo_reads<V: Visit>(input: &mut Input, visitor: &mut V) -> Result<(),
 #[inline]
 #[tactic(auto, using(xdr3::proofs::ScanLemmas::scans), unfolding(crate::specs::ShapeTails::fsinfo_writes, nfs3_types::specs::Names::names))]
 fn scan_fsinfo_writes<V: Visit>(input: &mut Input, visitor: &mut V) -> Result<(), GetError>
-    ensures ok { OnOk result (Scans V.stands fsinfo_writes input.old input.new visitor.old visitor.new) }
+    ensures ok { OnOk result
+        (Scans V.stands fsinfo_writes input.old input.new visitor.old visitor.new) }
     ensures err { IfErr result (λ error. Stops fsinfo_writes input.old error) }
 {
     scan_word("wtmax", input, visitor)?;
@@ -678,7 +715,8 @@ fn scan_fsinfo_writes<V: Visit>(input: &mut Input, visitor: &mut V) -> Result<()
 #[inline]
 #[tactic(auto, using(xdr3::proofs::ScanLemmas::scans), unfolding(crate::specs::ShapeTails::fsinfo_limits, nfs3_types::specs::Names::names))]
 fn scan_fsinfo_limits<V: Visit>(input: &mut Input, visitor: &mut V) -> Result<(), GetError>
-    ensures ok { OnOk result (Scans V.stands fsinfo_limits input.old input.new visitor.old visitor.new) }
+    ensures ok { OnOk result
+        (Scans V.stands fsinfo_limits input.old input.new visitor.old visitor.new) }
     ensures err { IfErr result (λ error. Stops fsinfo_limits input.old error) }
 {
     scan_word("dtpref", input, visitor)?;
@@ -701,7 +739,8 @@ impl Scan for PathConfOk {
 #[inline]
 #[tactic(auto, using(xdr3::proofs::ScanLemmas::scans), unfolding(crate::specs::ShapeTails::pathconf_parts, nfs3_types::specs::Names::names))]
 fn scan_pathconf_parts<V: Visit>(input: &mut Input, visitor: &mut V) -> Result<(), GetError>
-    ensures ok { OnOk result (Scans V.stands pathconf_parts input.old input.new visitor.old visitor.new) }
+    ensures ok { OnOk result
+        (Scans V.stands pathconf_parts input.old input.new visitor.old visitor.new) }
     ensures err { IfErr result (λ error. Stops pathconf_parts input.old error) }
 {
     PostOpAttr::scan(input, visitor)?;
@@ -711,7 +750,8 @@ fn scan_pathconf_parts<V: Visit>(input: &mut Input, visitor: &mut V) -> Result<(
 #[inline]
 #[tactic(auto, using(xdr3::proofs::ScanLemmas::scans), unfolding(crate::specs::ShapeTails::pathconf_limits, nfs3_types::specs::Names::names))]
 fn scan_pathconf_limits<V: Visit>(input: &mut Input, visitor: &mut V) -> Result<(), GetError>
-    ensures ok { OnOk result (Scans V.stands pathconf_limits input.old input.new visitor.old visitor.new) }
+    ensures ok { OnOk result
+        (Scans V.stands pathconf_limits input.old input.new visitor.old visitor.new) }
     ensures err { IfErr result (λ error. Stops pathconf_limits input.old error) }
 {
     scan_word("linkmax", input, visitor)?;
@@ -722,7 +762,8 @@ fn scan_pathconf_limits<V: Visit>(input: &mut Input, visitor: &mut V) -> Result<
 #[inline]
 #[tactic(auto, using(xdr3::proofs::ScanLemmas::scans), unfolding(crate::specs::ShapeTails::pathconf_names, nfs3_types::specs::Names::names))]
 fn scan_pathconf_names<V: Visit>(input: &mut Input, visitor: &mut V) -> Result<(), GetError>
-    ensures ok { OnOk result (Scans V.stands pathconf_names input.old input.new visitor.old visitor.new) }
+    ensures ok { OnOk result
+        (Scans V.stands pathconf_names input.old input.new visitor.old visitor.new) }
     ensures err { IfErr result (λ error. Stops pathconf_names input.old error) }
 {
     scan_boolean("no_trunc", input, visitor)?;
@@ -740,7 +781,8 @@ impl<'a> Scan for DirPath<'a> {
 
     #[tactic(auto, using(xdr3::proofs::ScanLemmas::scans), unfolding(crate::specs::Shapes::dirpath, nfs3_types::specs::Names::names))]
     fn scan<V: Visit>(input: &mut Input, visitor: &mut V) -> Result<(), GetError>
-        ensures ok { OnOk result (Scans V.stands dirpath input.old input.new visitor.old visitor.new) }
+        ensures ok { OnOk result
+            (Scans V.stands dirpath input.old input.new visitor.old visitor.new) }
         ensures err { IfErr result (λ error. Stops dirpath input.old error) }
     {
         scan_path("dirpath", input, visitor)

@@ -32,7 +32,8 @@ pub fn scan_arguments<V: Visit>(
     input: &mut Input,
     visitor: &mut V,
 ) -> Result<(), GetError>
-    ensures ok { OnOk result (ScansLayout V.stands (arguments_of id) input.old input.new visitor.old visitor.new) }
+    ensures ok { OnOk result
+        (ScansLayout V.stands (arguments_of id) input.old input.new visitor.old visitor.new) }
     ensures err { IfErr result (λ error. StopsLayout (arguments_of id) input.old error) }
 {
     match (id.prog, id.vers) {
@@ -149,7 +150,8 @@ pub fn scan_results<V: Visit>(
     input: &mut Input,
     visitor: &mut V,
 ) -> Result<(), GetError>
-    ensures ok { OnOk result (ScansLayout V.stands (results_of id) input.old input.new visitor.old visitor.new) }
+    ensures ok { OnOk result
+        (ScansLayout V.stands (results_of id) input.old input.new visitor.old visitor.new) }
     ensures err { IfErr result (λ error. StopsLayout (results_of id) input.old error) }
 {
     match (id.prog, id.vers) {

@@ -41,9 +41,12 @@ pub(crate) fn scan_listed_or<V: Visit>(
 #[inline]
 #[tactic(auto, unfolding(crate::specs::Names::names))]
 fn scan_cred_flavor<V: Visit>(input: &mut Input, visitor: &mut V) -> Result<u32, GetError>
-    ensures ok { IfOk result (λ n. ScansWord V.stands names.cred_flavor (is_listed shapes.credential_flavors) Reason.Flavor n
-        input.old input.new visitor.old visitor.new) }
-    ensures err { IfErr result (λ error. StopsWord (is_listed shapes.credential_flavors) Reason.Flavor input.old error) }
+    ensures ok { IfOk result
+        (λ n. ScansWord V.stands names.cred_flavor
+        (is_listed shapes.credential_flavors) Reason.Flavor n input.old input.new visitor.old
+        visitor.new) }
+    ensures err { IfErr result
+        (λ error. StopsWord (is_listed shapes.credential_flavors) Reason.Flavor input.old error) }
 {
     scan_listed_or("cred_flavor", &[0, 1], Reason::Flavor, input, visitor)
 }
@@ -63,7 +66,8 @@ fn scan_cred_body<V: Visit>(input: &mut Input, visitor: &mut V) -> Result<(), Ge
 fn scan_machinename<V: Visit>(input: &mut Input, visitor: &mut V) -> Result<(), GetError>
     ensures ok { OnOk result (Scans V.stands (opaque Text names.machinename 255) input.old input.new
         visitor.old visitor.new) }
-    ensures err { IfErr result (λ error. Stops (opaque Text names.machinename 255) input.old error) }
+    ensures err { IfErr result
+        (λ error. Stops (opaque Text names.machinename 255) input.old error) }
 {
     scan_text("machinename", 255, input, visitor)
 }
@@ -71,9 +75,12 @@ fn scan_machinename<V: Visit>(input: &mut Input, visitor: &mut V) -> Result<(), 
 #[inline]
 #[tactic(auto, unfolding(crate::specs::Names::names))]
 fn scan_verf_flavor<V: Visit>(input: &mut Input, visitor: &mut V) -> Result<u32, GetError>
-    ensures ok { IfOk result (λ n. ScansWord V.stands names.verf_flavor (is_listed shapes.verifier_flavors) Reason.Flavor n
-        input.old input.new visitor.old visitor.new) }
-    ensures err { IfErr result (λ error. StopsWord (is_listed shapes.verifier_flavors) Reason.Flavor input.old error) }
+    ensures ok { IfOk result
+        (λ n. ScansWord V.stands names.verf_flavor
+        (is_listed shapes.verifier_flavors) Reason.Flavor n input.old input.new visitor.old
+        visitor.new) }
+    ensures err { IfErr result
+        (λ error. StopsWord (is_listed shapes.verifier_flavors) Reason.Flavor input.old error) }
 {
     scan_listed_or("verf_flavor", &[0], Reason::Flavor, input, visitor)
 }
@@ -91,9 +98,12 @@ fn scan_verf_body<V: Visit>(input: &mut Input, visitor: &mut V) -> Result<(), Ge
 #[inline]
 #[tactic(auto, unfolding(crate::specs::Names::names))]
 fn scan_accept_stat<V: Visit>(input: &mut Input, visitor: &mut V) -> Result<u32, GetError>
-    ensures ok { IfOk result (λ n. ScansWord V.stands names.accept_stat (is_listed shapes.accept_stats) Reason.BadEnum n
-        input.old input.new visitor.old visitor.new) }
-    ensures err { IfErr result (λ error. StopsWord (is_listed shapes.accept_stats) Reason.BadEnum input.old error) }
+    ensures ok { IfOk result
+        (λ n. ScansWord V.stands names.accept_stat
+        (is_listed shapes.accept_stats) Reason.BadEnum n input.old input.new visitor.old
+        visitor.new) }
+    ensures err { IfErr result
+        (λ error. StopsWord (is_listed shapes.accept_stats) Reason.BadEnum input.old error) }
 {
     scan_listed("accept_stat", &[0, 1, 2, 3, 4, 5], input, visitor)
 }
@@ -101,9 +111,12 @@ fn scan_accept_stat<V: Visit>(input: &mut Input, visitor: &mut V) -> Result<u32,
 #[inline]
 #[tactic(auto, unfolding(crate::specs::Names::names))]
 fn scan_reject_stat<V: Visit>(input: &mut Input, visitor: &mut V) -> Result<u32, GetError>
-    ensures ok { IfOk result (λ n. ScansWord V.stands names.reject_stat (is_listed shapes.reject_stats) Reason.BadEnum n
-        input.old input.new visitor.old visitor.new) }
-    ensures err { IfErr result (λ error. StopsWord (is_listed shapes.reject_stats) Reason.BadEnum input.old error) }
+    ensures ok { IfOk result
+        (λ n. ScansWord V.stands names.reject_stat
+        (is_listed shapes.reject_stats) Reason.BadEnum n input.old input.new visitor.old
+        visitor.new) }
+    ensures err { IfErr result
+        (λ error. StopsWord (is_listed shapes.reject_stats) Reason.BadEnum input.old error) }
 {
     scan_listed("reject_stat", &[0, 1], input, visitor)
 }
@@ -111,9 +124,11 @@ fn scan_reject_stat<V: Visit>(input: &mut Input, visitor: &mut V) -> Result<u32,
 #[inline]
 #[tactic(auto, unfolding(crate::specs::Names::names))]
 fn scan_auth_stat<V: Visit>(input: &mut Input, visitor: &mut V) -> Result<u32, GetError>
-    ensures ok { IfOk result (λ n. ScansWord V.stands names.auth_stat (is_listed shapes.auth_stats) Reason.BadEnum n
-        input.old input.new visitor.old visitor.new) }
-    ensures err { IfErr result (λ error. StopsWord (is_listed shapes.auth_stats) Reason.BadEnum input.old error) }
+    ensures ok { IfOk result
+        (λ n. ScansWord V.stands names.auth_stat
+        (is_listed shapes.auth_stats) Reason.BadEnum n input.old input.new visitor.old visitor.new) }
+    ensures err { IfErr result
+        (λ error. StopsWord (is_listed shapes.auth_stats) Reason.BadEnum input.old error) }
 {
     let words = [0, 1, 2, 3, 4, 5, 6, 7, 8, 9, 10, 11, 12, 13, 14];
     scan_listed("auth_stat", &words, input, visitor)
@@ -122,9 +137,11 @@ fn scan_auth_stat<V: Visit>(input: &mut Input, visitor: &mut V) -> Result<u32, G
 #[inline]
 #[tactic(auto, unfolding(crate::specs::Names::names))]
 fn scan_reply_stat<V: Visit>(input: &mut Input, visitor: &mut V) -> Result<u32, GetError>
-    ensures ok { IfOk result (λ n. ScansWord V.stands names.reply_stat (is_listed shapes.reply_stats) Reason.BadEnum n
-        input.old input.new visitor.old visitor.new) }
-    ensures err { IfErr result (λ error. StopsWord (is_listed shapes.reply_stats) Reason.BadEnum input.old error) }
+    ensures ok { IfOk result
+        (λ n. ScansWord V.stands names.reply_stat
+        (is_listed shapes.reply_stats) Reason.BadEnum n input.old input.new visitor.old visitor.new) }
+    ensures err { IfErr result
+        (λ error. StopsWord (is_listed shapes.reply_stats) Reason.BadEnum input.old error) }
 {
     scan_listed("reply_stat", &[0, 1], input, visitor)
 }
@@ -152,7 +169,8 @@ impl Scan for Group {
 #[inline]
 #[tactic(auto, unfolding(crate::specs::Shapes::gids, crate::specs::Names::names))]
 fn scan_gids<V: Visit>(input: &mut Input, visitor: &mut V) -> Result<(), GetError>
-    ensures ok { OnOk result (Scans V.stands shapes.gids input.old input.new visitor.old visitor.new) }
+    ensures ok { OnOk result
+        (Scans V.stands shapes.gids input.old input.new visitor.old visitor.new) }
     ensures err { IfErr result (λ error. Stops shapes.gids input.old error) }
 {
     scan_counted::<Group, V>("gids", 16, input, visitor)
@@ -165,7 +183,8 @@ impl<'a> Scan for Parameters<'a> {
 
     #[tactic(auto, using(xdr3::proofs::ScanLemmas::scans), unfolding(crate::specs::Shapes::parameters, crate::specs::Names::names))]
     fn scan<V: Visit>(input: &mut Input, visitor: &mut V) -> Result<(), GetError>
-        ensures ok { OnOk result (Scans V.stands parameters input.old input.new visitor.old visitor.new) }
+        ensures ok { OnOk result
+            (Scans V.stands parameters input.old input.new visitor.old visitor.new) }
         ensures err { IfErr result (λ error. Stops parameters input.old error) }
     {
         scan_word("stamp", input, visitor)?;
@@ -183,7 +202,8 @@ impl<'a> Scan for AuthSys<'a> {
 
     #[tactic(auto, unfolding(crate::specs::Shapes::auth_sys, crate::specs::Names::names))]
     fn scan<V: Visit>(input: &mut Input, visitor: &mut V) -> Result<(), GetError>
-        ensures ok { OnOk result (Scans V.stands auth_sys input.old input.new visitor.old visitor.new) }
+        ensures ok { OnOk result
+            (Scans V.stands auth_sys input.old input.new visitor.old visitor.new) }
         ensures err { IfErr result (λ error. Stops auth_sys input.old error) }
     {
         scan_sized::<Parameters, V>("cred_length", input, visitor)
@@ -197,7 +217,8 @@ impl<'a> Scan for Cred<'a> {
 
     #[tactic(auto, using(xdr3::proofs::ScanLemmas::scans), unfolding(crate::specs::Shapes::credential, crate::specs::Names::names))]
     fn scan<V: Visit>(input: &mut Input, visitor: &mut V) -> Result<(), GetError>
-        ensures ok { OnOk result (Scans V.stands credential input.old input.new visitor.old visitor.new) }
+        ensures ok { OnOk result
+            (Scans V.stands credential input.old input.new visitor.old visitor.new) }
         ensures err { IfErr result (λ error. Stops credential input.old error) }
     {
         if scan_cred_flavor(input, visitor)? == 0 {
@@ -215,7 +236,8 @@ impl<'a> Scan for Verf<'a> {
 
     #[tactic(auto, using(xdr3::proofs::ScanLemmas::scans), unfolding(crate::specs::Shapes::verifier))]
     fn scan<V: Visit>(input: &mut Input, visitor: &mut V) -> Result<(), GetError>
-        ensures ok { OnOk result (Scans V.stands verifier input.old input.new visitor.old visitor.new) }
+        ensures ok { OnOk result
+            (Scans V.stands verifier input.old input.new visitor.old visitor.new) }
         ensures err { IfErr result (λ error. Stops verifier input.old error) }
     {
         scan_verf_flavor(input, visitor)?;
@@ -250,7 +272,8 @@ impl Scan for Deny {
 /// `Stop` with the place and the reason of the first fault, and `Memory` where the visitor ran out of it.
 #[tactic(auto, using(xdr3::proofs::ScanLemmas::scans, crate::proofs::HeadScanLemmas::tails), unfolding(crate::specs::Shapes::call_head, crate::specs::Names::names))]
 pub fn scan_call_head<V: Visit>(input: &mut Input, visitor: &mut V) -> Result<ProcId, GetError>
-    ensures ok { IfOk result (λ id. ScansCallHead V.stands id input.old input.new visitor.old visitor.new) }
+    ensures ok { IfOk result
+        (λ id. ScansCallHead V.stands id input.old input.new visitor.old visitor.new) }
     ensures err { IfErr result (λ error. Stops shapes.call_head input.old error) }
 {
     scan_listed_or("rpcvers", &[2], Reason::RpcVersion, input, visitor)?;
@@ -268,7 +291,8 @@ pub fn scan_call_head<V: Visit>(input: &mut Input, visitor: &mut V) -> Result<Pr
 #[inline]
 #[tactic(auto, using(xdr3::proofs::ScanLemmas::scans), unfolding(crate::specs::HeadScan::credentials))]
 fn scan_credentials<V: Visit>(input: &mut Input, visitor: &mut V) -> Result<(), GetError>
-    ensures ok { OnOk result (Scans V.stands credentials input.old input.new visitor.old visitor.new) }
+    ensures ok { OnOk result
+        (Scans V.stands credentials input.old input.new visitor.old visitor.new) }
     ensures err { IfErr result (λ error. Stops credentials input.old error) }
 {
     Cred::scan(input, visitor)?;
@@ -301,7 +325,8 @@ pub fn scan_reply_head<V: Visit>(input: &mut Input, visitor: &mut V) -> Result<b
 /// What became of an accepted call, and its accept_stat (RFC 5531, section 9).
 #[tactic(auto, using(xdr3::proofs::ScanLemmas::scans), unfolding(crate::specs::Shapes::accept, crate::specs::Names::names))]
 fn scan_accept<V: Visit>(input: &mut Input, visitor: &mut V) -> Result<u32, GetError>
-    ensures ok { IfOk result (λ stat. ScansAccept V.stands stat input.old input.new visitor.old visitor.new) }
+    ensures ok { IfOk result
+        (λ stat. ScansAccept V.stands stat input.old input.new visitor.old visitor.new) }
     ensures err { IfErr result (λ error. Stops shapes.accept input.old error) }
 {
     let stat = scan_accept_stat(input, visitor)?;

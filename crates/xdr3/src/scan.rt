@@ -24,7 +24,8 @@ pub trait Scan {
     /// `Stop` with the place and the reason of the shape's first fault, and `Memory` where the visitor
     /// ran out of it.
     fn scan<V: Visit>(input: &mut Input, visitor: &mut V) -> Result<(), GetError>
-        ensures ok { OnOk result (Scans V.stands shape input.old input.new visitor.old visitor.new) }
+        ensures ok { OnOk result
+            (Scans V.stands shape input.old input.new visitor.old visitor.new) }
         ensures err { IfErr result (λ error. Stops shape input.old error) };
 }
 
@@ -54,9 +55,11 @@ pub fn scan_listed<V: Visit>(
     input: &mut Input,
     visitor: &mut V,
 ) -> Result<u32, GetError>
-    ensures ok { IfOk result (λ n. ScansWord V.stands name.now (is_listed words.now) Reason.BadEnum n
-        input.old input.new visitor.old visitor.new) }
-    ensures err { IfErr result (λ error. StopsWord (is_listed words.now) Reason.BadEnum input.old error) }
+    ensures ok { IfOk result
+        (λ n. ScansWord V.stands name.now
+        (is_listed words.now) Reason.BadEnum n input.old input.new visitor.old visitor.new) }
+    ensures err { IfErr result
+        (λ error. StopsWord (is_listed words.now) Reason.BadEnum input.old error) }
 {
     let n = input.listed(words)?;
     visitor.word(name, n)?;
@@ -71,8 +74,9 @@ pub fn scan_boolean<V: Visit>(
     input: &mut Input,
     visitor: &mut V,
 ) -> Result<bool, GetError>
-    ensures ok { IfOk result (λ is. ScansWord V.stands name.now is_bool Reason.BadBool (from_bool is)
-        input.old input.new visitor.old visitor.new) }
+    ensures ok { IfOk result
+        (λ is. ScansWord V.stands name.now is_bool Reason.BadBool
+        (from_bool is) input.old input.new visitor.old visitor.new) }
     ensures err { IfErr result (λ error. StopsWord is_bool Reason.BadBool input.old error) }
     ensures further { OnOk result (input.old.at < input.new.at) }
 {
@@ -92,7 +96,8 @@ fn scan_at_most<V: Visit>(
 ) -> Result<u32, GetError>
     ensures ok { IfOk result (λ n. ScansWord V.stands name.now (is_at_most max) Reason.TooLong n
         input.old input.new visitor.old visitor.new) }
-    ensures err { IfErr result (λ error. StopsWord (is_at_most max) Reason.TooLong input.old error) }
+    ensures err { IfErr result
+        (λ error. StopsWord (is_at_most max) Reason.TooLong input.old error) }
 {
     let n = input.at_most(max)?;
     visitor.word(name, n)?;
@@ -107,7 +112,8 @@ pub fn scan_hyper<V: Visit>(
     input: &mut Input,
     visitor: &mut V,
 ) -> Result<(), GetError>
-    ensures ok { OnOk result (Scans V.stands (hyper name.now) input.old input.new visitor.old visitor.new) }
+    ensures ok { OnOk result
+        (Scans V.stands (hyper name.now) input.old input.new visitor.old visitor.new) }
     ensures err { IfErr result (λ error. Stops (hyper name.now) input.old error) }
 {
     let n = input.hyper()?;
@@ -123,7 +129,8 @@ pub fn scan_fixed<V: Visit>(
     input: &mut Input,
     visitor: &mut V,
 ) -> Result<(), GetError>
-    ensures ok { OnOk result (Scans V.stands (fixed name.now) input.old input.new visitor.old visitor.new) }
+    ensures ok { OnOk result
+        (Scans V.stands (fixed name.now) input.old input.new visitor.old visitor.new) }
     ensures err { IfErr result (λ error. Stops (fixed name.now) input.old error) }
 {
     let bytes = input.fixed8()?;
@@ -139,7 +146,8 @@ pub fn scan_write_verf<V: Visit>(
     input: &mut Input,
     visitor: &mut V,
 ) -> Result<(), GetError>
-    ensures ok { OnOk result (Scans V.stands (write_verf name.now) input.old input.new visitor.old visitor.new) }
+    ensures ok { OnOk result
+        (Scans V.stands (write_verf name.now) input.old input.new visitor.old visitor.new) }
     ensures err { IfErr result (λ error. Stops (write_verf name.now) input.old error) }
 {
     let bytes = input.fixed8()?;
