@@ -1,21 +1,20 @@
 -- Scans of heads by those of their parts.
-use Rattle.std.proofs.Common.{◌≡◌, ℕ, Bool, true, false, ◌&&◌, ◌==◌, nat_eq, List, [], ◌∷◌, ◌++◌, Ok, Err, refl, sym, ap, subst, ◌∙◌, cond, eq-eqb}
+use Rattle.std.proofs.Common.{◌≡◌, ℕ, false, ◌==◌, List, [], ◌∷◌, ◌++◌, Ok, Err, refl, subst, ◌∙◌, eq-eqb}
 use Rattle.std.proofs.lemmas.Bool.{ne_eqb}
 use Rattle.xdr3.specs.declared.reason.GetError.{GetError}
 use Rattle.xdr3.specs.declared.reason.Reason.TheVariants.{BadEnum, Flavor, RpcVersion}
 use Rattle.xdr3.specs.Item.{Item, Word, Opaque, Var}
-use Rattle.xdr3.specs.Reading.{reading, word_at, opaque_at, ◌>>=◌}
+use Rattle.xdr3.specs.Reading.{reading, word_at, opaque_at}
 use Rattle.xdr3.specs.Scan.{Scans, ScansWord, Stops}
-use Rattle.xdr3.specs.Shape.{is_any, is_listed, nothing, opaque}
-use Rattle.xdr3.specs.View.{MovesOn, View}
-use Rattle.xdr3.specs.Visit.{Adds}
+use Rattle.xdr3.specs.Shape.{is_any, is_listed, opaque}
+use Rattle.xdr3.specs.View.{View}
 use Rattle.xdr3.proofs.Bytes.{bind_ok, pair_is}
 use Rattle.xdr3.proofs.ScanLemmas.{moves_both}
 use Rattle.xdr3.proofs.Walks.{adds_joined}
 use Rattle.rpc_head.specs.HeadScan.{ScansAccept, ScansCallHead, ScansReplyHead, credentials}
 use Rattle.rpc_head.specs.Messages.{word_in}
 use Rattle.rpc_head.specs.Names.{names}
-use Rattle.rpc_head.specs.Shapes.{◌then◌, accept, accept_stats, call_head, credential, deny, reply_head, reply_stats, rpc_versions, verifier, verifier_flavors, versions}
+use Rattle.rpc_head.specs.Shapes.{◌then◌, accept, accept_stats, call_head, credential, deny, reply_head, reply_stats, rpc_versions, verifier, verifier_flavors}
 
 pub credentials_scanned : {V : Type 0} (stands : V → List Item → Type 0) (v0 v1 : View) (s0 s1 : V) → Scans stands credentials v0 v1 s0 s1 → Scans stands (credential then verifier) v0 v1 s0 s1
 unfolding credentials

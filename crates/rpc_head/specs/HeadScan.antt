@@ -7,7 +7,6 @@ use Rattle.xdr3.specs.View.{MovesOn, View}
 use Rattle.xdr3.specs.Visit.{Adds}
 use Rattle.rpc_head.specs.declared.call.ProcId.{ProcId}
 use Rattle.rpc_head.specs.Messages.{word_in}
-use Rattle.rpc_head.specs.Names.{names}
 use Rattle.rpc_head.specs.Shapes.{◌then◌, accept, call_head, credential, reply_head, verifier}
 
 -- the items of a call's head begin with rpcvers, prog, vers and proc (RFC 5531, section 9)

@@ -10,5 +10,5 @@ pub returns-clause-ok : goal.returns-clause-ok
 unfolding names
 returns-clause-ok g c =
     accept_versions g.V.Visit.stands c.in_ok-stat.stat c.in_ok-scan_word.field-0 c.in_ok-scan_word-2.field-0
-        c.args.input.now c.scan_accept_stat.new.input c.scan_word.new.input c.scan_word-2.new.input c.args.visitor.now c.scan_accept_stat.new.visitor c.scan_word.new.visitor c.scan_word-2.new.visitor
-        c.in_ok-stat.ensures.ok c.if-stat-ne2.false c.in_ok-scan_word.ensures.ok c.in_ok-scan_word-2.ensures.ok
+    c.args.input.now c.scan_accept_stat.new.input c.scan_word.new.input c.scan_word-2.new.input c.args.visitor.now c.scan_accept_stat.new.visitor c.scan_word.new.visitor c.scan_word-2.new.visitor
+    c.in_ok-stat.ensures.ok c.if-stat-ne2.false c.in_ok-scan_word.ensures.ok c.in_ok-scan_word-2.ensures.ok
