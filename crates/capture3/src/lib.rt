@@ -11,6 +11,7 @@ mod hashers;
 mod judging;
 pub mod laws;
 mod message;
+mod message_scan;
 mod packing;
 mod plan;
 mod position;
