@@ -15,6 +15,7 @@ mod message_scan;
 mod packing;
 mod plan;
 mod position;
+mod silent;
 mod source;
 #[cfg(test)]
 mod tests;
