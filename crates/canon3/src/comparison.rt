@@ -63,7 +63,7 @@ pub fn same<A: Source, B: Source, S: BuildHasher + Drop>(
         ),
         progress: Progress::new(),
     };
-    let result = compared(alloc, comparison, &mut entries, &mut others);
+    let result = compared(comparison, &mut entries, &mut others);
     entries.into_source();
     others.into_source();
     result
@@ -82,7 +82,6 @@ fn wanting(which: Which) -> SameError
 
 /// What two new readers hand out.
 fn compared<A: Source, B: Source, S: BuildHasher + Drop>(
-    alloc: Global,
     mut comparison: Comparison<S>,
     first: &mut Entries<'_, A, S>,
     second: &mut Entries<'_, B, S>,
@@ -103,7 +102,7 @@ fn compared<A: Source, B: Source, S: BuildHasher + Drop>(
     ensures same_first { first.new.source.ghost_name ≡ first.old.source.ghost_name }
     ensures same_second { second.new.source.ghost_name ≡ second.old.source.ghost_name }
 {
-    match comparison.find(alloc, first, second) {
+    match comparison.find(first, second) {
         Ok(finding) => conclude(finding, first, second),
         Err(error) => Err(error),
     }
@@ -222,7 +221,6 @@ impl<S: BuildHasher + Drop> Comparison<S> {
     /// Takes one entry of each in turn, up to where they end, they part, or the second is refused.
     fn find<A: Source, B: Source>(
         &mut self,
-        alloc: Global,
         first: &mut Entries<'_, A, S>,
         second: &mut Entries<'_, B, S>,
     ) -> Result<Finding, SameError>
@@ -243,7 +241,7 @@ impl<S: BuildHasher + Drop> Comparison<S> {
         ensures same_second { second.new.source.ghost_name ≡ second.old.source.ghost_name }
     {
         loop {
-            match self.step(alloc, first, second) {
+            match self.step(first, second) {
                 Ok(None) => {}
                 Ok(Some(finding)) => return Ok(finding),
                 Err(error) => return Err(error),
@@ -254,7 +252,6 @@ impl<S: BuildHasher + Drop> Comparison<S> {
     /// Takes one entry of each. None stands for a pair that is alike.
     fn step<A: Source, B: Source>(
         &mut self,
-        alloc: Global,
         first: &mut Entries<'_, A, S>,
         second: &mut Entries<'_, B, S>,
     ) -> Result<Option<Finding>, SameError>
@@ -279,7 +276,7 @@ impl<S: BuildHasher + Drop> Comparison<S> {
         ensures same_second { second.new.source.ghost_name ≡ second.old.source.ghost_name }
     {
         match first.next() {
-            Ok(Some(entry)) => self.meet(alloc, &entry, second),
+            Ok(Some(entry)) => self.meet(&entry, second),
             Ok(None) => Ok(Some(Finding::Ended)),
             Err(error) => Err(SameError {
                 which: Which::First,
@@ -291,7 +288,6 @@ impl<S: BuildHasher + Drop> Comparison<S> {
     /// Takes the second's entry beside the first's.
     fn meet<B: Source>(
         &mut self,
-        alloc: Global,
         entry: &Entry,
         second: &mut Entries<'_, B, S>,
     ) -> Result<Option<Finding>, SameError>
@@ -310,7 +306,7 @@ impl<S: BuildHasher + Drop> Comparison<S> {
         ensures same_reference { second.new.source.ghost_name ≡ second.old.source.ghost_name }
     {
         match second.next() {
-            Ok(Some(other)) => match self.compare(alloc, entry, &other) {
+            Ok(Some(other)) => match self.compare(entry, &other) {
                 Ok(None) => Ok(None),
                 Ok(Some(place)) => Ok(Some(Finding::Parted(place))),
                 Err(error) => Err(error),
@@ -321,12 +317,7 @@ impl<S: BuildHasher + Drop> Comparison<S> {
     }
 
     /// Numbers an entry of each, and compares what they are written as. None stands for a pair that is alike.
-    fn compare(
-        &mut self,
-        alloc: Global,
-        entry: &Entry,
-        other: &Entry,
-    ) -> Result<Option<Place>, SameError>
+    fn compare(&mut self, entry: &Entry, other: &Entry) -> Result<Option<Place>, SameError>
         requires room { steps_of self.old.progress + 1 < 2 ^ 32 }
         ensures compares { (a b : List spec.Entry) (e f : spec.Entry) → IsKept entry.now e → IsKept other.now f
             → AreFirst (a ++ e ∷ []) → AreFirst (b ++ f ∷ []) → length (a ++ e ∷ []) < 2 ^ 32
@@ -335,11 +326,11 @@ impl<S: BuildHasher + Drop> Comparison<S> {
         ensures few { steps_of self.new.progress ≤ steps_of self.old.progress + 1 }
         ensures memory { IfErr result (λ error. error.error ≡ Error.Memory) }
     {
-        let form = match number_entry(alloc, &mut self.first, entry) {
+        let form = match number_entry(&mut self.first, entry) {
             Ok(form) => form,
             Err(_) => return Err(wanting(Which::First)),
         };
-        let other_form = match number_entry(alloc, &mut self.second, other) {
+        let other_form = match number_entry(&mut self.second, other) {
             Ok(form) => form,
             Err(_) => return Err(wanting(Which::Second)),
         };

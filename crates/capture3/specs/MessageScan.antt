@@ -35,3 +35,11 @@ pub record ScansReply {V : Type 0} (stands : V → List Item → Type 0) (table 
 -- the failure is that of judging the body, unless memory ran out
 abbrev pub StopsMessage : {X : Type 0} → GetError → Result X Stop → Type 0
 StopsMessage error judged = (stop : Stop) → error ≡ errors.Stop stop → judged ≡ Err stop
+
+-- a visitor was told the items of the call that the body spells
+abbrev pub TellsCall : {V : Type 0} → (V → List Item → Type 0) → List ℕ → V → V → Type 0
+TellsCall stands body old new = (items : List Item) × IsCall body items × Adds stands old new items
+
+-- a visitor was told the items of the reply that the body spells, with the results of this procedure
+abbrev pub TellsReply : {V : Type 0} → (V → List Item → Type 0) → List ℕ → ProcId → V → V → Type 0
+TellsReply stands body id old new = (items : List Item) × IsReply body (record { id = id; items = items }) × Adds stands old new items
