@@ -4,19 +4,12 @@ use Rattle.std.specs.Prelude.{bytes_eq, if◌then◌else◌, ◌||◌, OnOk}
 use Rattle.std.specs.List.{list_any}
 use Rattle.std.proofs.lemmas.List.{length-map, map-append}
 use Rattle.std.proofs.lemmas.Grind.{flat_map-append}
-use Rattle.xdr3.specs.declared.reason.Stop.{Stop}
 use Rattle.xdr3.specs.Item.{Item, Opaque, Handle, Spells}
 use Rattle.xdr3.specs.Visit.{AreWithinLimit}
 use Rattle.xdr3.proofs.Items.{length_of_spelling}
 use Rattle.record_mark.specs.RecordMark.{max_body}
-use Rattle.rpc_head.specs.declared.call.ProcId.{ProcId}
-use Rattle.rpc_head.specs.Messages.{call_layout, reply_layout}
-use Rattle.procs3.specs.Table.{arguments_of, results_of}
 use Rattle.nfs3_types.specs.declared.handle.Handle as handles
 use Rattle.nfs3_types.specs.Handle.{bytes_of}
-use Rattle.capture3.specs.Bodies.{IsCall, IsReply}
-use Rattle.capture3.specs.Judging.{read_whole}
-use Rattle.capture3.proofs.Layouts.{whole_read}
 use Rattle.capture3.specs.Entry.{Entry}
 use Rattle.canon3.specs.Gathering.{Gathers, same_handle}
 use Rattle.canon3.specs.Rank.{before, distinct, rank, with_key, with_keys, StandsFor}
@@ -95,14 +88,3 @@ still_ok (Err e) f p = p
 pub within_limit : (items : List Item) (body : List ℕ) → Spells items body → length body ≤ max_body → AreWithinLimit items
 unfolding AreWithinLimit
 within_limit items body p few = omega (arith, length_of_spelling items body p, few)
-
-read_one : (r : Result (List Item) Stop) (a b : List Item) → r ≡ Ok a → r ≡ Ok b → a ≡ b
-read_one r a b p q = cc
-
--- a body spells one call
-pub one_call : (body : List ℕ) (a b : List Item) → IsCall body a → IsCall body b → a ≡ b
-one_call body a b p q = read_one (read_whole (call_layout arguments_of) body) a b (whole_read (call_layout arguments_of) body a p.0 p.1) (whole_read (call_layout arguments_of) body b q.0 q.1)
-
--- and one reply of each procedure
-pub one_reply : (id : ProcId) (body : List ℕ) (a b : List Item) → IsReply body (record { id = id; items = a }) → IsReply body (record { id = id; items = b }) → a ≡ b
-one_reply id body a b p q = read_one (read_whole (reply_layout (results_of id)) body) a b (whole_read (reply_layout (results_of id)) body a p.0 p.1) (whole_read (reply_layout (results_of id)) body b q.0 q.1)

@@ -9,7 +9,7 @@ use Rattle.canon3.specs.declared.numbered.Numbering.{Numbering}
 use Rattle.canon3.specs.declared.numbered.Stage.TheVariants.{Failed}
 use Rattle.canon3.specs.Following.{items_after}
 use Rattle.canon3.specs.Gathering.{HoldsHandles}
-use Rattle.canon3.specs.Numbered.{Before, Holds, HasWritten, IsBefore, IsOpened, IsUnderWay, behind, Stands}
+use Rattle.canon3.specs.Numbered.{Before, Holds, HasWritten, IsBefore, IsOpened, IsUnderWay, Opens, behind, Stands}
 use Rattle.canon3.specs.Pairing.{Member, here, there}
 use Rattle.canon3.specs.Rank.{distinct, number_limit, rank, StandsFor}
 use Rattle.canon3.specs.Values.{handles_in, verifiers_in, xid_of}
@@ -18,22 +18,26 @@ use Rattle.canon3.proofs.Visiting.{behind-append, behind-same}
 
 -- ---- from its opening to its end
 
-module _ {S H : Type 0} (old opened walked : Numbering S H) where
-  pub is_written : (table : List ℕ) (number xid : ℕ) (items : List Item) (hs vs : List (List ℕ)) (xs : List ℕ) → Holds old hs vs xs
-      → number ≡ min (rank nat_eq xid (xs ++ xid ∷ [])) number_limit → StandsFor nat_eq table (xs ++ xid ∷ [])
-      → ((before : Before) → IsBefore {S = S} {H = H} before (record { handles = old.handles; verfs = old.verfs; xids = table; writer = old.writer; stage = old.stage }) number → IsUnderWay opened before [])
-      → Adds Stands opened walked items → walked.stage ≢ Failed
-      → (before : Before) × IsOpened before hs vs (xs ++ xid ∷ []) xid × IsUnderWay walked before items
+pub is_opened : {S H : Type 0} (old opened : Numbering S H) (table : List ℕ) (number xid : ℕ) (hs vs : List (List ℕ)) (xs : List ℕ) → Holds old hs vs xs
+    → number ≡ min (rank nat_eq xid (xs ++ xid ∷ [])) number_limit → StandsFor nat_eq table (xs ++ xid ∷ [])
+    → ((before : Before) → IsBefore {S = S} {H = H} before (record { handles = old.handles; verfs = old.verfs; xids = table; writer = old.writer; stage = old.stage }) number → IsUnderWay opened before [])
+    → Opens opened hs vs (xs ++ xid ∷ []) xid []
+is_opened old opened table number xid hs vs xs holds number_is stands opens = (
+  record { number = number; xids = table; handles = hs; verifiers = vs },
+  record { number_is = number_is; xids = stands; handles_are = refl; verifiers_are = refl },
+  opens (record { number = number; xids = table; handles = hs; verifiers = vs }) (record { number_is = refl; xids = refl; handles = holds.handles; verifiers = holds.verifiers }),
+)
+
+module _ {S H : Type 0} (opened walked : Numbering S H) where
+  pub is_written : (xid : ℕ) (items : List Item) (hs vs : List (List ℕ)) (xs : List ℕ) → Opens opened hs vs xs xid [] → Adds Stands opened walked items → walked.stage ≢ Failed → Opens walked hs vs xs xid items
   unfolding Adds
-  is_written table number xid items hs vs xs holds number_is stands opens adds going =
-      let before : Before = record { number = number; xids = table; handles = hs; verifiers = vs } in
-      let start : IsUnderWay opened before [] = opens before (record { number_is = refl; xids = refl; handles = holds.handles; verifiers = holds.verifiers }) in
+  is_written xid items hs vs xs (before, o, start) adds going =
       let end = adds (behind before []) (λ still. inl (record { before = before; items = []; are = refl; under_way = start })) going in
       ⊎_elim
       (λ b.
       let same = behind-same before b.before items b.items (behind-append before [] items ∙ b.are) in (
         before,
-        record { number_is = number_is; xids = stands; handles_are = refl; verifiers_are = refl },
+        o,
         subst (λ k. IsUnderWay walked k items) (sym same.0) (subst (IsUnderWay walked b.before) (sym same.1) b.under_way),
       ))
       (λ l. let are : behind before [] ++ items ≡ Hyper [] 0 ∷ l.items = l.are in absurd cc)
@@ -70,11 +74,11 @@ module _ {S H : Type 0} (n : Numbering S H) (name : List ℕ) (xid : ℕ) (rest 
       ∙ ap (λ (l : List (List ℕ)). zero_spelling (Word name (rank nat_eq xid xs) ∷ items_after l before.verifiers rest)) hs_are
       ∙ ap (λ (l : List (List ℕ)). zero_spelling (Word name (rank nat_eq xid xs) ∷ items_after hs l rest)) vs_are
 
-  pub call_holds : (items : List Item) (xs : List ℕ) → items ≡ Word name xid ∷ rest → (before : Before) × IsOpened before hs vs (xs ++ xid ∷ []) xid × IsUnderWay n before items
+  pub call_holds : (items : List Item) (xs : List ℕ) → items ≡ Word name xid ∷ rest → Opens n hs vs (xs ++ xid ∷ []) xid items
       → Holds n (hs ++ handles_in items) (vs ++ verifiers_in items) (xs ++ xid_of items)
   call_holds items xs is (before, o, u) = subst (λ (l : List ℕ). Holds n (hs ++ handles_in items) (vs ++ verifiers_in items) (xs ++ l)) (sym (ap xid_of is)) (holds_after items (xs ++ xid ∷ []) before o u)
 
-  pub call_written : (items : List Item) (xs : List ℕ) → items ≡ Word name xid ∷ rest → (before : Before) × IsOpened before hs vs (xs ++ xid ∷ []) xid × IsUnderWay n before items
+  pub call_written : (items : List Item) (xs : List ℕ) → items ≡ Word name xid ∷ rest → Opens n hs vs (xs ++ xid ∷ []) xid items
       → HasWritten n hs vs (xs ++ xid_of items) items
   call_written items xs is (before, o, u) =
       let last : Member xid (xs ++ xid ∷ []) = member-append_right xs here in
@@ -99,13 +103,13 @@ module _ {S H : Type 0} (n : Numbering S H) (name : List ℕ) (xid : ℕ) (rest 
       let laws = equivalence nat_eq Decides-eqb in
       distinct-push nat_eq laws xid xs ∙ rw (any-distinct nat_eq laws xid xs [] (any_member m)) refl
 
-  pub reply_holds : (items : List Item) (xs : List ℕ) → Member xid xs → (before : Before) × IsOpened before hs vs (xs ++ xid ∷ []) xid × IsUnderWay n before items
+  pub reply_holds : (items : List Item) (xs : List ℕ) → Member xid xs → Opens n hs vs (xs ++ xid ∷ []) xid items
       → Holds n (hs ++ handles_in items) (vs ++ verifiers_in items) xs
   reply_holds items xs m (before, o, u) =
       let h = holds_after items (xs ++ xid ∷ []) before o u in
       record { handles = h.handles; verifiers = h.verifiers; xids = h.xids ∙ distinct_again xs m }
 
-  pub reply_written : (items : List Item) (xs : List ℕ) → items ≡ Word name xid ∷ rest → Member xid xs → (before : Before) × IsOpened before hs vs (xs ++ xid ∷ []) xid × IsUnderWay n before items
+  pub reply_written : (items : List Item) (xs : List ℕ) → items ≡ Word name xid ∷ rest → Member xid xs → Opens n hs vs (xs ++ xid ∷ []) xid items
       → HasWritten n hs vs xs items
   reply_written items xs is m (before, o, u) =
       subst (λ (l : List Item). HasWritten n hs vs xs l) (sym is)

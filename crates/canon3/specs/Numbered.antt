@@ -60,6 +60,10 @@ pub record IsUnderWay {S H : Type 0} (n : Numbering S H) (before : Before) (item
   pub xids : n.xids ≡ before.xids
   pub spelled : IsSpelled n.stage n.writer before items
 
+-- a message with this xid was opened, and these of its items were written
+abbrev pub Opens : {S H : Type 0} → Numbering S H → (hs vs : List (List ℕ)) (xs : List ℕ) (xid : ℕ) → List Item → Type 0
+Opens n hs vs xs xid items = (before : Before) × IsOpened before hs vs xs xid × IsUnderWay n before items
+
 -- A visitor stands for lists of items alone. So items in front of the message's own tell what was there before it.
 abbrev pub listed : List (List ℕ) → List Item → List Item
 listed [] items = Word [] 0 ∷ items

@@ -32,10 +32,12 @@ pub fn same<A: Source, B: Source, S: BuildHasher + Drop>(
     first: &mut A,
     second: &mut B,
 ) -> Result<Verdict, SameError>
-    ensures decides { (file other : List ℕ) → A.left first.old ≡ Some file → B.left second.old ≡ Some other
-        → Decides file other result }
-    ensures read_first { CountsReadingOf Which.First (A.failures first.old) (A.failures first.new) result }
-    ensures read_second { CountsReadingOf Which.Second (B.failures second.old) (B.failures second.new) result }
+    ensures decides { (file other : List ℕ) → A.left first.old ≡ Some file
+        → B.left second.old ≡ Some other → Decides file other result }
+    ensures read_first { CountsReadingOf Which.First (A.failures first.old)
+        (A.failures first.new) result }
+    ensures read_second { CountsReadingOf Which.Second (B.failures second.old)
+        (B.failures second.new) result }
     ensures write { IfErr result (λ error. error.error ≢ Error.Write) }
 {
     let block = match new_block(alloc) {
@@ -63,7 +65,7 @@ pub fn same<A: Source, B: Source, S: BuildHasher + Drop>(
         ),
         progress: Progress::new(),
     };
-    let result = compared(alloc, comparison, &mut entries, &mut others);
+    let result = compared(comparison, &mut entries, &mut others);
     entries.into_source();
     others.into_source();
     result
@@ -82,7 +84,6 @@ fn wanting(which: Which) -> SameError
 
 /// What two new readers hand out.
 fn compared<A: Source, B: Source, S: BuildHasher + Drop>(
-    alloc: Global,
     mut comparison: Comparison<S>,
     first: &mut Entries<'_, A, S>,
     second: &mut Entries<'_, B, S>,
@@ -103,7 +104,7 @@ fn compared<A: Source, B: Source, S: BuildHasher + Drop>(
     ensures same_first { first.new.source.ghost_name ≡ first.old.source.ghost_name }
     ensures same_second { second.new.source.ghost_name ≡ second.old.source.ghost_name }
 {
-    match comparison.find(alloc, first, second) {
+    match comparison.find(first, second) {
         Ok(finding) => conclude(finding, first, second),
         Err(error) => Err(error),
     }
@@ -128,8 +129,8 @@ fn conclude<A: Source, B: Source, S: BuildHasher + Drop>(
 ) -> Result<Verdict, SameError>
     requires going_first { failure_of first.old ≡ None }
     requires going_second { failure_of second.old ≡ refusal_in (Some finding) }
-    ensures decides { (file other : List ℕ) → IsFound A.left B.left file other first.old second.old finding
-        → Decides file other result }
+    ensures decides { (file other : List ℕ) → IsFound A.left B.left file other first.old second.old
+        finding → Decides file other result }
     ensures read_first { CountsReadingOf Which.First (A.failures first.old.source.now)
         (A.failures first.new.source.now) result }
     ensures read_second { CountsReadingOf Which.Second (B.failures second.old.source.now)
@@ -160,8 +161,8 @@ fn read_second<R: Source, S: BuildHasher + Drop>(
     verdict: Verdict,
 ) -> Result<Verdict, SameError>
     requires going { failure_of entries.old ≡ None }
-    ensures out { (file : List ℕ) (handed : List spec.Entry) → HasGiven R.left file entries.old handed
-        → IsReadAfter file handed verdict result }
+    ensures out { (file : List ℕ) (handed : List spec.Entry)
+        → HasGiven R.left file entries.old handed → IsReadAfter file handed verdict result }
     ensures read { CountsReadingOf Which.Second (R.failures entries.old.source.now)
         (R.failures entries.new.source.now) result }
     ensures never_first { (old : ℕ) → CountsReadingOf Which.First old old result }
@@ -180,9 +181,10 @@ fn read_second<R: Source, S: BuildHasher + Drop>(
 /// Reads all entries that are left.
 fn read_out<R: Source, S: BuildHasher + Drop>(entries: &mut Entries<'_, R, S>) -> Result<(), Error>
     requires going { failure_of entries.old ≡ None }
-    ensures out { (file : List ℕ) (handed : List spec.Entry) → HasGivenOn R.left file entries.old handed
-        → IsReadOut file handed result }
-    ensures read { CountsReading (R.failures entries.old.source.now) (R.failures entries.new.source.now) result }
+    ensures out { (file : List ℕ) (handed : List spec.Entry)
+        → HasGivenOn R.left file entries.old handed → IsReadOut file handed result }
+    ensures read { CountsReading (R.failures entries.old.source.now)
+        (R.failures entries.new.source.now) result }
     ensures write { IfErr result (λ error. error ≢ Error.Write) }
     ensures same_reference { entries.new.source.ghost_name ≡ entries.old.source.ghost_name }
 {
@@ -195,11 +197,14 @@ fn read_next<R: Source, S: BuildHasher + Drop>(
     entries: &mut Entries<'_, R, S>,
 ) -> Result<bool, Error>
     requires going { failure_of entries.old ≡ None }
-    ensures on { (file : List ℕ) (handed : List spec.Entry) → HasGivenOn R.left file entries.old handed
+    ensures on { (file : List ℕ) (handed : List spec.Entry)
+        → HasGivenOn R.left file entries.old handed
         → ReadsOn R.left file entries.new handed result }
-    ensures fewer { IfOk result (λ more. IsTrue more → entries_left entries.new < entries_left entries.old) }
+    ensures fewer { IfOk result (λ more. IsTrue more
+        → entries_left entries.new < entries_left entries.old) }
     ensures going { OnOk result (failure_of entries.new ≡ None) }
-    ensures read { CountsReading (R.failures entries.old.source.now) (R.failures entries.new.source.now) result }
+    ensures read { CountsReading (R.failures entries.old.source.now)
+        (R.failures entries.new.source.now) result }
     ensures write { IfErr result (λ error. error ≢ Error.Write) }
     ensures same_reference { entries.new.source.ghost_name ≡ entries.old.source.ghost_name }
 {
@@ -222,7 +227,6 @@ impl<S: BuildHasher + Drop> Comparison<S> {
     /// Takes one entry of each in turn, up to where they end, they part, or the second is refused.
     fn find<A: Source, B: Source>(
         &mut self,
-        alloc: Global,
         first: &mut Entries<'_, A, S>,
         second: &mut Entries<'_, B, S>,
     ) -> Result<Finding, SameError>
@@ -233,7 +237,8 @@ impl<S: BuildHasher + Drop> Comparison<S> {
             → IsUnderWay A.left B.left file other first.old second.old self.old
             → FindsOut A.left B.left file other first.new second.new result }
         ensures going_first { OnOk result (failure_of first.new ≡ None) }
-        ensures going_second { IfOk result (λ finding. failure_of second.new ≡ refusal_in (Some finding)) }
+        ensures going_second { IfOk result
+            (λ finding. failure_of second.new ≡ refusal_in (Some finding)) }
         ensures read_first { CountsReadingOf Which.First (A.failures first.old.source.now)
             (A.failures first.new.source.now) result }
         ensures read_second { CountsReadingOf Which.Second (B.failures second.old.source.now)
@@ -243,7 +248,7 @@ impl<S: BuildHasher + Drop> Comparison<S> {
         ensures same_second { second.new.source.ghost_name ≡ second.old.source.ghost_name }
     {
         loop {
-            match self.step(alloc, first, second) {
+            match self.step(first, second) {
                 Ok(None) => {}
                 Ok(Some(finding)) => return Ok(finding),
                 Err(error) => return Err(error),
@@ -254,7 +259,6 @@ impl<S: BuildHasher + Drop> Comparison<S> {
     /// Takes one entry of each. None stands for a pair that is alike.
     fn step<A: Source, B: Source>(
         &mut self,
-        alloc: Global,
         first: &mut Entries<'_, A, S>,
         second: &mut Entries<'_, B, S>,
     ) -> Result<Option<Finding>, SameError>
@@ -264,7 +268,8 @@ impl<S: BuildHasher + Drop> Comparison<S> {
         ensures steps { (file other : List ℕ)
             → IsUnderWay A.left B.left file other first.old second.old self.old
             → StepsOn A.left B.left file other first.new second.new self.new result }
-        ensures fewer { IfOk result (λ next. next ≡ None → entries_left first.new < entries_left first.old) }
+        ensures fewer { IfOk result (λ next. next ≡ None
+            → entries_left first.new < entries_left first.old) }
         ensures going_first { OnOk result (failure_of first.new ≡ None) }
         ensures going_second { IfOk result (λ next. failure_of second.new ≡ refusal_in next) }
         ensures room { IfOk result
@@ -279,7 +284,7 @@ impl<S: BuildHasher + Drop> Comparison<S> {
         ensures same_second { second.new.source.ghost_name ≡ second.old.source.ghost_name }
     {
         match first.next() {
-            Ok(Some(entry)) => self.meet(alloc, &entry, second),
+            Ok(Some(entry)) => self.meet(&entry, second),
             Ok(None) => Ok(Some(Finding::Ended)),
             Err(error) => Err(SameError {
                 which: Which::First,
@@ -291,15 +296,14 @@ impl<S: BuildHasher + Drop> Comparison<S> {
     /// Takes the second's entry beside the first's.
     fn meet<B: Source>(
         &mut self,
-        alloc: Global,
         entry: &Entry,
         second: &mut Entries<'_, B, S>,
     ) -> Result<Option<Finding>, SameError>
         requires going { failure_of second.old ≡ None }
         requires room { steps_of self.old.progress + 1 < 2 ^ 32 }
-        ensures meets { (file other : List ℕ) (a b : List spec.Entry) (e : spec.Entry) → IsKept entry.now e
-            → AreFirst (a ++ e ∷ []) → length (a ++ e ∷ []) < 2 ^ 32 → IsCompared self.old a b
-            → HasGiven B.left other second.old b
+        ensures meets { (file other : List ℕ) (a b : List spec.Entry) (e : spec.Entry)
+            → IsKept entry.now e → AreFirst (a ++ e ∷ []) → length (a ++ e ∷ []) < 2 ^ 32
+            → IsCompared self.old a b → HasGiven B.left other second.old b
             → Meets B.left file other second.new self.new a b e result }
         ensures going { IfOk result (λ next. failure_of second.new ≡ refusal_in next) }
         ensures few { steps_of self.new.progress ≤ steps_of self.old.progress + 1 }
@@ -310,7 +314,7 @@ impl<S: BuildHasher + Drop> Comparison<S> {
         ensures same_reference { second.new.source.ghost_name ≡ second.old.source.ghost_name }
     {
         match second.next() {
-            Ok(Some(other)) => match self.compare(alloc, entry, &other) {
+            Ok(Some(other)) => match self.compare(entry, &other) {
                 Ok(None) => Ok(None),
                 Ok(Some(place)) => Ok(Some(Finding::Parted(place))),
                 Err(error) => Err(error),
@@ -321,25 +325,20 @@ impl<S: BuildHasher + Drop> Comparison<S> {
     }
 
     /// Numbers an entry of each, and compares what they are written as. None stands for a pair that is alike.
-    fn compare(
-        &mut self,
-        alloc: Global,
-        entry: &Entry,
-        other: &Entry,
-    ) -> Result<Option<Place>, SameError>
+    fn compare(&mut self, entry: &Entry, other: &Entry) -> Result<Option<Place>, SameError>
         requires room { steps_of self.old.progress + 1 < 2 ^ 32 }
-        ensures compares { (a b : List spec.Entry) (e f : spec.Entry) → IsKept entry.now e → IsKept other.now f
-            → AreFirst (a ++ e ∷ []) → AreFirst (b ++ f ∷ []) → length (a ++ e ∷ []) < 2 ^ 32
-            → length (b ++ f ∷ []) < 2 ^ 32 → IsCompared self.old a b
-            → IfOk result (Compares self.new a b e f) }
+        ensures compares { (a b : List spec.Entry) (e f : spec.Entry) → IsKept entry.now e
+            → IsKept other.now f → AreFirst (a ++ e ∷ []) → AreFirst (b ++ f ∷ [])
+            → length (a ++ e ∷ []) < 2 ^ 32 → length (b ++ f ∷ []) < 2 ^ 32
+            → IsCompared self.old a b → IfOk result (Compares self.new a b e f) }
         ensures few { steps_of self.new.progress ≤ steps_of self.old.progress + 1 }
         ensures memory { IfErr result (λ error. error.error ≡ Error.Memory) }
     {
-        let form = match number_entry(alloc, &mut self.first, entry) {
+        let form = match number_entry(&mut self.first, entry) {
             Ok(form) => form,
             Err(_) => return Err(wanting(Which::First)),
         };
-        let other_form = match number_entry(alloc, &mut self.second, other) {
+        let other_form = match number_entry(&mut self.second, other) {
             Ok(form) => form,
             Err(_) => return Err(wanting(Which::Second)),
         };

@@ -31,7 +31,7 @@ pub trait EntryWriter {
     ///
     /// `Write` where a write failed, and `Memory` where none was to be had: a front of the form is
     /// written, and nothing can follow.
-    fn write<W: Sink>(&mut self, alloc: Global, sink: &mut W, entry: &Entry) -> Result<(), Error>
+    fn write<W: Sink>(&mut self, sink: &mut W, entry: &Entry) -> Result<(), Error>
         requires { steps self.old + 1 < 2 ^ 32 }
         ensures few { steps self.new ≤ steps self.old + 1 }
         ensures writes { WritesOne form stands self.old self.new (W.written sink.old)
@@ -74,14 +74,13 @@ pub fn write_entries<R: Source, W: Sink, E: EntryWriter, S: BuildHasher + Drop>(
         Err(_) => return Err(Error::Memory),
     };
     let mut entries = Entries::through(alloc, hasher, source, block);
-    let result = write_new(alloc, &mut entries, sink, writer);
+    let result = write_new(&mut entries, sink, writer);
     entries.into_source();
     result
 }
 
 /// Writes what a new reader hands out.
 fn write_new<R: Source, W: Sink, E: EntryWriter, S: BuildHasher + Drop>(
-    alloc: Global,
     entries: &mut Entries<'_, R, S>,
     sink: &mut W,
     writer: &mut E,
@@ -100,7 +99,7 @@ fn write_new<R: Source, W: Sink, E: EntryWriter, S: BuildHasher + Drop>(
     ensures write { CountsWriting (W.failures sink.old) (W.failures sink.new) result }
     ensures same_reference { entries.new.source.ghost_name ≡ entries.old.source.ghost_name }
 {
-    match write_rest(alloc, entries, sink, writer) {
+    match write_rest(entries, sink, writer) {
         Ok(()) => close(sink, writer),
         Err(error) => Err(error),
     }
@@ -123,7 +122,6 @@ fn close<W: Sink, E: EntryWriter>(sink: &mut W, writer: &E) -> Result<Summary, E
 
 /// Writes all entries that are left.
 fn write_rest<R: Source, W: Sink, E: EntryWriter, S: BuildHasher + Drop>(
-    alloc: Global,
     entries: &mut Entries<'_, R, S>,
     sink: &mut W,
     writer: &mut E,
@@ -140,13 +138,12 @@ fn write_rest<R: Source, W: Sink, E: EntryWriter, S: BuildHasher + Drop>(
     ensures write { CountsWriting (W.failures sink.old) (W.failures sink.new) result }
     ensures same_reference { entries.new.source.ghost_name ≡ entries.old.source.ghost_name }
 {
-    while write_next(alloc, entries, sink, writer)? {}
+    while write_next(entries, sink, writer)? {}
     Ok(())
 }
 
 /// Writes the next entry. False stands for the end.
 fn write_next<R: Source, W: Sink, E: EntryWriter, S: BuildHasher + Drop>(
-    alloc: Global,
     entries: &mut Entries<'_, R, S>,
     sink: &mut W,
     writer: &mut E,
@@ -169,7 +166,7 @@ fn write_next<R: Source, W: Sink, E: EntryWriter, S: BuildHasher + Drop>(
     ensures same_reference { entries.new.source.ghost_name ≡ entries.old.source.ghost_name }
 {
     match entries.next() {
-        Ok(Some(entry)) => write_one(alloc, sink, writer, &entry),
+        Ok(Some(entry)) => write_one(sink, writer, &entry),
         Ok(None) => Ok(false),
         Err(error) => Err(error),
     }
@@ -177,7 +174,6 @@ fn write_next<R: Source, W: Sink, E: EntryWriter, S: BuildHasher + Drop>(
 
 /// Writes the entry, and says that it came.
 fn write_one<W: Sink, E: EntryWriter>(
-    alloc: Global,
     sink: &mut W,
     writer: &mut E,
     entry: &Entry,
@@ -190,6 +186,6 @@ fn write_one<W: Sink, E: EntryWriter>(
     ensures count { CountsWriting (W.failures sink.old) (W.failures sink.new) result }
     ensures error { IfErr result IsOfWriting }
 {
-    writer.write(alloc, sink, entry)?;
+    writer.write(sink, entry)?;
     Ok(true)
 }

@@ -19,7 +19,6 @@ use crate::numbered::Numbering;
 use crate::sink::Sink;
 use crate::writing::write_all;
 use capture3::{Entry, Error, KeptCall, KeptReply, pack_chunk};
-use std::alloc::{AllocError, Global};
 use std::hash::BuildHasher;
 
 /// Writes an entry with the numbers of its values. After an error a front of its bytes was written, and
@@ -29,7 +28,6 @@ use std::hash::BuildHasher;
 ///
 /// `Write` where a write failed, and `Memory` where none was to be had.
 pub(crate) fn write_entry<S: BuildHasher + Drop, W: Sink>(
-    alloc: Global,
     numbering: &mut Numbering<S>,
     sink: &mut W,
     entry: &Entry,
@@ -44,14 +42,13 @@ pub(crate) fn write_entry<S: BuildHasher + Drop, W: Sink>(
             numbering.begin();
             write_word(sink, 1)
         }
-        Entry::Call(call) => write_call(alloc, numbering, sink, call),
-        Entry::Reply(reply) => write_reply(alloc, numbering, sink, reply),
+        Entry::Call(call) => write_call(numbering, sink, call),
+        Entry::Reply(reply) => write_reply(numbering, sink, reply),
         Entry::Turn | Entry::Close | Entry::End => write_word(sink, 0),
     }
 }
 
 fn write_call<S: BuildHasher + Drop, W: Sink>(
-    alloc: Global,
     numbering: &mut Numbering<S>,
     sink: &mut W,
     call: &KeptCall,
@@ -61,14 +58,13 @@ fn write_call<S: BuildHasher + Drop, W: Sink>(
     ensures count { CountsWriting (W.failures sink.old) (W.failures sink.new) result }
     ensures error { IfErr result IsOfWriting }
 {
-    match number_call(alloc, numbering, call) {
+    match numbering.call(call) {
         Ok(()) => hand_over(numbering, sink),
         Err(_) => Err(Error::Memory),
     }
 }
 
 fn write_reply<S: BuildHasher + Drop, W: Sink>(
-    alloc: Global,
     numbering: &mut Numbering<S>,
     sink: &mut W,
     reply: &KeptReply,
@@ -78,44 +74,10 @@ fn write_reply<S: BuildHasher + Drop, W: Sink>(
     ensures count { CountsWriting (W.failures sink.old) (W.failures sink.new) result }
     ensures error { IfErr result IsOfWriting }
 {
-    match number_reply(alloc, numbering, reply) {
+    match numbering.reply(reply) {
         Ok(()) => hand_over(numbering, sink),
         Err(_) => Err(Error::Memory),
     }
-}
-
-/// Spells a kept call with the numbers of its values.
-pub(crate) fn number_call<S: BuildHasher + Drop>(
-    alloc: Global,
-    numbering: &mut Numbering<S>,
-    call: &KeptCall,
-) -> Result<(), AllocError>
-    ensures short { OnOk result (length numbering.new.writer ≤ body_limit) }
-    ensures holds { (items : List Item) (hs vs : List (List ℕ)) (xs : List ℕ) → IsCall call.now.body.items items → Holds numbering.old hs vs xs → OnOk result (Holds numbering.new (hs ++ handles_in items) (vs ++ verifiers_in items) (xs ++ xid_of items)) }
-    ensures written { (items : List Item) (hs vs : List (List ℕ)) (xs : List ℕ) → IsCall call.now.body.items items → Holds numbering.old hs vs xs → OnOk result (HasWritten numbering.new hs vs (xs ++ xid_of items) items) }
-{
-    let message = match call.read(alloc) {
-        Ok(message) => message,
-        Err(error) => return Err(error),
-    };
-    numbering.call(&message)
-}
-
-/// Spells a kept reply with the numbers of its values.
-pub(crate) fn number_reply<S: BuildHasher + Drop>(
-    alloc: Global,
-    numbering: &mut Numbering<S>,
-    reply: &KeptReply,
-) -> Result<(), AllocError>
-    ensures short { OnOk result (length numbering.new.writer ≤ body_limit) }
-    ensures holds { (items : List Item) (hs vs : List (List ℕ)) (xs : List ℕ) → IsReply reply.now.body.items (record { id = reply.now.id; items = items }) → Holds numbering.old hs vs xs → Member (xid_in items) xs → OnOk result (Holds numbering.new (hs ++ handles_in items) (vs ++ verifiers_in items) xs) }
-    ensures written { (items : List Item) (hs vs : List (List ℕ)) (xs : List ℕ) → IsReply reply.now.body.items (record { id = reply.now.id; items = items }) → Holds numbering.old hs vs xs → Member (xid_in items) xs → OnOk result (HasWritten numbering.new hs vs xs items) }
-{
-    let message = match reply.read(alloc) {
-        Ok(message) => message,
-        Err(error) => return Err(error),
-    };
-    numbering.reply(&message)
 }
 
 fn hand_over<S: BuildHasher + Drop, W: Sink>(

@@ -15,7 +15,7 @@ use capture3::{Entry, KeptCall, KeptReply};
 use nfs3_types::Handle;
 use std::alloc::{AllocError, Global};
 use std::hash::BuildHasher;
-use xdr3::{Visit, Walk};
+use xdr3::Visit;
 
 /// A visitor that gathers the distinct file handles that are not empty (RFC 1813, section 2.5).
 #[derive(Drop)]
@@ -34,28 +34,26 @@ impl<S: BuildHasher + Drop> HandleTable<S> {
     }
 
     /// Adds the handles of a kept entry's message.
-    pub(crate) fn gather(&mut self, alloc: Global, entry: &Entry) -> Result<(), AllocError>
+    pub(crate) fn gather(&mut self, entry: &Entry) -> Result<(), AllocError>
         ensures { (one : spec.Entry) (before : List Item) → IsKept entry.now one → Gathers self.old.numbers before → OnOk result (Gathers self.new.numbers (before ++ items_of one)) }
     {
         match entry {
-            Entry::Call(call) => self.gather_call(alloc, call),
-            Entry::Reply(reply) => self.gather_reply(alloc, reply),
+            Entry::Call(call) => self.gather_call(call),
+            Entry::Reply(reply) => self.gather_reply(reply),
             Entry::Begin | Entry::Turn | Entry::Close | Entry::End => Ok(()),
         }
     }
 
-    fn gather_call(&mut self, alloc: Global, call: &KeptCall) -> Result<(), AllocError>
+    fn gather_call(&mut self, call: &KeptCall) -> Result<(), AllocError>
         ensures { (items before : List Item) → IsCall call.now.body.items items → Gathers self.old.numbers before → OnOk result (Gathers self.new.numbers (before ++ items)) }
     {
-        let message = call.read(alloc)?;
-        message.walk(self)
+        call.scan(self)
     }
 
-    fn gather_reply(&mut self, alloc: Global, reply: &KeptReply) -> Result<(), AllocError>
+    fn gather_reply(&mut self, reply: &KeptReply) -> Result<(), AllocError>
         ensures { (items before : List Item) → IsReply reply.now.body.items (record { id = reply.now.id; items = items }) → Gathers self.old.numbers before → OnOk result (Gathers self.new.numbers (before ++ items)) }
     {
-        let message = reply.read(alloc)?;
-        message.walk(self)
+        reply.scan(self)
     }
 
     fn add(&mut self, handle: Handle) -> Result<(), AllocError>

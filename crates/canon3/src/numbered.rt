@@ -2,14 +2,14 @@
 
 ghost use Rattle.std.specs.Prelude.{◌≡◌, ◌≢◌, ◌≤◌, ◌++◌, ◌∷◌, ℕ, List, [], bytes_eq, length, min, IfOk, OnErr, OnOk};
 ghost use Rattle.xdr3.specs.Item.{Handle as HandleKind, Item, Opaque, Word, WriteVerf};
-ghost use Rattle.xdr3.specs.Visit.{Adds, AreWithinLimit, Keeps, body_limit};
-ghost use Rattle.capture3.specs.Messages.{call_items, reply_items};
+ghost use Rattle.xdr3.specs.Visit.{Adds, Keeps, body_limit};
+ghost use Rattle.capture3.specs.Bodies.{IsCall, IsReply, xid_in};
 ghost use Rattle.std.specs.Io.KnownBytes.{Appends};
 ghost use Rattle.capture3.specs.Device.{Counts};
 ghost use Rattle.canon3.specs.Bytes.{chunk_bytes, record_bytes};
 ghost use Rattle.canon3.specs.Written.{AppendsFront};
 ghost use Rattle.canon3.specs.Gathering.{HoldsHandles};
-ghost use Rattle.canon3.specs.Numbered.{Before, Holds, HasWritten, IsBefore, IsOpened, IsUnderWay, Stands};
+ghost use Rattle.canon3.specs.Numbered.{Before, Holds, HasWritten, IsBefore, IsUnderWay, Opens, Stands};
 ghost use Rattle.canon3.specs.Pairing.{Member};
 ghost use Rattle.canon3.specs.Rank.{number_limit, rank, StandsFor};
 ghost use Rattle.canon3.specs.Values.{handles_in, verifiers_in, xid_of};
@@ -18,11 +18,11 @@ use crate::numbers::Numbers;
 use crate::sink::Sink;
 use crate::writing::write_record;
 use byteorder::{BigEndian, ByteOrder};
-use capture3::{CallMsg, DeviceFailed, ReplyMsg};
+use capture3::{DeviceFailed, KeptCall, KeptReply};
 use nfs3_types::Handle;
 use std::alloc::{AllocError, Global};
 use std::hash::BuildHasher;
-use xdr3::{Visit, Walk, Writer};
+use xdr3::{Visit, Writer};
 
 /// How far a message is.
 #[derive(Clone, Copy)]
@@ -84,23 +84,25 @@ impl<S: BuildHasher + Drop> Numbering<S> {
 
     /// Writes a call in place of the message before. After an error the tables may have more values than
     /// were written, so nothing can follow.
-    pub(crate) fn call(&mut self, call: &CallMsg<'_>) -> Result<(), AllocError>
-        requires { AreWithinLimit (call_items call.now) }
+    pub(crate) fn call(&mut self, call: &KeptCall) -> Result<(), AllocError>
         ensures short { OnOk result (length self.new.writer ≤ body_limit) }
-        ensures holds { (hs vs : List (List ℕ)) (xs : List ℕ) → let items = call_items call.now in Holds self.old hs vs xs → OnOk result (Holds self.new (hs ++ handles_in items) (vs ++ verifiers_in items) (xs ++ xid_of items)) }
-        ensures written { (hs vs : List (List ℕ)) (xs : List ℕ) → let items = call_items call.now in Holds self.old hs vs xs → OnOk result (HasWritten self.new hs vs (xs ++ xid_of items) items) }
+        ensures holds { (items : List Item) (hs vs : List (List ℕ)) (xs : List ℕ) → IsCall call.now.body.items items → Holds self.old hs vs xs → OnOk result (Holds self.new (hs ++ handles_in items) (vs ++ verifiers_in items) (xs ++ xid_of items)) }
+        ensures written { (items : List Item) (hs vs : List (List ℕ)) (xs : List ℕ) → IsCall call.now.body.items items → Holds self.old hs vs xs → OnOk result (HasWritten self.new hs vs (xs ++ xid_of items) items) }
     {
-        self.message(call.xid, call)
+        self.open(call.xid())?;
+        call.scan(self)?;
+        self.unless_failed()
     }
 
     /// Writes a reply in place of the message before, likewise. A call of the connection has its xid.
-    pub(crate) fn reply(&mut self, reply: &ReplyMsg<'_>) -> Result<(), AllocError>
-        requires { AreWithinLimit (reply_items reply.now) }
+    pub(crate) fn reply(&mut self, reply: &KeptReply) -> Result<(), AllocError>
         ensures short { OnOk result (length self.new.writer ≤ body_limit) }
-        ensures holds { (hs vs : List (List ℕ)) (xs : List ℕ) → let items = reply_items reply.now in Holds self.old hs vs xs → Member reply.now.xid xs → OnOk result (Holds self.new (hs ++ handles_in items) (vs ++ verifiers_in items) xs) }
-        ensures written { (hs vs : List (List ℕ)) (xs : List ℕ) → let items = reply_items reply.now in Holds self.old hs vs xs → Member reply.now.xid xs → OnOk result (HasWritten self.new hs vs xs items) }
+        ensures holds { (items : List Item) (hs vs : List (List ℕ)) (xs : List ℕ) → IsReply reply.now.body.items (record { id = reply.now.id; items = items }) → Holds self.old hs vs xs → Member (xid_in items) xs → OnOk result (Holds self.new (hs ++ handles_in items) (vs ++ verifiers_in items) xs) }
+        ensures written { (items : List Item) (hs vs : List (List ℕ)) (xs : List ℕ) → IsReply reply.now.body.items (record { id = reply.now.id; items = items }) → Holds self.old hs vs xs → Member (xid_in items) xs → OnOk result (HasWritten self.new hs vs xs items) }
     {
-        self.message(reply.xid, reply)
+        self.open(reply.xid())?;
+        reply.scan(self)?;
+        self.unless_failed()
     }
 
     /// Hands the message to a sink, as one chunk. At most 16,777,216 bytes in it, as after `call` and
@@ -114,25 +116,21 @@ impl<S: BuildHasher + Drop> Numbering<S> {
         write_record(sink, self.writer.bytes())
     }
 
-    /// Writes a message whose xid is this one.
-    fn message<M: Walk>(&mut self, xid: u32, message: &M) -> Result<(), AllocError>
-        requires { AreWithinLimit (M.items message.now) }
-        ensures short { OnOk result (length self.new.writer ≤ body_limit) }
-        ensures written { (hs vs : List (List ℕ)) (xs : List ℕ) → Holds self.old hs vs xs → OnOk result ((before : Before) × IsOpened before hs vs (xs ++ xid ∷ []) xid × IsUnderWay self.new before (M.items message.now)) }
+    /// Opens a message with this xid, in place of the one before.
+    fn open(&mut self, xid: u32) -> Result<(), AllocError>
+        ensures empty { OnOk result (self.new.writer ≡ []) }
+        ensures opens { (hs vs : List (List ℕ)) (xs : List ℕ) → Holds self.old hs vs xs → OnOk result (Opens self.new hs vs (xs ++ xid ∷ []) xid []) }
     {
         let number = match self.xids.number_of(xid) {
             Ok(number) => number,
             Err(error) => return Err(error),
         };
-        self.open(number);
-        match message.walk(self) {
-            Ok(()) => self.unless_failed(),
-            Err(error) => Err(error),
-        }
+        self.begin_with(number);
+        Ok(())
     }
 
     /// Leaves the message before.
-    fn open(&mut self, number: u32)
+    fn begin_with(&mut self, number: u32)
         ensures empty { self.new.writer ≡ [] }
         ensures opens { (before : Before) → IsBefore before self.old number → IsUnderWay self.new before [] }
     {

@@ -92,7 +92,7 @@ impl<S: BuildHasher + Drop> Rewriting<S> {
     }
 
     /// Writes the entry after the magic.
-    fn follow<W: Sink>(&mut self, alloc: Global, sink: &mut W, entry: &Entry) -> Result<(), Error>
+    fn follow<W: Sink>(&mut self, sink: &mut W, entry: &Entry) -> Result<(), Error>
         requires { rewriting_steps self.old + 1 < 2 ^ 32 }
         ensures few { rewriting_steps self.new ≤ rewriting_steps self.old + 1 }
         ensures opened { self.new.opened ≡ self.old.opened }
@@ -113,7 +113,7 @@ impl<S: BuildHasher + Drop> Rewriting<S> {
         ensures error { IfErr result IsOfWriting }
     {
         self.counts.add(entry);
-        write_entry(alloc, &mut self.numbering, sink, entry)
+        write_entry(&mut self.numbering, sink, entry)
     }
 }
 
@@ -126,9 +126,9 @@ impl<S: BuildHasher + Drop> EntryWriter for Rewriting<S> {
 
     ghost steps = { rewriting_steps };
 
-    fn write<W: Sink>(&mut self, alloc: Global, sink: &mut W, entry: &Entry) -> Result<(), Error> {
+    fn write<W: Sink>(&mut self, sink: &mut W, entry: &Entry) -> Result<(), Error> {
         match self.open(sink) {
-            Ok(()) => self.follow(alloc, sink, entry),
+            Ok(()) => self.follow(sink, entry),
             Err(error) => Err(error),
         }
     }

@@ -7,10 +7,9 @@ ghost use Rattle.canon3.specs.Numbered.{Holds};
 ghost use Rattle.canon3.specs.Spelling.{HasSpelled, spelling_of};
 ghost use Rattle.canon3.specs.Writing.{IsInTurn};
 
-use crate::form::{number_call, number_reply};
 use crate::numbered::Numbering;
 use capture3::Entry;
-use std::alloc::{AllocError, Global};
+use std::alloc::AllocError;
 use std::hash::BuildHasher;
 
 /// What an entry is written as.
@@ -26,7 +25,6 @@ pub(crate) enum Spelling {
 
 /// Numbers an entry's values, and spells its message. After an error nothing can follow.
 pub(crate) fn number_entry<S: BuildHasher + Drop>(
-    alloc: Global,
     numbering: &mut Numbering<S>,
     entry: &Entry,
 ) -> Result<Spelling, AllocError>
@@ -39,11 +37,11 @@ pub(crate) fn number_entry<S: BuildHasher + Drop>(
             numbering.begin();
             Ok(Spelling::One)
         }
-        Entry::Call(call) => match number_call(alloc, numbering, call) {
+        Entry::Call(call) => match numbering.call(call) {
             Ok(()) => Ok(Spelling::Message),
             Err(error) => Err(error),
         },
-        Entry::Reply(reply) => match number_reply(alloc, numbering, reply) {
+        Entry::Reply(reply) => match numbering.reply(reply) {
             Ok(()) => Ok(Spelling::Message),
             Err(error) => Err(error),
         },

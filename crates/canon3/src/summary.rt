@@ -63,7 +63,7 @@ fn summed<R: Source, S: BuildHasher + Drop>(
     ensures same_reference { entries.new.source.ghost_name ≡ entries.old.source.ghost_name }
 {
     let mut tally = Tally::new(alloc, hasher);
-    match tally.add_all(alloc, entries) {
+    match tally.add_all(entries) {
         Ok(()) => Ok(tally.summary()),
         Err(error) => Err(error),
     }
@@ -145,11 +145,7 @@ impl<S: BuildHasher + Drop> Tally<S> {
     }
 
     /// Adds all entries that are left.
-    fn add_all<R: Source>(
-        &mut self,
-        alloc: Global,
-        entries: &mut Entries<'_, R, S>,
-    ) -> Result<(), Error>
+    fn add_all<R: Source>(&mut self, entries: &mut Entries<'_, R, S>) -> Result<(), Error>
         requires going { failure_of entries.old ≡ None }
         requires room { total self.old.counts + entries_left entries.old ≤ most_entries }
         ensures over { (first : Option (List ℕ)) → IsUnderWay R.left first entries.old self.old → IsOver R.left first entries.new self.new result }
@@ -157,16 +153,12 @@ impl<S: BuildHasher + Drop> Tally<S> {
         ensures write { IfErr result (λ error. error ≢ Error.Write) }
         ensures same_reference { entries.new.source.ghost_name ≡ entries.old.source.ghost_name }
     {
-        while self.add_next(alloc, entries)? {}
+        while self.add_next(entries)? {}
         Ok(())
     }
 
     /// Adds the next entry. False stands for the end.
-    fn add_next<R: Source>(
-        &mut self,
-        alloc: Global,
-        entries: &mut Entries<'_, R, S>,
-    ) -> Result<bool, Error>
+    fn add_next<R: Source>(&mut self, entries: &mut Entries<'_, R, S>) -> Result<bool, Error>
         requires going { failure_of entries.old ≡ None }
         requires room { total self.old.counts + entries_left entries.old ≤ most_entries }
         ensures goes_on { (first : Option (List ℕ)) → IsUnderWay R.left first entries.old self.old → GoesOn R.left first entries.new self.new result }
@@ -178,31 +170,31 @@ impl<S: BuildHasher + Drop> Tally<S> {
         ensures same_reference { entries.new.source.ghost_name ≡ entries.old.source.ghost_name }
     {
         match entries.next() {
-            Ok(Some(entry)) => self.added(alloc, &entry),
+            Ok(Some(entry)) => self.added(&entry),
             Ok(None) => Ok(false),
             Err(error) => Err(error),
         }
     }
 
     /// Adds the entry, and says that it came.
-    fn added(&mut self, alloc: Global, entry: &Entry) -> Result<bool, Error>
+    fn added(&mut self, entry: &Entry) -> Result<bool, Error>
         requires { total self.old.counts + 1 < 2 ^ 32 }
         ensures more { IfOk result IsTrue }
         ensures few { total self.new.counts ≤ total self.old.counts + 1 }
         ensures tallies { (one : spec.Entry) (entries : List spec.Entry) → IsKept entry.now one → Tallies self.old entries → OnOk result (Tallies self.new (entries ++ one ∷ [])) }
         ensures memory { IfErr result (λ error. error ≡ Error.Memory) }
     {
-        self.add(alloc, entry)?;
+        self.add(entry)?;
         Ok(true)
     }
 
-    fn add(&mut self, alloc: Global, entry: &Entry) -> Result<(), AllocError>
+    fn add(&mut self, entry: &Entry) -> Result<(), AllocError>
         requires { total self.old.counts + 1 < 2 ^ 32 }
         ensures few { total self.new.counts ≤ total self.old.counts + 1 }
         ensures tallies { (one : spec.Entry) (entries : List spec.Entry) → IsKept entry.now one → Tallies self.old entries → OnOk result (Tallies self.new (entries ++ one ∷ [])) }
     {
         self.counts.add(entry);
-        self.handles.gather(alloc, entry)
+        self.handles.gather(entry)
     }
 
     fn summary(&self) -> Summary

@@ -147,7 +147,7 @@ fn entries_with_numbers(rt: HostRuntime) -> Result<(), Fail> {
     let mut sink = MemSink::new(rt.alloc(), 999, 9, 0)?;
     assert_eq!(rt; write_all(&mut sink, b"NFS3CAP1"), Ok(()));
     for entry in parse(rt.alloc(), &bytes)?.iter() {
-        write_entry(rt.alloc(), &mut numbering, &mut sink, entry)?;
+        write_entry(&mut numbering, &mut sink, entry)?;
     }
     assert_eq!(rt; sink.bytes(), numbered.as_slice());
     Ok(())

@@ -11,6 +11,7 @@ use Rattle.rpc_head.specs.declared.call.CallHead.{CallHead}
 use Rattle.rpc_head.specs.declared.call.ProcId.{ProcId}
 use Rattle.rpc_head.specs.declared.message.Start.{Start}
 use Rattle.rpc_head.specs.declared.reply.Accept.TheVariants.{Success, ProgUnavail, ProgMismatch, ProcUnavail, GarbageArgs, SystemErr}
+use Rattle.rpc_head.specs.declared.reply.Deny.TheVariants.{RpcMismatch, AuthError}
 use Rattle.rpc_head.specs.declared.reply.ReplyHead.{ReplyHead}
 use Rattle.rpc_head.specs.declared.reply.ReplyHead.TheVariants.{Accepted, Denied}
 use Rattle.rpc_head.specs.Calls.{call_head_items}
@@ -18,7 +19,8 @@ use Rattle.rpc_head.specs.Messages.{call_layout, reply_layout, procedure_in}
 use Rattle.rpc_head.specs.Replies.{reply_head_items}
 use Rattle.rpc_head.specs.Shapes.{call_head, message_start, reply_head}
 use Rattle.rpc_head.specs.Starts.{start_items}
-use Rattle.rpc_head.proofs.Messages.{call_read, call_head_refused, reply_read, reply_head_refused, results_behind}
+use Rattle.rpc_head.specs.HeadScan.{procedure_told, tells_success}
+use Rattle.rpc_head.proofs.Messages.{call_read, call_head_refused, procedure_read, reply_read, reply_head_refused}
 use Rattle.procs3.specs.Table.{arguments_of, results_of}
 use Rattle.capture3.specs.Bodies.{procedure_of, xid_in}
 use Rattle.capture3.specs.Judging.{judge_call, judge_reply, read_whole, ended, agreed, agrees, answering}
@@ -27,7 +29,7 @@ use Rattle.xdr3.specs.declared.reason.GetError.TheVariants as errors
 use Rattle.std.specs.Result.{IsErrAnd}
 use Rattle.procs3.specs.Items.{args_items}
 use Rattle.capture3.specs.declared.message.CallMsg.{CallMsg}
-use Rattle.capture3.specs.Messages.{Judged, call_items, reading_behind}
+use Rattle.capture3.specs.Messages.{Judged, call_items, reading_behind, results_after}
 
 -- ---- a whole layout, read in parts
 
@@ -52,11 +54,12 @@ front_refused front stop = refl
 
 -- ---- calls
 
--- what was read of a call: its start and its head
-pub record CallBegins (body : List ℕ) (s : Start) (h : CallHead) (head end : ℕ) : Type 0 where
+-- what was read of a call: its start, and its head of this procedure
+pub record CallBegins (body : List ℕ) (s : Start) (id : ProcId) (front : List Item) (head end : ℕ) : Type 0 where
   pub start : reading message_start body 0 ≡ Ok (start_items s, head)
   pub is_call : s.is_reply ≡ false
-  pub read : reading call_head body head ≡ Ok (call_head_items h, end)
+  pub read : reading call_head body head ≡ Ok (front, end)
+  pub told : procedure_told front ≡ id
 
 pub call_bad_start : (before : List (List Item)) (body : List ℕ) (stop : Stop) → reading message_start body 0 ≡ Err stop → judge_call before body ≡ Err stop
 unfolding judge_call
@@ -79,66 +82,74 @@ call_bad_head before body s stop head e is read =
     call_read_on before body s head e is
     ∙ ap (λ r. r >>= agreed before) (whole_refused (call_layout arguments_of) body stop (call_head_refused arguments_of body s stop 0 head e is read))
 
-pub call_bad_arguments : (before : List (List Item)) (body : List ℕ) (s : Start) (h : CallHead) (head end : ℕ) (stop : Stop) → CallBegins body s h head end
-    → reading_layout (arguments_of h.id) body end ≡ Err stop → judge_call before body ≡ Err stop
-call_bad_arguments before body s h head end stop b read =
+call_laid : (body : List ℕ) (s : Start) (id : ProcId) (front : List Item) (head end : ℕ) → CallBegins body s id front head end
+    → reading_layout (call_layout arguments_of) body 0 ≡ with_front (start_items s ++ front) (reading_layout (arguments_of id) body end)
+call_laid body s id front head end b =
+    call_read arguments_of body s front 0 head end b.start b.is_call b.read
+    ∙ ap (λ (p : ProcId). with_front (start_items s ++ front) (reading_layout (arguments_of p) body end)) b.told
+
+pub call_bad_arguments : (before : List (List Item)) (body : List ℕ) (s : Start) (id : ProcId) (front : List Item) (head end : ℕ) (stop : Stop) → CallBegins body s id front head end
+    → reading_layout (arguments_of id) body end ≡ Err stop → judge_call before body ≡ Err stop
+call_bad_arguments before body s id front head end stop b read =
     call_read_on before body s head b.start b.is_call
     ∙ ap (λ r. r >>= agreed before)
     (whole_refused (call_layout arguments_of) body stop
-    (call_read arguments_of body s h 0 head end b.start b.is_call b.read ∙ ap (with_front (start_items s ++ call_head_items h)) read ∙ front_refused (start_items s ++ call_head_items h) stop))
+    (call_laid body s id front head end b ∙ ap (with_front (start_items s ++ front)) read ∙ front_refused (start_items s ++ front) stop))
 
-pub call_trails : (before : List (List Item)) (body : List ℕ) (s : Start) (h : CallHead) (head end to : ℕ) (more : List Item) → CallBegins body s h head end
-    → reading_layout (arguments_of h.id) body end ≡ Ok (more, to) → to ≢ length body → judge_call before body ≡ refused to Trailing
-call_trails before body s h head end to more b read other =
+pub call_trails : (before : List (List Item)) (body : List ℕ) (s : Start) (id : ProcId) (front : List Item) (head end to : ℕ) (more : List Item) → CallBegins body s id front head end
+    → reading_layout (arguments_of id) body end ≡ Ok (more, to) → to ≢ length body → judge_call before body ≡ refused to Trailing
+call_trails before body s id front head end to more b read other =
     call_read_on before body s head b.start b.is_call
     ∙ ap (λ r. r >>= agreed before)
-    (whole_trails (call_layout arguments_of) body (start_items s ++ call_head_items h) more end to
-    (call_read arguments_of body s h 0 head end b.start b.is_call b.read ∙ ap (with_front (start_items s ++ call_head_items h)) read) other)
+    (whole_trails (call_layout arguments_of) body (start_items s ++ front) more end to
+    (call_laid body s id front head end b ∙ ap (with_front (start_items s ++ front)) read) other)
 
--- a whole call's items, as its value has them
-abbrev pub whole_call : Start → CallHead → List Item → List Item
-whole_call s h more = followed_by (start_items s) (followed_by (call_head_items h) more)
-
-call_whole : (before : List (List Item)) (body : List ℕ) (s : Start) (h : CallHead) (head end to : ℕ) (more : List Item) → CallBegins body s h head end
-    → reading_layout (arguments_of h.id) body end ≡ Ok (more, to) → to ≡ length body → judge_call before body ≡ agreed before (whole_call s h more)
-unfolding followed_by
-call_whole before body s h head end to more b read is =
-    call_read_on before body s head b.start b.is_call
-    ∙ ap (λ r. r >>= agreed before)
-    (whole_ends (call_layout arguments_of) body (start_items s ++ call_head_items h) more end to
-    (call_read arguments_of body s h 0 head end b.start b.is_call b.read ∙ ap (with_front (start_items s ++ call_head_items h)) read) is
-    ∙ ap (λ (items : List Item). Ok items) (append_assoc (start_items s) (call_head_items h) more))
+-- a whole call's items: its start, its head and its arguments
+abbrev pub whole_call : Start → List Item → List Item → List Item
+whole_call s front more = followed_by (start_items s) (followed_by front more)
 
 -- the procedure and the xid stand among its items
-pub call_procedure : (s : Start) (h : CallHead) (more : List Item) → procedure_in (whole_call s h more) ≡ h.id
+pub call_procedure : (body : List ℕ) (s : Start) (id : ProcId) (front more : List Item) (head end : ℕ) → CallBegins body s id front head end → procedure_in (whole_call s front more) ≡ id
 unfolding followed_by
-call_procedure s h more = refl
+call_procedure body s id front more head end b = procedure_read body front more head end b.read ∙ b.told
 
-pub call_xid : (s : Start) (h : CallHead) (more : List Item) → xid_in (whole_call s h more) ≡ s.xid
+pub call_xid : (s : Start) (front more : List Item) → xid_in (whole_call s front more) ≡ s.xid
 unfolding followed_by
-call_xid s h more = refl
+call_xid s front more = refl
 
-pub call_accepted : (before : List (List Item)) (body : List ℕ) (s : Start) (h : CallHead) (head end to : ℕ) (more : List Item) → CallBegins body s h head end
-    → reading_layout (arguments_of h.id) body end ≡ Ok (more, to) → to ≡ length body → agrees (procedure_of before s.xid) h.id ≡ true
-    → judge_call before body ≡ Ok (whole_call s h more)
+call_whole : (before : List (List Item)) (body : List ℕ) (s : Start) (id : ProcId) (front : List Item) (head end to : ℕ) (more : List Item) → CallBegins body s id front head end
+    → reading_layout (arguments_of id) body end ≡ Ok (more, to) → to ≡ length body
+    → judge_call before body ≡ cond (agrees (procedure_of before s.xid) id) (Ok (whole_call s front more)) (refused 0 XidConflict)
 unfolding followed_by
-call_accepted before body s h head end to more b read is agree =
-    call_whole before body s h head end to more b read is ∙ ap (λ c. cond c (Ok (whole_call s h more)) (refused 0 XidConflict)) agree
+call_whole before body s id front head end to more b read is =
+    call_read_on before body s head b.start b.is_call
+    ∙ ap (λ r. r >>= agreed before)
+    (whole_ends (call_layout arguments_of) body (start_items s ++ front) more end to
+    (call_laid body s id front head end b ∙ ap (with_front (start_items s ++ front)) read) is
+    ∙ ap (λ (items : List Item). Ok items) (append_assoc (start_items s) front more))
+    ∙ ap (λ (p : ProcId). cond (agrees (procedure_of before s.xid) p) (Ok (whole_call s front more)) (refused 0 XidConflict)) (call_procedure body s id front more head end b)
 
-pub call_conflicts : (before : List (List Item)) (body : List ℕ) (s : Start) (h : CallHead) (head end to : ℕ) (more : List Item) → CallBegins body s h head end
-    → reading_layout (arguments_of h.id) body end ≡ Ok (more, to) → to ≡ length body → agrees (procedure_of before s.xid) h.id ≡ false
+pub call_accepted : (before : List (List Item)) (body : List ℕ) (s : Start) (id : ProcId) (front : List Item) (head end to : ℕ) (more : List Item) → CallBegins body s id front head end
+    → reading_layout (arguments_of id) body end ≡ Ok (more, to) → to ≡ length body → agrees (procedure_of before s.xid) id ≡ true
+    → judge_call before body ≡ Ok (whole_call s front more)
+call_accepted before body s id front head end to more b read is agree =
+    call_whole before body s id front head end to more b read is ∙ ap (λ c. cond c (Ok (whole_call s front more)) (refused 0 XidConflict)) agree
+
+pub call_conflicts : (before : List (List Item)) (body : List ℕ) (s : Start) (id : ProcId) (front : List Item) (head end to : ℕ) (more : List Item) → CallBegins body s id front head end
+    → reading_layout (arguments_of id) body end ≡ Ok (more, to) → to ≡ length body → agrees (procedure_of before s.xid) id ≡ false
     → judge_call before body ≡ refused 0 XidConflict
-unfolding followed_by
-call_conflicts before body s h head end to more b read is disagree =
-    call_whole before body s h head end to more b read is ∙ ap (λ c. cond c (Ok (whole_call s h more)) (refused 0 XidConflict)) disagree
+call_conflicts before body s id front head end to more b read is disagree =
+    call_whole before body s id front head end to more b read is ∙ ap (λ c. cond c (Ok (whole_call s front more)) (refused 0 XidConflict)) disagree
 
 -- ---- replies
 
-pub record ReplyBegins (calls : List (List Item)) (body : List ℕ) (s : Start) (id : ProcId) (h : ReplyHead) (head end : ℕ) : Type 0 where
+-- what was read of a reply to a call of this procedure: its start, and its head, of a success or not
+pub record ReplyBegins (calls : List (List Item)) (body : List ℕ) (s : Start) (id : ProcId) (success : Bool) (front : List Item) (head end : ℕ) : Type 0 where
   pub start : reading message_start body 0 ≡ Ok (start_items s, head)
   pub is_reply : s.is_reply ≡ true
   pub asked : procedure_of calls s.xid ≡ Some id
-  pub read : reading reply_head body head ≡ Ok (reply_head_items h, end)
+  pub read : reading reply_head body head ≡ Ok (front, end)
+  pub told : tells_success front ≡ success
 
 pub reply_bad_start : (calls : List (List Item)) (body : List ℕ) (stop : Stop) → reading message_start body 0 ≡ Err stop → judge_reply calls body ≡ Err stop
 unfolding judge_reply
@@ -165,54 +176,61 @@ reply_bad_head calls body s id stop head e is asked read =
     ∙ ap (answering body) asked
     ∙ ap (λ r. r >>= λ items. Ok (record { id = id; items = items })) (whole_refused (reply_layout (results_of id)) body stop (reply_head_refused (results_of id) body s stop 0 head e is read))
 
--- behind the head
-behind_is : (h : ReplyHead) (results : Layout) (body : List ℕ) (at : ℕ) → reading_layout (results_behind h results) body at ≡ reading_behind h results body at
-unfolding results_behind reading_layout reading
-behind_is (Accepted verf Success) results body at = refl
-behind_is (Accepted verf ProgUnavail) results body at = refl
-behind_is (Accepted verf (ProgMismatch low high)) results body at = refl
-behind_is (Accepted verf ProcUnavail) results body at = refl
-behind_is (Accepted verf GarbageArgs) results body at = refl
-behind_is (Accepted verf SystemErr) results body at = refl
-behind_is (Denied deny) results body at = refl
+-- what is read after the head as a value
+pub results_are : (h : ReplyHead) (id : ProcId) (body : List ℕ) (at : ℕ) → reading_layout (results_after (tells_success (reply_head_items h)) id) body at ≡ reading_behind h (results_of id) body at
+unfolding followed_by reading_layout reading
+results_are (Accepted verf Success) id body at = refl
+results_are (Accepted verf ProgUnavail) id body at = refl
+results_are (Accepted verf (ProgMismatch low high)) id body at = refl
+results_are (Accepted verf ProcUnavail) id body at = refl
+results_are (Accepted verf GarbageArgs) id body at = refl
+results_are (Accepted verf SystemErr) id body at = refl
+results_are (Denied (RpcMismatch low high)) id body at = refl
+results_are (Denied (AuthError stat)) id body at = refl
 
-reply_layout_read : (calls : List (List Item)) (body : List ℕ) (s : Start) (id : ProcId) (h : ReplyHead) (head end : ℕ) → ReplyBegins calls body s id h head end
-    → reading_layout (reply_layout (results_of id)) body 0 ≡ with_front (start_items s ++ reply_head_items h) (reading_behind h (results_of id) body end)
-reply_layout_read calls body s id h head end b =
-    reply_read (results_of id) body s h 0 head end b.start b.is_reply b.read ∙ ap (with_front (start_items s ++ reply_head_items h)) (behind_is h (results_of id) body end)
+reply_laid : (calls : List (List Item)) (body : List ℕ) (s : Start) (id : ProcId) (success : Bool) (front : List Item) (head end : ℕ) → ReplyBegins calls body s id success front head end
+    → reading_layout (reply_layout (results_of id)) body 0 ≡ with_front (start_items s ++ front) (reading_layout (results_after success id) body end)
+reply_laid calls body s id success front head end b =
+    reply_read (results_of id) body s front 0 head end b.start b.is_reply b.read
+    ∙ ap (λ (c : Bool). with_front (start_items s ++ front) (reading_layout (results_after c id) body end)) b.told
 
-reply_answers : (calls : List (List Item)) (body : List ℕ) (s : Start) (id : ProcId) (h : ReplyHead) (head end : ℕ) → ReplyBegins calls body s id h head end
+reply_answers : (calls : List (List Item)) (body : List ℕ) (s : Start) (id : ProcId) (success : Bool) (front : List Item) (head end : ℕ) → ReplyBegins calls body s id success front head end
     → judge_reply calls body ≡ (read_whole (reply_layout (results_of id)) body >>= λ items. Ok (record { id = id; items = items }))
-reply_answers calls body s id h head end b = reply_read_on calls body s head b.start b.is_reply ∙ ap (answering body) b.asked
+reply_answers calls body s id success front head end b = reply_read_on calls body s head b.start b.is_reply ∙ ap (answering body) b.asked
 
-pub reply_bad_results : (calls : List (List Item)) (body : List ℕ) (s : Start) (id : ProcId) (h : ReplyHead) (head end : ℕ) (stop : Stop) → ReplyBegins calls body s id h head end
-    → reading_behind h (results_of id) body end ≡ Err stop → judge_reply calls body ≡ Err stop
-reply_bad_results calls body s id h head end stop b read =
-    reply_answers calls body s id h head end b
+pub reply_bad_results : (calls : List (List Item)) (body : List ℕ) (s : Start) (id : ProcId) (success : Bool) (front : List Item) (head end : ℕ) (stop : Stop) → ReplyBegins calls body s id success front head end
+    → reading_layout (results_after success id) body end ≡ Err stop → judge_reply calls body ≡ Err stop
+reply_bad_results calls body s id success front head end stop b read =
+    reply_answers calls body s id success front head end b
     ∙ ap (λ r. r >>= λ items. Ok (record { id = id; items = items }))
-    (whole_refused (reply_layout (results_of id)) body stop (reply_layout_read calls body s id h head end b ∙ ap (with_front (start_items s ++ reply_head_items h)) read ∙ front_refused (start_items s ++ reply_head_items h) stop))
+    (whole_refused (reply_layout (results_of id)) body stop
+    (reply_laid calls body s id success front head end b ∙ ap (with_front (start_items s ++ front)) read ∙ front_refused (start_items s ++ front) stop))
 
-pub reply_trails : (calls : List (List Item)) (body : List ℕ) (s : Start) (id : ProcId) (h : ReplyHead) (head end to : ℕ) (more : List Item) → ReplyBegins calls body s id h head end
-    → reading_behind h (results_of id) body end ≡ Ok (more, to) → to ≢ length body → judge_reply calls body ≡ refused to Trailing
-reply_trails calls body s id h head end to more b read other =
-    reply_answers calls body s id h head end b
+pub reply_trails : (calls : List (List Item)) (body : List ℕ) (s : Start) (id : ProcId) (success : Bool) (front : List Item) (head end to : ℕ) (more : List Item) → ReplyBegins calls body s id success front head end
+    → reading_layout (results_after success id) body end ≡ Ok (more, to) → to ≢ length body → judge_reply calls body ≡ refused to Trailing
+reply_trails calls body s id success front head end to more b read other =
+    reply_answers calls body s id success front head end b
     ∙ ap (λ r. r >>= λ items. Ok (record { id = id; items = items }))
-    (whole_trails (reply_layout (results_of id)) body (start_items s ++ reply_head_items h) more end to
-    (reply_layout_read calls body s id h head end b ∙ ap (with_front (start_items s ++ reply_head_items h)) read) other)
+    (whole_trails (reply_layout (results_of id)) body (start_items s ++ front) more end to
+    (reply_laid calls body s id success front head end b ∙ ap (with_front (start_items s ++ front)) read) other)
 
--- a whole reply's items, as its value has them
-abbrev pub whole_reply : Start → ReplyHead → List Item → List Item
-whole_reply s h more = followed_by (start_items s) (followed_by (reply_head_items h) more)
+-- a whole reply's items: its start, its head and its results
+abbrev pub whole_reply : Start → List Item → List Item → List Item
+whole_reply s front more = followed_by (start_items s) (followed_by front more)
 
-pub reply_accepted : (calls : List (List Item)) (body : List ℕ) (s : Start) (id : ProcId) (h : ReplyHead) (head end to : ℕ) (more : List Item) → ReplyBegins calls body s id h head end
-    → reading_behind h (results_of id) body end ≡ Ok (more, to) → to ≡ length body → judge_reply calls body ≡ Ok (record { id = id; items = whole_reply s h more })
+pub reply_xid : (s : Start) (front more : List Item) → xid_in (whole_reply s front more) ≡ s.xid
 unfolding followed_by
-reply_accepted calls body s id h head end to more b read is =
-    reply_answers calls body s id h head end b
+reply_xid s front more = refl
+
+pub reply_accepted : (calls : List (List Item)) (body : List ℕ) (s : Start) (id : ProcId) (success : Bool) (front : List Item) (head end to : ℕ) (more : List Item) → ReplyBegins calls body s id success front head end
+    → reading_layout (results_after success id) body end ≡ Ok (more, to) → to ≡ length body → judge_reply calls body ≡ Ok (record { id = id; items = whole_reply s front more })
+unfolding followed_by
+reply_accepted calls body s id success front head end to more b read is =
+    reply_answers calls body s id success front head end b
     ∙ ap (λ r. r >>= λ items. Ok (record { id = id; items = items }))
-    (whole_ends (reply_layout (results_of id)) body (start_items s ++ reply_head_items h) more end to
-    (reply_layout_read calls body s id h head end b ∙ ap (with_front (start_items s ++ reply_head_items h)) read) is
-    ∙ ap (λ (items : List Item). Ok items) (append_assoc (start_items s) (reply_head_items h) more))
+    (whole_ends (reply_layout (results_of id)) body (start_items s ++ front) more end to
+    (reply_laid calls body s id success front head end b ∙ ap (with_front (start_items s ++ front)) read) is
+    ∙ ap (λ (items : List Item). Ok items) (append_assoc (start_items s) front more))
 
 -- ---- what the code hands on
 
@@ -242,8 +260,13 @@ not_false false h = sym h
 
 -- ---- a call as a value
 
+pub call_head_told : (h : CallHead) → procedure_told (call_head_items h) ≡ h.id
+unfolding followed_by
+call_head_told h = refl
+
 pub call_procedure_is : (m : CallMsg) → procedure_in (call_items m) ≡ m.head.id
-call_procedure_is m = call_procedure (record { xid = m.xid; is_reply = false }) m.head (args_items m.args)
+unfolding followed_by
+call_procedure_is m = refl
 
 pub call_xid_is : (m : CallMsg) → xid_in (call_items m) ≡ m.xid
-call_xid_is m = call_xid (record { xid = m.xid; is_reply = false }) m.head (args_items m.args)
+call_xid_is m = call_xid (record { xid = m.xid; is_reply = false }) (call_head_items m.head) (args_items m.args)

@@ -11,6 +11,7 @@ pub mod Sides
 pub mod Layouts
 pub mod Bodies
 pub mod Spelled
+pub mod MessageScanLemmas
 pub mod Converses
 pub mod Resumptions
 pub mod Openings

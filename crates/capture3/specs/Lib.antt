@@ -27,3 +27,4 @@ pub mod Kept
 pub mod Spelled
 pub mod Judges
 pub mod Entries
+pub mod MessageScan

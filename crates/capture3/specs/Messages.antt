@@ -1,11 +1,13 @@
 -- The items of whole messages as values, and what judging a body answers.
-use Rattle.std.specs.Prelude.{◌≡◌, ℕ, true, false, List, [], Option, Some, None, Result, Ok, Err}
+use Rattle.std.specs.Prelude.{◌≡◌, ℕ, Bool, true, false, if◌then◌else◌, List, [], Option, Some, None, Result, Ok, Err}
 use Rattle.xdr3.specs.declared.reason.GetError.{GetError}
 use Rattle.xdr3.specs.declared.reason.GetError.TheVariants.{Stop}
 use Rattle.xdr3.specs.declared.reason.Stop as stops
 use Rattle.xdr3.specs.Item.{Item, followed_by}
-use Rattle.xdr3.specs.Layout.{Layout, reading_layout}
+use Rattle.xdr3.specs.Layout.{Layout, exactly, reading_layout}
 use Rattle.xdr3.specs.Reading.{Outcome}
+use Rattle.xdr3.specs.Shape.{nothing}
+use Rattle.rpc_head.specs.declared.call.ProcId.{ProcId}
 use Rattle.rpc_head.specs.declared.reply.Accept.TheVariants.{Success, ProgUnavail, ProgMismatch, ProcUnavail, GarbageArgs, SystemErr}
 use Rattle.rpc_head.specs.declared.reply.ReplyHead.{ReplyHead}
 use Rattle.rpc_head.specs.declared.reply.ReplyHead.TheVariants.{Accepted, Denied}
@@ -14,6 +16,7 @@ use Rattle.rpc_head.specs.Replies.{reply_head_items}
 use Rattle.rpc_head.specs.Starts.{start_items}
 use Rattle.procs3.specs.declared.results.Results.{Results}
 use Rattle.procs3.specs.Items.{args_items, results_items}
+use Rattle.procs3.specs.Table.{results_of}
 use Rattle.capture3.specs.declared.calls.NumberedCall.{NumberedCall}
 use Rattle.capture3.specs.declared.message.CallMsg.{CallMsg}
 use Rattle.capture3.specs.declared.message.ReplyMsg.{ReplyMsg}
@@ -44,6 +47,10 @@ reading_behind (Accepted verf ProcUnavail) results body at = Ok ([], at)
 reading_behind (Accepted verf GarbageArgs) results body at = Ok ([], at)
 reading_behind (Accepted verf SystemErr) results body at = Ok ([], at)
 reading_behind (Denied deny) results body at = Ok ([], at)
+
+-- what is laid out after a reply's head: the results of an accepted success, and nothing after any other head
+abbrev pub results_after : Bool → ProcId → Layout
+results_after success id = if success then results_of id else exactly nothing
 
 -- the message that judging gives, or its fault, unless memory ran out
 abbrev pub Judged : {M X : Type 0} → (M → X) → Result M GetError → Result X stops.Stop → Type 0

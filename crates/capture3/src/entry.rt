@@ -1,16 +1,19 @@
 // The entries of a capture.
 
-ghost use Rattle.std.specs.Prelude.{◌≡◌, ◌≤◌, length, IfOk};
+ghost use Rattle.std.specs.Prelude.{◌≡◌, ◌≤◌, List, length, IfOk, OnOk};
 ghost use Rattle.record_mark.specs.RecordMark.{max_body};
-ghost use Rattle.capture3.specs.Bodies.{IsCall, IsReply};
+ghost use Rattle.xdr3.specs.Item.{Item};
+ghost use Rattle.capture3.specs.Bodies.{IsCall, IsReply, xid_in};
+ghost use Rattle.capture3.specs.MessageScan.{TellsCall, TellsReply};
 ghost use Rattle.capture3.specs.Messages.{answered_items, call_items};
 ghost use Rattle.capture3.specs.Spelled.{SpellsCall, SpellsReply};
 
 use crate::calls::NumberedCall;
 use crate::message::{CallMsg, ReplyMsg, judge_call, judge_reply};
+use crate::message_scan::{scan_call, scan_reply};
 use rpc_head::{ProcId, start};
 use std::alloc::{AllocError, Global};
-use xdr3::{GetError, Input};
+use xdr3::{GetError, Input, Visit};
 
 /// A call that outlives its record: its procedure, and the body that spells it.
 #[derive(Drop)]
@@ -43,6 +46,28 @@ pub enum Entry {
 }
 
 impl KeptCall {
+    /// The xid (RFC 5531, section 9).
+    pub fn xid(&self) -> u32
+        ensures { (items : List Item) → IsCall self.now.body.items items → result ≡ xid_in items }
+    {
+        let Ok(start) = start(&mut Input::new(&self.body)) else {
+            unreachable!()
+        };
+        start.xid
+    }
+
+    /// Tells a visitor the items of the call, in one pass over its body. It fails only where no memory
+    /// was to be had, and then what the visitor holds is open.
+    pub fn scan<V: Visit>(&self, visitor: &mut V) -> Result<(), AllocError>
+        ensures { OnOk result (TellsCall V.stands self.now.body.items visitor.old visitor.new) }
+    {
+        match scan_call(&None::<NumberedCall>, &self.body, visitor) {
+            Ok(_) => Ok(()),
+            Err(GetError::Memory) => Err(AllocError),
+            Err(GetError::Stop(_)) => unreachable!(),
+        }
+    }
+
     /// The call that the body spells. It fails only where no memory was to be had.
     pub fn read(&self, alloc: Global) -> Result<CallMsg<'_>, AllocError>
         ensures call { IfOk result (λ call. IsCall self.now.body.items (call_items call)) }
@@ -57,22 +82,51 @@ impl KeptCall {
 }
 
 impl KeptReply {
+    /// The xid (RFC 5531, section 9).
+    pub fn xid(&self) -> u32
+        ensures { (items : List Item) → IsReply self.now.body.items (record { id = self.now.id; items = items })
+            → result ≡ xid_in items }
+    {
+        let Ok(start) = start(&mut Input::new(&self.body)) else {
+            unreachable!()
+        };
+        start.xid
+    }
+
+    /// Tells a visitor the items of the reply, in one pass over its body. It fails only where no memory
+    /// was to be had, and then what the visitor holds is open.
+    pub fn scan<V: Visit>(&self, visitor: &mut V) -> Result<(), AllocError>
+        ensures { OnOk result
+            (TellsReply V.stands self.now.body.items self.now.id visitor.old visitor.new) }
+    {
+        match scan_reply(&Some(self.answered()), &self.body, visitor) {
+            Ok(_) => Ok(()),
+            Err(GetError::Memory) => Err(AllocError),
+            Err(GetError::Stop(_)) => unreachable!(),
+        }
+    }
+
     /// The reply that the body spells. It fails only where no memory was to be had.
     pub fn read(&self, alloc: Global) -> Result<ReplyMsg<'_>, AllocError>
         ensures reply { IfOk result (λ reply. IsReply self.now.body.items (answered_items reply)) }
         ensures procedure { IfOk result (λ reply. reply.id ≡ self.now.id) }
     {
-        let Ok(start) = start(&mut Input::new(&self.body)) else {
-            unreachable!()
-        };
-        let call = NumberedCall {
-            xid: start.xid,
-            id: self.id,
-        };
-        match judge_reply(alloc, &Some(call), &self.body) {
+        match judge_reply(alloc, &Some(self.answered()), &self.body) {
             Ok(reply) => Ok(reply),
             Err(GetError::Memory) => Err(AllocError),
             Err(GetError::Stop(_)) => unreachable!(),
+        }
+    }
+
+    /// The call that it answers.
+    fn answered(&self) -> NumberedCall
+        ensures id { result.id ≡ self.now.id }
+        ensures xid { (items : List Item) → IsReply self.now.body.items (record { id = self.now.id; items = items })
+            → result.xid ≡ xid_in items }
+    {
+        NumberedCall {
+            xid: self.xid(),
+            id: self.id,
         }
     }
 }

@@ -17,8 +17,9 @@ use crate::calls::CallTable;
 use crate::container::Container;
 use crate::entry::{Entry, KeptCall, KeptReply};
 use crate::fault::{Error, Place, Side};
-use crate::message::{judge_call, judge_reply};
+use crate::message_scan::{scan_call, scan_reply};
 use crate::position::{Event, Spot};
+use crate::silent::Silent;
 use std::alloc::Global;
 use xdr3::{GetError, Reason};
 
@@ -130,14 +131,14 @@ impl<C: CallTable + Drop> Capture<C> {
         ensures device { IfErr result IsOfBytes }
     {
         let body = self.container.body();
-        let (xid, id) = match judge_call(alloc, &self.calls, body) {
-            Ok(call) => (call.xid, call.head.id),
+        let call = match scan_call(&self.calls, body, &mut Silent) {
+            Ok(call) => call,
             Err(error) => return Err(self.record_error(Side::Client, error)),
         };
         let body = Vec::from_slice(alloc, body)?;
-        self.calls.add(xid, id)?;
+        self.calls.add(call.xid, call.id)?;
         self.container.clear_record();
-        Ok(KeptCall { id, body })
+        Ok(KeptCall { id: call.id, body })
     }
 
     /// The reply that is whole.
@@ -151,8 +152,8 @@ impl<C: CallTable + Drop> Capture<C> {
         ensures device { IfErr result IsOfBytes }
     {
         let body = self.container.body();
-        let id = match judge_reply(alloc, &self.calls, body) {
-            Ok(reply) => reply.id,
+        let id = match scan_reply(&self.calls, body, &mut Silent) {
+            Ok(id) => id,
             Err(error) => return Err(self.record_error(Side::Server, error)),
         };
         let body = Vec::from_slice(alloc, body)?;

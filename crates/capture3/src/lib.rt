@@ -11,9 +11,11 @@ mod hashers;
 mod judging;
 pub mod laws;
 mod message;
+mod message_scan;
 mod packing;
 mod plan;
 mod position;
+mod silent;
 mod source;
 #[cfg(test)]
 mod tests;

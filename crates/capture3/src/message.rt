@@ -112,7 +112,7 @@ fn results_after<'a>(
     }
 }
 
-fn stop(at: u32, reason: Reason) -> GetError
+pub(crate) fn stop(at: u32, reason: Reason) -> GetError
     ensures { result ≡ GetError.Stop (record { at = at; reason = reason }) }
 {
     GetError::Stop(Stop { at, reason })

@@ -13,7 +13,7 @@ use Rattle.capture3.specs.declared.entry.Entry.TheVariants as variants
 use Rattle.capture3.specs.declared.entry.KeptCall.{KeptCall}
 use Rattle.capture3.specs.declared.entry.KeptReply.{KeptReply}
 use Rattle.capture3.specs.declared.fault.Error.{Error}
-use Rattle.capture3.specs.Bodies.{IsCall}
+use Rattle.capture3.specs.Bodies.{IsCall, IsReply, xid_in}
 use Rattle.capture3.specs.Entry.{Entry, Begin, Call, Turn, Reply, Close, End}
 use Rattle.capture3.specs.Kept.{IsKept}
 use Rattle.listing3.specs.declared.line_writer.LineWriter.{LineWriter}
@@ -27,6 +27,7 @@ use Rattle.canon3.specs.Summing.{all_items, AreCounted}
 use Rattle.canon3.specs.Values.{items_of}
 use Rattle.canon3.specs.Written.{AppendsFront}
 use Rattle.listing3.proofs.ListingLemmas.{shown_push}
+use Rattle.canon3.proofs.Messages.{is_headed_call, is_headed_reply}
 use Rattle.canon3.proofs.Summing.{items_behind}
 use Rattle.canon3.proofs.Written.{front_of_second}
 
@@ -78,6 +79,20 @@ module _ {E : Type 0} (connection : ℕ) (side : List ℕ) (number xid : ℕ) (i
   pub within_ok : (r : Result ℕ E) → IfOk r (λ skip. skip ≡ length (xid_text xid)) → IfOk r (λ skip. skip ≤ length text)
   within_ok (Ok skip) skip_is = within xid all begins.0 text skip begins.1 text_is skip_is
   within_ok (Err e) skip_is = tt
+
+-- ---- a message begins with its xid
+
+pub call_first : (body : List ℕ) (xid : ℕ) (items : List Item) → IsCall body items → xid ≡ xid_in items → (rest : List Item) × (items ≡ Word names.xid xid ∷ rest)
+call_first body xid items is same =
+    let h = is_headed_call items is.0 in
+    let rest = (h.start ++ h.head) ++ h.back in
+    (rest, subst (λ n. items ≡ Word names.xid n ∷ rest) (sym (same ∙ ap xid_in h.is)) h.is)
+
+pub reply_first : (id : ProcId) (body : List ℕ) (xid : ℕ) (items : List Item) → IsReply body (record { id = id; items = items }) → xid ≡ xid_in items → (rest : List Item) × (items ≡ Word names.xid xid ∷ rest)
+reply_first id body xid items is same =
+    let h = is_headed_reply id items is.0 in
+    let rest = (h.start ++ h.head) ++ h.back in
+    (rest, subst (λ n. items ≡ Word names.xid n ∷ rest) (sym (same ∙ ap xid_in h.is)) h.is)
 
 -- ---- a kept entry's line
 

@@ -2,9 +2,7 @@
 
 ghost use Rattle.std.specs.Prelude.{◌≡◌, ◌≤◌, ◌++◌, ◌∷◌, ℕ, List, [], codes, decimal, length, IfErr, IfOk, OnErr, OnOk};
 ghost use Rattle.std.specs.Io.KnownBytes.{Appends};
-ghost use Rattle.xdr3.specs.Item.{Item, Word};
-ghost use Rattle.xdr3.specs.Visit.{AreWithinLimit};
-ghost use Rattle.rpc_head.specs.Names.{names};
+ghost use Rattle.xdr3.specs.Item.{Item};
 ghost use Rattle.capture3.specs.Bodies.{IsCall, IsReply};
 ghost use Rattle.capture3.specs.Device as devices;
 ghost use Rattle.capture3.specs.Entry as spec;
@@ -14,7 +12,7 @@ ghost use Rattle.canon3.specs.Progress.{progress_after};
 ghost use Rattle.canon3.specs.Values.{items_of};
 ghost use Rattle.canon3.specs.Writing.{CountsWriting, IsOfWriting};
 ghost use Rattle.canon3.specs.Written.{AppendsFront};
-ghost use Rattle.listing3.specs.LineWriter.{HasListed, listing_steps, pieces};
+ghost use Rattle.listing3.specs.LineWriter.{HasListed, IsTextOf, listing_steps, pieces};
 ghost use Rattle.listing3.specs.Listing.{client, entry_line, line, opening, prefix, procedure_name, server};
 
 use crate::item_text::ItemText;
@@ -25,7 +23,6 @@ use procs3::proc_name;
 use rpc_head::ProcId;
 use std::alloc::{AllocError, Global};
 use std::hash::BuildHasher;
-use xdr3::Walk;
 
 /// A writer of one line for each message.
 #[derive(Drop)]
@@ -117,27 +114,19 @@ impl<S: BuildHasher + Drop> LineWriter<S> {
         }
     }
 
-    /// Composes the line of a message, and gives how many bytes of its items' text are left out.
-    fn compose<M: Walk>(
-        &mut self,
-        side: &'static str,
-        xid: u32,
-        id: ProcId,
-        message: &M,
-    ) -> Result<usize, AllocError>
-        requires within { AreWithinLimit (M.items message.now) }
-        requires begins { (rest : List Item) × (M.items message.now ≡ Word names.xid xid ∷ rest) }
+    /// Composes the line of the message whose items' text is there, and gives how many bytes of this text
+    /// are left out.
+    fn compose(&mut self, side: &'static str, xid: u32, id: ProcId) -> Result<usize, AllocError>
         ensures kept { (self.new.counts ≡ self.old.counts) ×
-            (self.new.progress ≡ self.old.progress) ×
-            (self.new.handles ≡ self.old.handles) }
-        ensures within { IfOk result (λ skip. skip ≤ length self.new.items) }
-        ensures line { IfOk result
+            (self.new.progress ≡ self.old.progress) × (self.new.handles ≡ self.old.handles) }
+        ensures within { (items : List Item) → IsTextOf xid items self.old.items
+            → IfOk result (λ skip. skip ≤ length self.new.items) }
+        ensures line { (items : List Item) → IsTextOf xid items self.old.items
+            → IfOk result
             (λ skip. pieces self.new.head.items self.new.items skip ≡ line
             self.old.progress.connections side.now self.old.progress.records id
-            (M.items message.now)) }
+            items) }
     {
-        self.items.forget();
-        message.walk(&mut self.items)?;
         self.items.end_line()?;
         self.head.clear();
         push_head(
@@ -149,7 +138,7 @@ impl<S: BuildHasher + Drop> LineWriter<S> {
         )
     }
 
-    fn compose_call(&mut self, alloc: Global, call: &KeptCall) -> Result<usize, AllocError>
+    fn compose_call(&mut self, call: &KeptCall) -> Result<usize, AllocError>
         ensures kept { (self.new.counts ≡ self.old.counts) ×
             (self.new.progress ≡ self.old.progress) }
         ensures within { IfOk result (λ skip. skip ≤ length self.new.items) }
@@ -162,12 +151,13 @@ impl<S: BuildHasher + Drop> LineWriter<S> {
             self.old.progress.connections client self.old.progress.records call.now.id
             items) }
     {
-        let message = call.read(alloc)?;
-        message.walk(&mut self.handles)?;
-        self.compose("client", message.xid, call.id, &message)
+        call.scan(&mut self.handles)?;
+        self.items.forget();
+        call.scan(&mut self.items)?;
+        self.compose("client", call.xid(), call.id)
     }
 
-    fn compose_reply(&mut self, alloc: Global, reply: &KeptReply) -> Result<usize, AllocError>
+    fn compose_reply(&mut self, reply: &KeptReply) -> Result<usize, AllocError>
         ensures kept { (self.new.counts ≡ self.old.counts) ×
             (self.new.progress ≡ self.old.progress) }
         ensures within { IfOk result (λ skip. skip ≤ length self.new.items) }
@@ -182,9 +172,10 @@ impl<S: BuildHasher + Drop> LineWriter<S> {
             self.old.progress.connections server self.old.progress.records reply.now.id
             items) }
     {
-        let message = reply.read(alloc)?;
-        message.walk(&mut self.handles)?;
-        self.compose("server", message.xid, reply.id, &message)
+        reply.scan(&mut self.handles)?;
+        self.items.forget();
+        reply.scan(&mut self.items)?;
+        self.compose("server", reply.xid(), reply.id)
     }
 
     /// Hands the composed line to a sink.
@@ -205,12 +196,7 @@ impl<S: BuildHasher + Drop> LineWriter<S> {
         }
     }
 
-    fn write_call<W: Sink>(
-        &mut self,
-        alloc: Global,
-        sink: &mut W,
-        call: &KeptCall,
-    ) -> Result<(), Error>
+    fn write_call<W: Sink>(&mut self, sink: &mut W, call: &KeptCall) -> Result<(), Error>
         ensures kept { (self.new.counts ≡ self.old.counts) ×
             (self.new.progress ≡ self.old.progress) }
         ensures gathers { (items before : List Item) → IsCall call.now.body.items items
@@ -229,16 +215,11 @@ impl<S: BuildHasher + Drop> LineWriter<S> {
         ensures count { CountsWriting (W.failures sink.old) (W.failures sink.new) result }
         ensures error { IfErr result IsOfWriting }
     {
-        let skip = self.compose_call(alloc, call)?;
+        let skip = self.compose_call(call)?;
         self.hand_over(sink, skip)
     }
 
-    fn write_reply<W: Sink>(
-        &mut self,
-        alloc: Global,
-        sink: &mut W,
-        reply: &KeptReply,
-    ) -> Result<(), Error>
+    fn write_reply<W: Sink>(&mut self, sink: &mut W, reply: &KeptReply) -> Result<(), Error>
         ensures kept { (self.new.counts ≡ self.old.counts) ×
             (self.new.progress ≡ self.old.progress) }
         ensures gathers { (items before : List Item)
@@ -260,17 +241,12 @@ impl<S: BuildHasher + Drop> LineWriter<S> {
         ensures count { CountsWriting (W.failures sink.old) (W.failures sink.new) result }
         ensures error { IfErr result IsOfWriting }
     {
-        let skip = self.compose_reply(alloc, reply)?;
+        let skip = self.compose_reply(reply)?;
         self.hand_over(sink, skip)
     }
 
     /// Writes the line of an entry that is a message.
-    fn write_line<W: Sink>(
-        &mut self,
-        alloc: Global,
-        sink: &mut W,
-        entry: &Entry,
-    ) -> Result<(), Error>
+    fn write_line<W: Sink>(&mut self, sink: &mut W, entry: &Entry) -> Result<(), Error>
         ensures kept { (self.new.counts ≡ self.old.counts) ×
             (self.new.progress ≡ self.old.progress) }
         ensures gathers { (one : spec.Entry) (before : List Item) → IsKept entry.now one
@@ -292,8 +268,8 @@ impl<S: BuildHasher + Drop> LineWriter<S> {
         ensures error { IfErr result IsOfWriting }
     {
         match entry {
-            Entry::Call(call) => self.write_call(alloc, sink, call),
-            Entry::Reply(reply) => self.write_reply(alloc, sink, reply),
+            Entry::Call(call) => self.write_call(sink, call),
+            Entry::Reply(reply) => self.write_reply(sink, reply),
             Entry::Begin | Entry::Turn | Entry::Close | Entry::End => Ok(()),
         }
     }
@@ -309,10 +285,10 @@ impl<S: BuildHasher + Drop> EntryWriter for LineWriter<S> {
 
     ghost steps = { listing_steps };
 
-    fn write<W: Sink>(&mut self, alloc: Global, sink: &mut W, entry: &Entry) -> Result<(), Error> {
+    fn write<W: Sink>(&mut self, sink: &mut W, entry: &Entry) -> Result<(), Error> {
         self.counts.add(entry);
         self.progress.pass(entry);
-        self.write_line(alloc, sink, entry)
+        self.write_line(sink, entry)
     }
 
     fn summary(&self) -> Summary {

@@ -1,26 +1,20 @@
 -- A message is read as its parts are: its first two words, its head, and what the head chooses.
 use Rattle.std.proofs.Common.{◌≡◌, ℕ, Bool, true, false, cond, List, [], ◌∷◌, ◌++◌, Ok, Err, refl, sym, ap, subst, ◌∙◌}
-use Rattle.xdr3.specs.declared.reason.Reason.TheVariants.{BadEnum}
+use Rattle.xdr3.specs.declared.reason.Reason.TheVariants.{BadEnum, RpcVersion}
 use Rattle.xdr3.specs.declared.reason.Stop.{Stop}
-use Rattle.xdr3.specs.Item.{Item, Word, followed_by}
+use Rattle.xdr3.specs.Item.{Item, Word}
 use Rattle.xdr3.specs.Layout.{Layout, after, exactly, reading_layout}
 use Rattle.xdr3.specs.Reading.{◌>>=◌, number_at, reading, refused, word_at}
 use Rattle.xdr3.specs.Shape.{Shape, both, choose, is_any, is_listed, listed, nothing, word}
 use Rattle.xdr3.specs.View.{word_of}
 use Rattle.xdr3.proofs.Bytes.{accept_ok, bind_ok, ok_is}
 use Rattle.xdr3.proofs.Linked.{with_front}
-use Rattle.rpc_head.specs.declared.call.CallHead.{CallHead}
 use Rattle.rpc_head.specs.declared.call.ProcId.{ProcId}
 use Rattle.rpc_head.specs.declared.message.Start.{Start}
-use Rattle.rpc_head.specs.declared.reply.Accept.TheVariants.{Success, ProgUnavail, ProgMismatch, ProcUnavail, GarbageArgs, SystemErr}
-use Rattle.rpc_head.specs.declared.reply.Deny.TheVariants.{RpcMismatch, AuthError}
-use Rattle.rpc_head.specs.declared.reply.ReplyHead.{ReplyHead}
-use Rattle.rpc_head.specs.declared.reply.ReplyHead.TheVariants.{Accepted, Denied}
-use Rattle.rpc_head.specs.Calls.{call_head_items}
+use Rattle.rpc_head.specs.HeadScan.{procedure_told, tells_success}
 use Rattle.rpc_head.specs.Messages.{call_layout, call_start, has_results, procedure_in, reply_layout, reply_start}
 use Rattle.rpc_head.specs.Names.{names}
-use Rattle.rpc_head.specs.Replies.{reply_head_items}
-use Rattle.rpc_head.specs.Shapes.{◌then◌, call_head, message_start, message_types, reply_head}
+use Rattle.rpc_head.specs.Shapes.{◌then◌, call_head, credential, message_start, message_types, reply_head, rpc_versions, verifier}
 use Rattle.rpc_head.specs.Starts.{start_items}
 
 -- ---- the first two words
@@ -80,10 +74,34 @@ head_refused start head next body xs stop at then_at x y = rw (x, y) refl
 
 -- ---- calls
 
-pub call_read : (arguments : ProcId → Layout) (body : List ℕ) (s : Start) (h : CallHead) (at head end : ℕ) → reading message_start body at ≡ Ok (start_items s, head) → s.is_reply ≡ false → reading call_head body head ≡ Ok (call_head_items h, end) → reading_layout (call_layout arguments) body at ≡ with_front (start_items s ++ call_head_items h) (reading_layout (arguments h.id) body end)
-unfolding call_layout followed_by
-call_read arguments body s h at head end start is read =
-    layout_read call_start call_head (λ items. arguments (procedure_in items)) body (start_items s) (call_head_items h) at head end (call_started body s at head start is) read
+then_word : (name : List ℕ) (b : Shape) (body : List ℕ) (at : ℕ) (z : List Item × ℕ) → reading (both (word name) b) body at ≡ Ok z → (n : ℕ) × (y : List Item × ℕ) × (to : ℕ) × (reading b body to ≡ Ok y) × (z.0 ≡ Word name n ∷ y.0)
+then_word name b body at z e =
+    let r = both_read (word name) b body at z e in
+    let o = one_read name is_any body at r.0 r.2 in
+    (o.0.0, r.1, r.0.1, r.3, ap (λ (v : List Item × ℕ). v.0) (sym r.4) ∙ ap (λ (v : List Item × ℕ). v.0 ++ r.1.0) (sym o.2))
+
+-- what follows a call's head changes nothing of its procedure
+pub procedure_read : (body : List ℕ) (xs more : List Item) (at to : ℕ) → reading call_head body at ≡ Ok (xs, to) → procedure_told (xs ++ more) ≡ procedure_told xs
+unfolding reading call_head
+procedure_read body xs more at to e =
+    let last = credential then verifier in
+    let n = bind_ok (word_at (is_listed rpc_versions) RpcVersion body at) (λ n. reading (word names.prog then word names.vers then word names.proc then last) body n.1 >>= λ l. Ok (Word names.rpcvers n.0 ∷ l.0, l.1)) (xs, to) e in
+    let m = bind_ok (reading (word names.prog then word names.vers then word names.proc then last) body n.0.1) (λ l. Ok (Word names.rpcvers n.0.0 ∷ l.0, l.1)) (xs, to) n.2 in
+    let all = ok_is (Word names.rpcvers n.0.0 ∷ m.0.0, m.0.1) (xs, to) m.2 in
+    let prog = then_word names.prog (word names.vers then word names.proc then last) body n.0.1 m.0 m.1 in
+    let vers = then_word names.vers (word names.proc then last) body prog.2 prog.1 prog.3 in
+    let proc = then_word names.proc last body vers.2 vers.1 vers.3 in
+    let are : Word names.rpcvers n.0.0 ∷ Word names.prog prog.0 ∷ Word names.vers vers.0 ∷ Word names.proc proc.0 ∷ proc.1.0 ≡ xs =
+    ap (λ (l : List Item). Word names.rpcvers n.0.0 ∷ Word names.prog prog.0 ∷ Word names.vers vers.0 ∷ l) (sym proc.4)
+    ∙ ap (λ (l : List Item). Word names.rpcvers n.0.0 ∷ Word names.prog prog.0 ∷ l) (sym vers.4)
+    ∙ ap (λ (l : List Item). Word names.rpcvers n.0.0 ∷ l) (sym prog.4)
+    ∙ ap (λ (v : List Item × ℕ). v.0) all in
+    subst (λ (l : List Item). procedure_told (l ++ more) ≡ procedure_told l) are refl
+
+pub call_read : (arguments : ProcId → Layout) (body : List ℕ) (s : Start) (xs : List Item) (at head end : ℕ) → reading message_start body at ≡ Ok (start_items s, head) → s.is_reply ≡ false → reading call_head body head ≡ Ok (xs, end) → reading_layout (call_layout arguments) body at ≡ with_front (start_items s ++ xs) (reading_layout (arguments (procedure_told xs)) body end)
+unfolding call_layout
+call_read arguments body s xs at head end start is read =
+    layout_read call_start call_head (λ items. arguments (procedure_in items)) body (start_items s) xs at head end (call_started body s at head start is) read
 
 pub call_head_refused : (arguments : ProcId → Layout) (body : List ℕ) (s : Start) (stop : Stop) (at head : ℕ) → reading message_start body at ≡ Ok (start_items s, head) → s.is_reply ≡ false → reading call_head body head ≡ Err stop → reading_layout (call_layout arguments) body at ≡ Err stop
 unfolding call_layout
@@ -92,32 +110,10 @@ call_head_refused arguments body s stop at head start is read =
 
 -- ---- replies
 
--- what is laid out behind a head: the results of an accepted success
-unfoldable pub results_behind : ReplyHead → Layout → Layout
-results_behind (Accepted verf Success) results = results
-results_behind (Accepted verf ProgUnavail) results = exactly nothing
-results_behind (Accepted verf (ProgMismatch low high)) results = exactly nothing
-results_behind (Accepted verf ProcUnavail) results = exactly nothing
-results_behind (Accepted verf GarbageArgs) results = exactly nothing
-results_behind (Accepted verf SystemErr) results = exactly nothing
-results_behind (Denied deny) results = exactly nothing
-
-chosen_results : (s : Start) (h : ReplyHead) (results : Layout) → cond (has_results (start_items s ++ reply_head_items h)) results (exactly nothing) ≡ results_behind h results
-unfolding followed_by results_behind
-chosen_results s (Accepted verf Success) results = refl
-chosen_results s (Accepted verf ProgUnavail) results = refl
-chosen_results s (Accepted verf (ProgMismatch low high)) results = refl
-chosen_results s (Accepted verf ProcUnavail) results = refl
-chosen_results s (Accepted verf GarbageArgs) results = refl
-chosen_results s (Accepted verf SystemErr) results = refl
-chosen_results s (Denied (RpcMismatch low high)) results = refl
-chosen_results s (Denied (AuthError stat)) results = refl
-
-pub reply_read : (results : Layout) (body : List ℕ) (s : Start) (h : ReplyHead) (at head end : ℕ) → reading message_start body at ≡ Ok (start_items s, head) → s.is_reply ≡ true → reading reply_head body head ≡ Ok (reply_head_items h, end) → reading_layout (reply_layout results) body at ≡ with_front (start_items s ++ reply_head_items h) (reading_layout (results_behind h results) body end)
+pub reply_read : (results : Layout) (body : List ℕ) (s : Start) (xs : List Item) (at head end : ℕ) → reading message_start body at ≡ Ok (start_items s, head) → s.is_reply ≡ true → reading reply_head body head ≡ Ok (xs, end) → reading_layout (reply_layout results) body at ≡ with_front (start_items s ++ xs) (reading_layout (cond (tells_success xs) results (exactly nothing)) body end)
 unfolding reply_layout
-reply_read results body s h at head end start is read =
-    layout_read reply_start reply_head (λ items. cond (has_results items) results (exactly nothing)) body (start_items s) (reply_head_items h) at head end (reply_started body s at head start is) read
-    ∙ ap (λ (l : Layout). with_front (start_items s ++ reply_head_items h) (reading_layout l body end)) (chosen_results s h results)
+reply_read results body s xs at head end start is read =
+    layout_read reply_start reply_head (λ items. cond (has_results items) results (exactly nothing)) body (start_items s) xs at head end (reply_started body s at head start is) read
 
 pub reply_head_refused : (results : Layout) (body : List ℕ) (s : Start) (stop : Stop) (at head : ℕ) → reading message_start body at ≡ Ok (start_items s, head) → s.is_reply ≡ true → reading reply_head body head ≡ Err stop → reading_layout (reply_layout results) body at ≡ Err stop
 unfolding reply_layout

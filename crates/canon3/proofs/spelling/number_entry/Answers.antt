@@ -13,10 +13,10 @@ returns-in-Begin g c one hs vs xs kept h turn =
 
 pub returns-in-Ok : goal.returns-in-Ok
 returns-in-Ok g c one hs vs xs kept h turn =
-    kept_call (λ (e : Entry). HasSpelled c.number_call.new.numbering Message hs vs xs e) c.args.entry.now one kept c.in-Call.call c.in-Call.is
-    (λ items is. call_spelled c.number_call.new.numbering hs vs xs items (c.in-Ok.ensures.holds items hs vs xs is h) (c.in-Ok.ensures.written items hs vs xs is h))
+    kept_call (λ (e : Entry). HasSpelled c.call.new.self Message hs vs xs e) c.args.entry.now one kept c.in-Call.call c.in-Call.is
+    (λ items is. call_spelled c.call.new.self hs vs xs items (c.in-Ok.ensures.holds items hs vs xs is h) (c.in-Ok.ensures.written items hs vs xs is h))
 
-pub returns-in-Ok-number_reply : goal.returns-in-Ok-number_reply
-returns-in-Ok-number_reply g c one hs vs xs kept h turn =
-    kept_reply (λ (e : Entry). HasSpelled c.number_reply.new.numbering Message hs vs xs e) c.args.entry.now one kept c.in-Reply.reply c.in-Reply.is
-    (λ items is this. reply_spelled c.number_reply.new.numbering hs vs xs c.in-Reply.reply.id items (c.in-Ok-number_reply.ensures.holds items hs vs xs is h (subst (IsInTurn xs) this turn)) (c.in-Ok-number_reply.ensures.written items hs vs xs is h (subst (IsInTurn xs) this turn)))
+pub returns-in-Ok-reply : goal.returns-in-Ok-reply
+returns-in-Ok-reply g c one hs vs xs kept h turn =
+    kept_reply (λ (e : Entry). HasSpelled c.reply.new.self Message hs vs xs e) c.args.entry.now one kept c.in-Reply.reply c.in-Reply.is
+    (λ items is this. reply_spelled c.reply.new.self hs vs xs c.in-Reply.reply.id items (c.in-Ok-reply.ensures.holds items hs vs xs is h (subst (IsInTurn xs) this turn)) (c.in-Ok-reply.ensures.written items hs vs xs is h (subst (IsInTurn xs) this turn)))

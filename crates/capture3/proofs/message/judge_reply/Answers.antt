@@ -7,8 +7,10 @@ use Rattle.capture3.specs.Bodies.{procedure_of}
 use Rattle.capture3.specs.Messages.{answered_items, behind_items}
 use Rattle.xdr3.specs.Item.{Item, Word}
 use Rattle.rpc_head.specs.declared.call.ProcId.{ProcId}
+use Rattle.rpc_head.specs.HeadScan.{tells_success}
+use Rattle.rpc_head.specs.Replies.{reply_head_items}
 use Rattle.capture3.proofs.Bodies.{the_replies}
-use Rattle.capture3.proofs.Judgements.{ReplyBegins, error_judged, not_false, not_true, refusal_judged, reply_accepted, reply_bad_head, reply_bad_results, reply_bad_start, reply_trails, reply_unasked, reply_wrong_side, stop_judged, whole_reply}
+use Rattle.capture3.proofs.Judgements.{ReplyBegins, error_judged, not_false, not_true, refusal_judged, reply_accepted, reply_bad_head, reply_bad_results, reply_bad_start, reply_trails, reply_unasked, reply_wrong_side, results_are, stop_judged, whole_reply}
 use Rattle.capture3.proofs.message.judge_reply.Goals as goal
 
 pub returns-in_err-start-clause-judged : goal.returns-in_err-start-clause-judged
@@ -43,10 +45,10 @@ returns-in_err-results-clause-judged g c before table =
     let body : c.start.new.input.body ≡ c.args.body.now = c.in_ok-start.ensures.moves.same_body ∙ c.new-input.ensures.body in
     let behind : c.get.new.input.body ≡ c.args.body.now = c.in_ok-head.ensures.moves.same_body ∙ body in
     let asked : procedure_of before c.in_ok-start.start.xid ≡ Some c.in-Some.id = sym (table c.in_ok-start.start.xid) ∙ sym c.procedure_of.ensures ∙ c.in-Some.is in
-    let begins : ReplyBegins before c.args.body.now c.in_ok-start.start c.in-Some.id c.in_ok-head.head c.start.new.input.at c.get.new.input.at =
-    record { start = start; is_reply = not_false c.in_ok-start.start.is_reply c.if-not-start.false; asked = asked; read = rw body at c.in_ok-head.ensures.read } in
+    let begins : ReplyBegins before c.args.body.now c.in_ok-start.start c.in-Some.id (tells_success (reply_head_items c.in_ok-head.head)) (reply_head_items c.in_ok-head.head) c.start.new.input.at c.get.new.input.at =
+    record { start = start; is_reply = not_false c.in_ok-start.start.is_reply c.if-not-start.false; asked = asked; read = rw body at c.in_ok-head.ensures.read; told = refl } in
     error_judged answered_items _ _ c.in_err-results.field-0.0 c.from_residual-in_err-results.ensures.1
-    (λ stop is. reply_bad_results before c.args.body.now c.in_ok-start.start c.in-Some.id c.in_ok-head.head c.start.new.input.at c.get.new.input.at stop begins (rw behind at (c.in_err-results.ensures.read stop is)))
+    (λ stop is. reply_bad_results before c.args.body.now c.in_ok-start.start c.in-Some.id (tells_success (reply_head_items c.in_ok-head.head)) (reply_head_items c.in_ok-head.head) c.start.new.input.at c.get.new.input.at stop begins (results_are c.in_ok-head.head c.in-Some.id c.args.body.now c.get.new.input.at ∙ rw behind at (c.in_err-results.ensures.read stop is)))
 
 pub returns-in_err-end-clause-judged : goal.returns-in_err-end-clause-judged
 returns-in_err-end-clause-judged g c before table =
@@ -54,12 +56,12 @@ returns-in_err-end-clause-judged g c before table =
     let body : c.start.new.input.body ≡ c.args.body.now = c.in_ok-start.ensures.moves.same_body ∙ c.new-input.ensures.body in
     let behind : c.get.new.input.body ≡ c.args.body.now = c.in_ok-head.ensures.moves.same_body ∙ body in
     let asked : procedure_of before c.in_ok-start.start.xid ≡ Some c.in-Some.id = sym (table c.in_ok-start.start.xid) ∙ sym c.procedure_of.ensures ∙ c.in-Some.is in
-    let begins : ReplyBegins before c.args.body.now c.in_ok-start.start c.in-Some.id c.in_ok-head.head c.start.new.input.at c.get.new.input.at =
-    record { start = start; is_reply = not_false c.in_ok-start.start.is_reply c.if-not-start.false; asked = asked; read = rw body at c.in_ok-head.ensures.read } in
+    let begins : ReplyBegins before c.args.body.now c.in_ok-start.start c.in-Some.id (tells_success (reply_head_items c.in_ok-head.head)) (reply_head_items c.in_ok-head.head) c.start.new.input.at c.get.new.input.at =
+    record { start = start; is_reply = not_false c.in_ok-start.start.is_reply c.if-not-start.false; asked = asked; read = rw body at c.in_ok-head.ensures.read; told = refl } in
     let last : c.results_after.new.input.body ≡ c.args.body.now = c.in_ok-results.ensures.moves.same_body ∙ behind in
     let other : c.results_after.new.input.at ≢ length c.args.body.now = λ e. false≢true (c.in_err-end.ensures.ok.1 (e ∙ ap length (sym last))) in
     stop_judged answered_items _ _ c.in_err-end.field-0.0 c.from_residual-in_err-end.ensures.1
-    (reply_trails before c.args.body.now c.in_ok-start.start c.in-Some.id c.in_ok-head.head c.start.new.input.at c.get.new.input.at c.results_after.new.input.at (behind_items c.in_ok-results.results) begins (rw behind at c.in_ok-results.ensures.read) other
+    (reply_trails before c.args.body.now c.in_ok-start.start c.in-Some.id (tells_success (reply_head_items c.in_ok-head.head)) (reply_head_items c.in_ok-head.head) c.start.new.input.at c.get.new.input.at c.results_after.new.input.at (behind_items c.in_ok-results.results) begins (results_are c.in_ok-head.head c.in-Some.id c.args.body.now c.get.new.input.at ∙ rw behind at c.in_ok-results.ensures.read) other
     ∙ ap (λ (s : Stop). Err s) (sym c.in_err-end.ensures.err))
 
 pub returns-clause-judged : goal.returns-clause-judged
@@ -68,12 +70,12 @@ returns-clause-judged g c before table =
     let body : c.start.new.input.body ≡ c.args.body.now = c.in_ok-start.ensures.moves.same_body ∙ c.new-input.ensures.body in
     let behind : c.get.new.input.body ≡ c.args.body.now = c.in_ok-head.ensures.moves.same_body ∙ body in
     let asked : procedure_of before c.in_ok-start.start.xid ≡ Some c.in-Some.id = sym (table c.in_ok-start.start.xid) ∙ sym c.procedure_of.ensures ∙ c.in-Some.is in
-    let begins : ReplyBegins before c.args.body.now c.in_ok-start.start c.in-Some.id c.in_ok-head.head c.start.new.input.at c.get.new.input.at =
-    record { start = start; is_reply = not_false c.in_ok-start.start.is_reply c.if-not-start.false; asked = asked; read = rw body at c.in_ok-head.ensures.read } in
+    let begins : ReplyBegins before c.args.body.now c.in_ok-start.start c.in-Some.id (tells_success (reply_head_items c.in_ok-head.head)) (reply_head_items c.in_ok-head.head) c.start.new.input.at c.get.new.input.at =
+    record { start = start; is_reply = not_false c.in_ok-start.start.is_reply c.if-not-start.false; asked = asked; read = rw body at c.in_ok-head.ensures.read; told = refl } in
     let last : c.results_after.new.input.body ≡ c.args.body.now = c.in_ok-results.ensures.moves.same_body ∙ behind in
     let is : c.results_after.new.input.at ≡ length c.args.body.now = c.in_ok-end.ensures.ok.0 refl ∙ ap length last in
-    reply_accepted before c.args.body.now c.in_ok-start.start c.in-Some.id c.in_ok-head.head c.start.new.input.at c.get.new.input.at c.results_after.new.input.at (behind_items c.in_ok-results.results) begins (rw behind at c.in_ok-results.ensures.read) is
-    ∙ ap (λ (b : Bool). Ok (record { id = c.in-Some.id; items = whole_reply (record { xid = c.in_ok-start.start.xid; is_reply = b }) c.in_ok-head.head (behind_items c.in_ok-results.results) })) (not_false c.in_ok-start.start.is_reply c.if-not-start.false)
+    reply_accepted before c.args.body.now c.in_ok-start.start c.in-Some.id (tells_success (reply_head_items c.in_ok-head.head)) (reply_head_items c.in_ok-head.head) c.start.new.input.at c.get.new.input.at c.results_after.new.input.at (behind_items c.in_ok-results.results) begins (results_are c.in_ok-head.head c.in-Some.id c.args.body.now c.get.new.input.at ∙ rw behind at c.in_ok-results.ensures.read) is
+    ∙ ap (λ (b : Bool). Ok (record { id = c.in-Some.id; items = whole_reply (record { xid = c.in_ok-start.start.xid; is_reply = b }) (reply_head_items c.in_ok-head.head) (behind_items c.in_ok-results.results) })) (not_false c.in_ok-start.start.is_reply c.if-not-start.false)
 
 -- a call with this xid and this procedure
 abbrev pub call_of : ℕ → ProcId → List Item
@@ -90,10 +92,10 @@ returns-clause-reply g c =
     let behind : c.get.new.input.body ≡ c.args.body.now = c.in_ok-head.ensures.moves.same_body ∙ body in
     let calls : List (List Item) = call_of c.in_ok-start.start.xid c.in-Some.id ∷ [] in
     let asked : procedure_of calls c.in_ok-start.start.xid ≡ Some c.in-Some.id = asked_by c.in_ok-start.start.xid c.in-Some.id in
-    let begins : ReplyBegins calls c.args.body.now c.in_ok-start.start c.in-Some.id c.in_ok-head.head c.start.new.input.at c.get.new.input.at =
-    record { start = start; is_reply = not_false c.in_ok-start.start.is_reply c.if-not-start.false; asked = asked; read = rw body at c.in_ok-head.ensures.read } in
+    let begins : ReplyBegins calls c.args.body.now c.in_ok-start.start c.in-Some.id (tells_success (reply_head_items c.in_ok-head.head)) (reply_head_items c.in_ok-head.head) c.start.new.input.at c.get.new.input.at =
+    record { start = start; is_reply = not_false c.in_ok-start.start.is_reply c.if-not-start.false; asked = asked; read = rw body at c.in_ok-head.ensures.read; told = refl } in
     let last : c.results_after.new.input.body ≡ c.args.body.now = c.in_ok-results.ensures.moves.same_body ∙ behind in
     let is : c.results_after.new.input.at ≡ length c.args.body.now = c.in_ok-end.ensures.ok.0 refl ∙ ap length last in
     ((the_replies calls).accepted [] c.args.body.now _ (λ i. omega (arith, c.type_inv.body i))
-    (reply_accepted calls c.args.body.now c.in_ok-start.start c.in-Some.id c.in_ok-head.head c.start.new.input.at c.get.new.input.at c.results_after.new.input.at (behind_items c.in_ok-results.results) begins (rw behind at c.in_ok-results.ensures.read) is
-    ∙ ap (λ (b : Bool). Ok (record { id = c.in-Some.id; items = whole_reply (record { xid = c.in_ok-start.start.xid; is_reply = b }) c.in_ok-head.head (behind_items c.in_ok-results.results) })) (not_false c.in_ok-start.start.is_reply c.if-not-start.false))).0
+    (reply_accepted calls c.args.body.now c.in_ok-start.start c.in-Some.id (tells_success (reply_head_items c.in_ok-head.head)) (reply_head_items c.in_ok-head.head) c.start.new.input.at c.get.new.input.at c.results_after.new.input.at (behind_items c.in_ok-results.results) begins (results_are c.in_ok-head.head c.in-Some.id c.args.body.now c.get.new.input.at ∙ rw behind at c.in_ok-results.ensures.read) is
+    ∙ ap (λ (b : Bool). Ok (record { id = c.in-Some.id; items = whole_reply (record { xid = c.in_ok-start.start.xid; is_reply = b }) (reply_head_items c.in_ok-head.head) (behind_items c.in_ok-results.results) })) (not_false c.in_ok-start.start.is_reply c.if-not-start.false))).0

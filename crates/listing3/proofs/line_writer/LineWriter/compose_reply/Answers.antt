@@ -1,34 +1,31 @@
-use Rattle.std.proofs.Common.{List, ◌++◌, ◌≡◌, refl, subst, sym}
+use Rattle.std.proofs.Common.{List, [], ◌++◌, ◌≡◌, subst, sym}
 use Rattle.std.specs.Prelude.{IfOk}
-use Rattle.xdr3.specs.Item.{Item, followed_by}
-use Rattle.rpc_head.specs.declared.call.ProcId.{ProcId}
-use Rattle.capture3.specs.Bodies.{IsReply}
-use Rattle.capture3.specs.Messages.{reply_items}
+use Rattle.xdr3.specs.Item.{Item}
 use Rattle.xdr3.specs.Visit.{Adds}
+use Rattle.capture3.proofs.Spelled.{one_reply}
 use Rattle.canon3.specs.Gathering.{Gathers}
 use Rattle.listing3.specs.LineWriter.{pieces}
 use Rattle.listing3.specs.Listing.{server, line}
-use Rattle.canon3.proofs.Gathering.{one_reply, within_limit}
-use Rattle.listing3.proofs.LineLemmas.{always_ok}
+use Rattle.listing3.proofs.LineLemmas.{always_ok, reply_first}
 use Rattle.listing3.proofs.line_writer.LineWriter.compose_reply.Goals as goal
 
-pub walk-requires : goal.walk-requires
-walk-requires g c = within_limit _ c.args.reply.now.body.items c.in_ok-message.ensures.reply.1 c.args.reply.now.short
-
-pub compose-requires-clause-within : goal.compose-requires-clause-within
-compose-requires-clause-within g c = within_limit _ c.args.reply.now.body.items c.in_ok-message.ensures.reply.1 c.args.reply.now.short
-
-pub compose-requires-clause-begins : goal.compose-requires-clause-begins
-unfolding followed_by
-compose-requires-clause-begins g c = (_, refl)
+pub returns-clause-within : goal.returns-clause-within
+unfolding Adds
+returns-clause-within g c =
+    let told = c.in_ok-scan-2.ensures in
+    c.compose.ensures.within told.0 (told.2 [] c.forget.ensures, reply_first c.args.reply.now.id c.args.reply.now.body.items c.xid.result told.0 told.1 (c.xid.ensures told.0 told.1))
 
 pub returns-clause-line : goal.returns-clause-line
+unfolding Adds
 returns-clause-line g c items is =
+    let told = c.in_ok-scan-2.ensures in
     subst (λ (l : List Item). IfOk c.compose.result (λ skip. pieces c.compose.new.self.head.items c.compose.new.self.items skip ≡ line c.args.self.now.progress.connections server c.args.self.now.progress.records c.args.reply.now.id l))
-    (one_reply c.args.reply.now.id c.args.reply.now.body.items _ items (subst (λ (id : ProcId). IsReply c.args.reply.now.body.items (record { id = id; items = reply_items c.in_ok-message.message })) c.in_ok-message.ensures.procedure c.in_ok-message.ensures.reply) is) c.compose.ensures.line
+    (one_reply c.args.reply.now.id c.args.reply.now.body.items told.0 items told.1 is)
+    (c.compose.ensures.line told.0 (told.2 [] c.forget.ensures, reply_first c.args.reply.now.id c.args.reply.now.body.items c.xid.result told.0 told.1 (c.xid.ensures told.0 told.1)))
 
 pub returns-clause-gathers : goal.returns-clause-gathers
 unfolding Adds
 returns-clause-gathers g c items before is h =
+    let told = c.in_ok-scan.ensures in
     always_ok c.compose.result (subst (λ table. Gathers table.numbers (before ++ items)) (sym c.compose.ensures.kept.2)
-    (subst (λ (l : List Item). Gathers c.walk.new.visitor.numbers (before ++ l)) (one_reply c.args.reply.now.id c.args.reply.now.body.items _ items (subst (λ (id : ProcId). IsReply c.args.reply.now.body.items (record { id = id; items = reply_items c.in_ok-message.message })) c.in_ok-message.ensures.procedure c.in_ok-message.ensures.reply) is) (c.in_ok-walk.ensures.ok before h)))
+    (subst (λ (l : List Item). Gathers c.scan.new.visitor.numbers (before ++ l)) (one_reply c.args.reply.now.id c.args.reply.now.body.items told.0 items told.1 is) (told.2 before h)))

@@ -1,0 +1,45 @@
+-- Whole messages that are read and told at once.
+use Rattle.std.specs.Prelude.{◌≡◌, ℕ, List, Option, Some, Result, Ok, Err}
+use Rattle.xdr3.specs.declared.reason.GetError.{GetError}
+use Rattle.xdr3.specs.declared.reason.GetError.TheVariants as errors
+use Rattle.xdr3.specs.declared.reason.Stop.{Stop}
+use Rattle.xdr3.specs.Item.{Item}
+use Rattle.xdr3.specs.Visit.{Adds}
+use Rattle.rpc_head.specs.declared.call.ProcId.{ProcId}
+use Rattle.rpc_head.specs.Messages.{procedure_in}
+use Rattle.capture3.specs.declared.calls.NumberedCall.{NumberedCall}
+use Rattle.capture3.specs.Bodies.{IsCall, IsReply, xid_in}
+use Rattle.capture3.specs.Calls.{found}
+use Rattle.capture3.specs.Judging.{judge_call, judge_reply}
+use Rattle.capture3.specs.Messages.{IsTableOf}
+
+-- The body spells a call with this xid and this procedure, it is accepted after the calls of the table, and a visitor was told
+-- its items.
+pub record ScansCall {V : Type 0} (stands : V → List Item → Type 0) (table : List NumberedCall) (body : List ℕ) (call : NumberedCall) (old new : V) : Type 0 where
+  pub items : List Item
+  pub is_call : IsCall body items
+  pub xid_is : xid_in items ≡ call.xid
+  pub procedure_is : procedure_in items ≡ call.id
+  pub accepted : (before : List (List Item)) → IsTableOf table before → judge_call before body ≡ Ok items
+  pub adds : Adds stands old new items
+
+-- The body spells a reply to a call of the table, which has this procedure, it is accepted after these calls, and a visitor was
+-- told its items.
+pub record ScansReply {V : Type 0} (stands : V → List Item → Type 0) (table : List NumberedCall) (body : List ℕ) (id : ProcId) (old new : V) : Type 0 where
+  pub items : List Item
+  pub is_reply : IsReply body (record { id = id; items = items })
+  pub asked : found table (xid_in items) ≡ Some id
+  pub accepted : (calls : List (List Item)) → IsTableOf table calls → judge_reply calls body ≡ Ok (record { id = id; items = items })
+  pub adds : Adds stands old new items
+
+-- the failure is that of judging the body, unless memory ran out
+abbrev pub StopsMessage : {X : Type 0} → GetError → Result X Stop → Type 0
+StopsMessage error judged = (stop : Stop) → error ≡ errors.Stop stop → judged ≡ Err stop
+
+-- a visitor was told the items of the call that the body spells
+abbrev pub TellsCall : {V : Type 0} → (V → List Item → Type 0) → List ℕ → V → V → Type 0
+TellsCall stands body old new = (items : List Item) × IsCall body items × Adds stands old new items
+
+-- a visitor was told the items of the reply that the body spells, with the results of this procedure
+abbrev pub TellsReply : {V : Type 0} → (V → List Item → Type 0) → List ℕ → ProcId → V → V → Type 0
+TellsReply stands body id old new = (items : List Item) × IsReply body (record { id = id; items = items }) × Adds stands old new items

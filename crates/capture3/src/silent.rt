@@ -1,0 +1,45 @@
+// A visitor that keeps nothing.
+
+use std::alloc::AllocError;
+use xdr3::Visit;
+
+/// A visitor that keeps nothing, with which a message is judged alone.
+#[derive(Drop)]
+pub(crate) struct Silent;
+
+#[tactic(auto, unfolding(xdr3::specs::Visit::Adds, xdr3::specs::Visit::Keeps))]
+impl Visit for Silent {
+    ghost stands = { λ silent items. Unit {0} };
+
+    fn word(&mut self, _name: &'static str, _n: u32) -> Result<(), AllocError> {
+        Ok(())
+    }
+
+    fn hyper(&mut self, _name: &'static str, _n: u64) -> Result<(), AllocError> {
+        Ok(())
+    }
+
+    fn fixed(&mut self, _name: &'static str, _bytes: &[u8; 8]) -> Result<(), AllocError> {
+        Ok(())
+    }
+
+    fn write_verf(&mut self, _name: &'static str, _bytes: &[u8; 8]) -> Result<(), AllocError> {
+        Ok(())
+    }
+
+    fn var(&mut self, _name: &'static str, _bytes: &[u8]) -> Result<(), AllocError> {
+        Ok(())
+    }
+
+    fn text(&mut self, _name: &'static str, _bytes: &[u8]) -> Result<(), AllocError> {
+        Ok(())
+    }
+
+    fn handle(&mut self, _name: &'static str, _bytes: &[u8]) -> Result<(), AllocError> {
+        Ok(())
+    }
+
+    fn rest(&mut self, _name: &'static str, _bytes: &[u8]) -> Result<(), AllocError> {
+        Ok(())
+    }
+}
