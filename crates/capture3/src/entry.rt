@@ -84,8 +84,8 @@ impl KeptCall {
 impl KeptReply {
     /// The xid (RFC 5531, section 9).
     pub fn xid(&self) -> u32
-        ensures { (items : List Item) → IsReply self.now.body.items (record { id = self.now.id; items = items })
-            → result ≡ xid_in items }
+        ensures { (items : List Item) → IsReply self.now.body.items
+            (record { id = self.now.id; items = items }) → result ≡ xid_in items }
     {
         let Ok(start) = start(&mut Input::new(&self.body)) else {
             unreachable!()
@@ -121,8 +121,8 @@ impl KeptReply {
     /// The call that it answers.
     fn answered(&self) -> NumberedCall
         ensures id { result.id ≡ self.now.id }
-        ensures xid { (items : List Item) → IsReply self.now.body.items (record { id = self.now.id; items = items })
-            → result.xid ≡ xid_in items }
+        ensures xid { (items : List Item) → IsReply self.now.body.items
+            (record { id = self.now.id; items = items }) → result.xid ≡ xid_in items }
     {
         NumberedCall {
             xid: self.xid(),

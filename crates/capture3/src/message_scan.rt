@@ -25,8 +25,10 @@ pub(crate) fn scan_call<C: KnownCalls, V: Visit>(
     visitor: &mut V,
 ) -> Result<NumberedCall, GetError>
     requires { length body.now ≤ 16777216 }
-    ensures ok { IfOk result (λ call. ScansCall V.stands (C.calls calls.now) body.now call visitor.old visitor.new) }
-    ensures err { (before : List (List Item)) → IsTableOf (C.calls calls.now) before → IfErr result (λ error. StopsMessage error (spec.judge_call before body.now)) }
+    ensures ok { IfOk result
+        (λ call. ScansCall V.stands (C.calls calls.now) body.now call visitor.old visitor.new) }
+    ensures err { (before : List (List Item)) → IsTableOf (C.calls calls.now) before
+        → IfErr result (λ error. StopsMessage error (spec.judge_call before body.now)) }
 {
     let mut input = Input::new(body);
     let start = start(&mut input)?;
@@ -51,8 +53,10 @@ pub(crate) fn scan_reply<C: KnownCalls, V: Visit>(
     visitor: &mut V,
 ) -> Result<ProcId, GetError>
     requires { length body.now ≤ 16777216 }
-    ensures ok { IfOk result (λ id. ScansReply V.stands (C.calls calls.now) body.now id visitor.old visitor.new) }
-    ensures err { (before : List (List Item)) → IsTableOf (C.calls calls.now) before → IfErr result (λ error. StopsMessage error (spec.judge_reply before body.now)) }
+    ensures ok { IfOk result
+        (λ id. ScansReply V.stands (C.calls calls.now) body.now id visitor.old visitor.new) }
+    ensures err { (before : List (List Item)) → IsTableOf (C.calls calls.now) before
+        → IfErr result (λ error. StopsMessage error (spec.judge_reply before body.now)) }
 {
     let mut input = Input::new(body);
     let start = start(&mut input)?;
@@ -87,7 +91,9 @@ fn scan_results_after<V: Visit>(
     input: &mut Input,
     visitor: &mut V,
 ) -> Result<(), GetError>
-    ensures ok { OnOk result (ScansLayout V.stands (results_after success id) input.old input.new visitor.old visitor.new) }
+    ensures ok { OnOk result
+        (ScansLayout V.stands
+        (results_after success id) input.old input.new visitor.old visitor.new) }
     ensures err { IfErr result (λ error. StopsLayout (results_after success id) input.old error) }
 {
     input.at();
