@@ -1,7 +1,7 @@
 -- Whole messages that are read and told at once: judging them by the scans of their parts.
 use Rattle.std.specs.Prelude.{IfErr}
 use Rattle.std.specs.Result.{IsErrAnd}
-use Rattle.std.proofs.Common.{◌≡◌, ◌≢◌, ℕ, Bool, true, false, cond, List, [], ◌∷◌, ◌++◌, length, Some, None, Result, Ok, Err, refl, sym, ap, subst, ◌∙◌, eq-eqb}
+use Rattle.std.proofs.Common.{◌≡◌, ℕ, Bool, true, false, cond, List, [], ◌∷◌, ◌++◌, length, Some, None, Result, Ok, Err, refl, sym, ap, subst, ◌∙◌, eq-eqb}
 use Rattle.xdr3.specs.declared.reason.GetError.{GetError}
 use Rattle.xdr3.specs.declared.reason.GetError.TheVariants as errors
 use Rattle.xdr3.specs.declared.reason.Stop.{Stop}
@@ -9,12 +9,12 @@ use Rattle.xdr3.specs.Item.{AreBytes, Item, followed_by}
 use Rattle.xdr3.specs.Layout.{reading_layout}
 use Rattle.xdr3.specs.Reading.{reading}
 use Rattle.xdr3.specs.Scan.{ScansLayout, Stops, StopsLayout}
-use Rattle.xdr3.specs.View.{MovesOn, View}
+use Rattle.xdr3.specs.View.{View}
 use Rattle.xdr3.specs.Visit.{Adds}
 use Rattle.xdr3.proofs.Walks.{adds_both}
 use Rattle.rpc_head.specs.declared.call.ProcId.{ProcId}
 use Rattle.rpc_head.specs.declared.message.Start.{Start}
-use Rattle.rpc_head.specs.HeadScan.{ScansCallHead, ScansReplyHead, tells_success}
+use Rattle.rpc_head.specs.HeadScan.{ScansCallHead, ScansReplyHead}
 use Rattle.rpc_head.specs.Shapes.{call_head, message_start, reply_head}
 use Rattle.rpc_head.specs.Starts.{start_items}
 use Rattle.procs3.specs.Table.{arguments_of}
@@ -23,7 +23,7 @@ use Rattle.capture3.specs.Bodies.{procedure_of}
 use Rattle.capture3.specs.Calls.{found}
 use Rattle.capture3.specs.Judging.{agrees, judge_call, judge_reply}
 use Rattle.capture3.specs.MessageScan.{ScansCall, ScansReply, StopsMessage}
-use Rattle.capture3.specs.Messages.{IsTableOf, results_after}
+use Rattle.capture3.specs.Messages.{results_after}
 use Rattle.capture3.proofs.Bodies.{the_calls, the_replies}
 use Rattle.capture3.proofs.Judgements.{CallBegins, ReplyBegins, call_accepted, call_bad_arguments, call_bad_head, call_procedure, call_xid, refusal_judged, reply_accepted, reply_bad_head, reply_bad_results, reply_xid, whole_call, whole_reply}
 use Rattle.capture3.proofs.Spelled.{asking}

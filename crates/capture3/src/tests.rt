@@ -7,7 +7,7 @@ use std::alloc::Global;
 use std::hash::{BuildHasherDefault, FoldHasher};
 use std::process::Abort;
 use std::test::Fail;
-use xdr3::Reason;
+use xdr3::{Reason, Writer};
 
 // A call of the NULL procedure of NFS version 3 and its reply, in one chunk and one fragment each.
 const NULL: [u8; 104] = [
@@ -168,11 +168,19 @@ fn kept_messages_one_by_one(rt: HostRuntime) -> Result<(), Fail> {
                 let call = kept.read(rt.alloc())?;
                 assert_eq!(rt; call.xid, 0xdead_beef);
                 assert!(rt; call.head.id == NULL_PROCEDURE);
+                assert_eq!(rt; kept.xid(), 0xdead_beef);
+                let mut told = Writer::new(rt.alloc());
+                kept.scan(&mut told)?;
+                assert!(rt; told.bytes() == &kept.body[..]);
             }
             Some(Entry::Reply(kept)) => {
                 let reply = kept.read(rt.alloc())?;
                 assert_eq!(rt; reply.xid, 0xdead_beef);
                 assert!(rt; reply.id == NULL_PROCEDURE);
+                assert_eq!(rt; kept.xid(), 0xdead_beef);
+                let mut told = Writer::new(rt.alloc());
+                kept.scan(&mut told)?;
+                assert!(rt; told.bytes() == &kept.body[..]);
             }
             Some(_) => {}
             None => panic!(rt; "too few entries"),

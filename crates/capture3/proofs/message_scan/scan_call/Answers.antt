@@ -1,12 +1,11 @@
-use Rattle.std.proofs.Common.{arith, ◌≡◌, ◌≢◌, length, Err, ap, refl, sym, ◌∙◌, true, false}
+use Rattle.std.proofs.Common.{arith, ◌≡◌, ◌≢◌, length, Err, ap, refl, sym, ◌∙◌, false}
 use Rattle.std.proofs.lemmas.Bool.{false≢true}
 use Rattle.xdr3.specs.declared.reason.Reason.TheVariants.{WrongSide, XidConflict}
 use Rattle.xdr3.specs.declared.reason.Stop.{Stop}
 use Rattle.capture3.specs.Bodies.{procedure_of}
-use Rattle.capture3.specs.Calls.{found}
 use Rattle.capture3.specs.Judging.{agrees, judge_call}
 use Rattle.capture3.proofs.Judgements.{call_bad_start, call_conflicts, call_trails, call_wrong_side, refusal_judged}
-use Rattle.capture3.proofs.MessageScanLemmas.{CallRead, StartRead, arguments_stop, call_head_stops, call_scans, call_told, error_stops, stop_stops}
+use Rattle.capture3.proofs.MessageScanLemmas.{StartRead, arguments_stop, call_head_stops, call_scans, call_told, error_stops, stop_stops}
 use Rattle.capture3.proofs.message_scan.scan_call.Goals as goal
 
 pub returns-in_err-start-clause-err : goal.returns-in_err-start-clause-err

@@ -1,4 +1,4 @@
-use Rattle.std.proofs.Common.{arith, ◌≡◌, ◌≢◌, length, Some, None, Err, ap, refl, sym, ◌∙◌, true, false}
+use Rattle.std.proofs.Common.{arith, ◌≡◌, ◌≢◌, length, Some, None, Err, ap, refl, sym, ◌∙◌, true}
 use Rattle.std.proofs.lemmas.Bool.{false≢true}
 use Rattle.xdr3.specs.declared.reason.Reason.TheVariants.{NoCall, WrongSide}
 use Rattle.xdr3.specs.declared.reason.Stop.{Stop}
