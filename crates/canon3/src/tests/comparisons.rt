@@ -52,6 +52,7 @@ fn runs_that_are_the_same(rt: HostRuntime) -> Result<(), Fail> {
 #[test]
 fn runs_that_part(rt: HostRuntime) -> Result<(), Fail> {
     let (first, mut second) = runs(rt.alloc())?;
+    assert!(rt; second.len() == 144);
     second[79] = 1;
     assert_eq!(rt;
         compared(rt.alloc(), &first, &second, 0),
@@ -75,6 +76,8 @@ fn a_second_run_that_is_cut(rt: HostRuntime) -> Result<(), Fail> {
 #[test]
 fn the_first_runs_fault_goes_before(rt: HostRuntime) -> Result<(), Fail> {
     let (mut first, mut second) = runs(rt.alloc())?;
+    assert!(rt; first.len() == 144);
+    assert!(rt; second.len() == 144);
     second[27] = 2;
     assert_eq!(rt;
         compared(rt.alloc(), &first, &second, 0),
@@ -92,6 +95,7 @@ fn the_first_runs_fault_goes_before(rt: HostRuntime) -> Result<(), Fail> {
 #[test]
 fn a_failed_read_of_the_second(rt: HostRuntime) -> Result<(), Fail> {
     let (mut first, second) = runs(rt.alloc())?;
+    assert!(rt; first.len() == 144);
     first[27] = 2;
     assert_eq!(rt;
         compared(rt.alloc(), &first, &second, 1),
