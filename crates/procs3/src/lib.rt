@@ -11,6 +11,7 @@ mod mounts;
 mod names;
 mod results;
 mod scan;
+mod scan_items;
 mod scan_table;
 mod tagged;
 #[cfg(test)]

@@ -1,0 +1,145 @@
+// Items with long names, told as they are read: the prover follows a function's name, and not so many letters
+// (RFC 1813, sections 3.3.7 to 3.3.20).
+
+ghost use Rattle.std.specs.Prelude.{IfErr, IfOk, OnOk};
+ghost use Rattle.nfs3_types.specs.Names.{names};
+ghost use Rattle.nfs3_types.specs.Shapes.{time};
+ghost use Rattle.nfs3_types.specs.Stable.{stable_words};
+ghost use Rattle.xdr3.specs.Scan.{Scans, ScansWord, Stops, StopsWord};
+ghost use Rattle.xdr3.specs.Shape.{boolean, fixed, hyper, is_listed, word};
+
+use nfs3_types::scan_time;
+use xdr3::{
+    GetError, Input, Reason, Visit, scan_boolean, scan_fixed, scan_hyper, scan_listed, scan_word,
+};
+
+#[inline]
+#[tactic(auto, using(xdr3::proofs::ScanLemmas::scans), unfolding(nfs3_types::specs::Names::names))]
+pub(crate) fn scan_createverf<V: Visit>(input: &mut Input, visitor: &mut V) -> Result<(), GetError>
+    ensures ok { OnOk result
+        (Scans V.stands (fixed names.createverf) input.old input.new visitor.old visitor.new) }
+    ensures err { IfErr result (λ error. Stops (fixed names.createverf) input.old error) }
+{
+    scan_fixed("createverf", input, visitor)
+}
+
+#[inline]
+#[tactic(auto, using(xdr3::proofs::ScanLemmas::scans), unfolding(nfs3_types::specs::Names::names))]
+pub(crate) fn scan_cookieverf<V: Visit>(input: &mut Input, visitor: &mut V) -> Result<(), GetError>
+    ensures ok { OnOk result
+        (Scans V.stands (fixed names.cookieverf) input.old input.new visitor.old visitor.new) }
+    ensures err { IfErr result (λ error. Stops (fixed names.cookieverf) input.old error) }
+{
+    scan_fixed("cookieverf", input, visitor)
+}
+
+#[inline]
+#[tactic(auto, using(xdr3::proofs::ScanLemmas::scans), unfolding(nfs3_types::specs::Names::names))]
+pub(crate) fn scan_maxfilesize<V: Visit>(input: &mut Input, visitor: &mut V) -> Result<(), GetError>
+    ensures ok { OnOk result
+        (Scans V.stands (hyper names.maxfilesize) input.old input.new visitor.old visitor.new) }
+    ensures err { IfErr result (λ error. Stops (hyper names.maxfilesize) input.old error) }
+{
+    scan_hyper("maxfilesize", input, visitor)
+}
+
+#[inline]
+#[tactic(auto, using(xdr3::proofs::ScanLemmas::scans), unfolding(nfs3_types::specs::Names::names))]
+pub(crate) fn scan_delta<V: Visit>(input: &mut Input, visitor: &mut V) -> Result<(), GetError>
+    ensures ok { OnOk result
+        (Scans V.stands (time names.delta_sec names.delta_nsec) input.old input.new visitor.old
+        visitor.new) }
+    ensures err { IfErr result
+        (λ error. Stops (time names.delta_sec names.delta_nsec) input.old error) }
+{
+    scan_time("delta_sec", "delta_nsec", input, visitor)
+}
+
+#[inline]
+#[tactic(auto, using(xdr3::proofs::ScanLemmas::scans), unfolding(nfs3_types::specs::Names::names))]
+pub(crate) fn scan_invarsec<V: Visit>(input: &mut Input, visitor: &mut V) -> Result<(), GetError>
+    ensures ok { OnOk result
+        (Scans V.stands (word names.invarsec) input.old input.new visitor.old visitor.new) }
+    ensures err { IfErr result (λ error. Stops (word names.invarsec) input.old error) }
+{
+    scan_word("invarsec", input, visitor)?;
+    Ok(())
+}
+
+#[inline]
+#[tactic(auto, using(xdr3::proofs::ScanLemmas::scans), unfolding(nfs3_types::specs::Names::names))]
+pub(crate) fn scan_name_max<V: Visit>(input: &mut Input, visitor: &mut V) -> Result<(), GetError>
+    ensures ok { OnOk result
+        (Scans V.stands (word names.name_max) input.old input.new visitor.old visitor.new) }
+    ensures err { IfErr result (λ error. Stops (word names.name_max) input.old error) }
+{
+    scan_word("name_max", input, visitor)?;
+    Ok(())
+}
+
+#[inline]
+#[tactic(auto, using(xdr3::proofs::ScanLemmas::scans), unfolding(nfs3_types::specs::Names::names))]
+pub(crate) fn scan_properties<V: Visit>(input: &mut Input, visitor: &mut V) -> Result<(), GetError>
+    ensures ok { OnOk result
+        (Scans V.stands (word names.properties) input.old input.new visitor.old visitor.new) }
+    ensures err { IfErr result (λ error. Stops (word names.properties) input.old error) }
+{
+    scan_word("properties", input, visitor)?;
+    Ok(())
+}
+
+#[inline]
+#[tactic(auto, using(xdr3::proofs::ScanLemmas::scans), unfolding(nfs3_types::specs::Names::names))]
+pub(crate) fn scan_chown_restricted<V: Visit>(
+    input: &mut Input,
+    visitor: &mut V,
+) -> Result<(), GetError>
+    ensures ok { OnOk result
+        (Scans V.stands (boolean names.chown_restricted) input.old input.new visitor.old
+        visitor.new) }
+    ensures err { IfErr result (λ error. Stops (boolean names.chown_restricted) input.old error) }
+{
+    scan_boolean("chown_restricted", input, visitor)?;
+    Ok(())
+}
+
+#[inline]
+#[tactic(auto, using(xdr3::proofs::ScanLemmas::scans), unfolding(nfs3_types::specs::Names::names))]
+pub(crate) fn scan_case_insensitive<V: Visit>(
+    input: &mut Input,
+    visitor: &mut V,
+) -> Result<(), GetError>
+    ensures ok { OnOk result
+        (Scans V.stands (boolean names.case_insensitive) input.old input.new visitor.old
+        visitor.new) }
+    ensures err { IfErr result (λ error. Stops (boolean names.case_insensitive) input.old error) }
+{
+    scan_boolean("case_insensitive", input, visitor)?;
+    Ok(())
+}
+
+#[inline]
+#[tactic(auto, using(xdr3::proofs::ScanLemmas::scans), unfolding(nfs3_types::specs::Names::names))]
+pub(crate) fn scan_case_preserving<V: Visit>(
+    input: &mut Input,
+    visitor: &mut V,
+) -> Result<(), GetError>
+    ensures ok { OnOk result
+        (Scans V.stands (boolean names.case_preserving) input.old input.new visitor.old visitor.new) }
+    ensures err { IfErr result (λ error. Stops (boolean names.case_preserving) input.old error) }
+{
+    scan_boolean("case_preserving", input, visitor)?;
+    Ok(())
+}
+
+#[inline]
+#[tactic(auto, unfolding(nfs3_types::specs::Names::names))]
+pub(crate) fn scan_committed<V: Visit>(input: &mut Input, visitor: &mut V) -> Result<u32, GetError>
+    ensures ok { IfOk result
+        (λ n. ScansWord V.stands names.committed
+        (is_listed stable_words) Reason.BadEnum n input.old input.new visitor.old visitor.new) }
+    ensures err { IfErr result
+        (λ error. StopsWord (is_listed stable_words) Reason.BadEnum input.old error) }
+{
+    scan_listed("committed", &[0, 1, 2], input, visitor)
+}
