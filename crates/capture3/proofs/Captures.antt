@@ -1,16 +1,16 @@
 -- A capture whose records are judged as they come: step after step.
-use Rattle.std.proofs.Common.{lit<, ◌≡◌, ℕ, Bool, true, false, cond, nat_eq, is_some, Option, Some, None, List, [], ◌∷◌, ◌++◌, take, drop, refl, sym, ap, ◌∙◌, subst, append_assoc, take-append-drop}
+use Rattle.std.proofs.Common.{append-nil, lit<, ◌≡◌, ℕ, Bool, true, false, cond, nat_eq, is_some, Option, Some, None, List, [], ◌∷◌, ◌++◌, take, drop, refl, sym, ap, ◌∙◌, subst, append_assoc, take-append-drop}
 use Rattle.std.proofs.lemmas.Bool.{eqb-true}
 use Rattle.xdr3.specs.Item.{Item}
-use Rattle.record_mark.specs.Joining.{Between}
-use Rattle.record_mark.specs.Machine.{Ends, Run, Runs, Stops, after, landed}
-use Rattle.record_mark.specs.Taking.{Taking, body_of, unbegun}
+use Rattle.xdr3.specs.Visit.{Adds}
+use Rattle.record_mark.specs.Joining.{Between, TooLong, Whole}
+use Rattle.record_mark.specs.Machine.{Ends, Run, Runs, Stopped, Stops, after, landed}
+use Rattle.record_mark.specs.Taking.{Taking, Led, OutOfMemory, IsRunning, IsWhole, body_of, released, unbegun}
 use Rattle.rpc_head.specs.declared.call.ProcId.{ProcId}
 use Rattle.rpc_head.specs.Messages.{procedure_in}
 use Rattle.capture3.specs.declared.calls.NumberedCall.{NumberedCall}
-use Rattle.capture3.specs.declared.entry.Entry.TheVariants as variants
-use Rattle.capture3.specs.declared.entry.KeptCall.{KeptCall}
-use Rattle.capture3.specs.declared.entry.KeptReply.{KeptReply}
+use Rattle.capture3.specs.declared.container.Container.{Container}
+use Rattle.capture3.specs.declared.entry.Kind.TheVariants as kinds
 use Rattle.capture3.specs.declared.fault.Error.{Error}
 use Rattle.capture3.specs.declared.fault.Error.TheVariants as errors
 use Rattle.capture3.specs.declared.fault.Fault.{Fault}
@@ -21,13 +21,12 @@ use Rattle.capture3.specs.declared.position.Event.{Event}
 use Rattle.capture3.specs.declared.position.Event.TheVariants.{Begin, Record, Turn, Close}
 use Rattle.capture3.specs.declared.position.Position.{Position}
 use Rattle.capture3.specs.Bodies.{ReplyItems, procedure_of, xid_in}
-use Rattle.capture3.specs.Bodies as bodies
 use Rattle.capture3.specs.Calls.{found, with_call}
 use Rattle.capture3.specs.Connections.{Refusal, refusal}
-use Rattle.capture3.specs.Container.{unpacking_of, arrived, Arrives, Fails}
+use Rattle.capture3.specs.Container.{unpacking_of, arrived, Arrives, Fails, Leaves}
 use Rattle.capture3.specs.Entry.{Entry}
 use Rattle.capture3.specs.Entry as entries
-use Rattle.capture3.specs.Judges.{StandsAt, HasMet, met, GoesTo, EndsWith, FailsAt, ShowsWithin, KeepsCall, KeepsReply, RefusesBody}
+use Rattle.capture3.specs.Judges.{StandsAt, HasMet, met, GoesTo, EndsWith, FailsAt, ShowsWithin, TellsCall, TellsReply, RefusesBody}
 use Rattle.capture3.specs.Judging.{judge_call, judge_reply}
 use Rattle.capture3.specs.Messages.{IsTableOf}
 use Rattle.capture3.specs.Parsing.{Parsing, file_next, file_start}
@@ -180,77 +179,129 @@ ends_fails p q t u table run all bytes n event came errors.Read s is arrives_at 
 ends_fails p q t u table run all bytes n event came errors.Write s is arrives_at ends = ends
 ends_fails p q t u table run all bytes n event came errors.Memory s is arrives_at ends = tt
 
+-- a whole record was let go
+pub let_released : (old new : Container) (table : List NumberedCall) (run : Run Parsing Refusal) (all : List Entry) → new.position ≡ old.position → new.joiner ≡ released old.joiner
+    → StandsAt old.position (released old.joiner) table run all → StandsAt new.position new.joiner table run all
+let_released old new table run all same is s =
+    subst (λ (p : Position). StandsAt p new.joiner table run all) (sym same) (subst (λ (t : Taking). StandsAt old.position t table run all) (sym is) s)
+
 -- ---- what is whole
 
-pub begin_goes : (p : Position) (t : Taking) (table none : List NumberedCall) (run : Run Parsing Refusal) (all : List Entry) → none ≡ [] → HasMet p t table Begin run all → GoesTo (Some variants.Begin) p t none run all
-begin_goes p t table none run all empty m = (
-  entries.Begin,
-  refl,
-  record {
-    so_far = begun (unpacking_of p t) m.so_far;
-    agrees = m.agrees;
-    calls = λ q. ap (λ (l : List NumberedCall). found l q) empty;
-    stands = m.stands;
-    emitted = sym m.emits;
-  },
-)
+-- a visitor that was not called
+pub untold : {V : Type 0} (stands : V → List Item → Type 0) (v : V) → Adds stands v v []
+unfolding Adds
+untold stands v = λ before s. subst (stands v) (sym (append-nil before)) s
 
-pub turn_goes : (p : Position) (t : Taking) (table : List NumberedCall) (run : Run Parsing Refusal) (all : List Entry) → HasMet p t table Turn run all → GoesTo (Some variants.Turn) p t table run all
-turn_goes p t table run all m =
-    (entries.Turn, refl, record { so_far = turned m.so_far; agrees = m.agrees; calls = m.calls; stands = m.stands; emitted = sym m.emits })
+at_rest : (t : Taking) → IsRunning t → released t ≡ t
+at_rest (Led (Runs s)) h = refl
+at_rest (Led (Stops end)) h = absurd h
+at_rest (Led (Stopped end)) h = absurd h
+at_rest OutOfMemory h = absurd h
 
-pub close_goes : (p : Position) (t : Taking) (table : List NumberedCall) (run : Run Parsing Refusal) (all : List Entry) → HasMet p t table Close run all → GoesTo (Some variants.Close) p t table run all
-close_goes p t table run all m =
-    (entries.Close, refl, record { so_far = closed m.so_far; agrees = m.agrees; calls = m.calls; stands = m.stands; emitted = sym m.emits })
+at_rest_runs : (t : Taking) → IsRunning t → IsRunning (released t)
+at_rest_runs t h = subst IsRunning (sym (at_rest t h)) h
 
-pub call_goes : (p : Position) (t u : Taking) (table new : List NumberedCall) (run : Run Parsing Refusal) (all : List Entry) (call : KeptCall) → u ≡ unbegun
-    → (m : HasMet p t table (Record Client) run all) → KeepsCall m.so_far.calls (body_of t) new call → GoesTo (Some (variants.Call call)) p u new run all
-call_goes p t u table new run all call free m k =
-    let v : Unpacking = unpacking_at p Between in
-    let at : unpacking_of p u ≡ v = ap (unpacking_of p) free in
-    let j : Judged = resuming.with_call m.so_far k.items in (
-      entries.Call k.items,
-      (k.items, subst (λ (b : List ℕ). bodies.IsCall b k.items) (sym k.body_is) k.is_call, k.id_is, refl),
-      record {
-        so_far = j;
-        agrees = subst (λ (w : Unpacking). resuming.Agrees w j) (sym at) (m.agrees.0 k.items);
-        calls = k.added;
-        stands = m.stands ∙ ap (λ r. landed (call_judged v m.so_far r)) k.judged ∙ ap (λ (w : Unpacking). Runs (parsing_at w j)) (sym at);
-        emitted = sym (m.emits k.items) ∙ ap (λ (w : Unpacking). emitted_at w.opened j) (sym at);
-      },
-    )
+let_go : (t : Taking) → IsWhole t → released t ≡ unbegun
+let_go (Led (Stops (Whole body))) h = refl
+let_go (Led (Stops (TooLong at))) h = absurd h
+let_go (Led (Runs s)) h = absurd h
+let_go (Led (Stopped end)) h = absurd h
+let_go OutOfMemory h = absurd h
 
-pub reply_goes : (p : Position) (t u : Taking) (table : List NumberedCall) (run : Run Parsing Refusal) (all : List Entry) (reply : KeptReply) → u ≡ unbegun
-    → (m : HasMet p t table (Record Server) run all) → KeepsReply m.so_far.calls (body_of t) reply → GoesTo (Some (variants.Reply reply)) p u table run all
-reply_goes p t u table run all reply free m k =
-    let v : Unpacking = unpacking_at p Between in
-    let at : unpacking_of p u ≡ v = ap (unpacking_of p) free in
-    let j : Judged = resuming.with_reply m.so_far k.answer in
-    let same : k.answer ≡ record { id = reply.id; items = k.answer.items } = ap (λ (i : ProcId). record { id = i; items = k.answer.items }) (sym k.id_is) in (
-      entries.Reply k.answer.id k.answer.items,
-      (k.answer.items, subst (λ (b : List ℕ). bodies.IsReply b (record { id = reply.id; items = k.answer.items })) (sym k.body_is) (subst (λ a. bodies.IsReply (body_of t) a) same k.is_reply), ap (λ (i : ProcId). entries.Reply i k.answer.items) (sym k.id_is)),
-      record {
-        so_far = j;
-        agrees = subst (λ (w : Unpacking). resuming.Agrees w j) (sym at) (m.agrees.0 k.answer);
-        calls = m.calls;
-        stands = m.stands ∙ ap (λ r. landed (reply_judged v m.so_far r)) k.judged ∙ ap (λ (w : Unpacking). Runs (parsing_at w j)) (sym at);
-        emitted = sym (m.emits k.answer) ∙ ap (λ (w : Unpacking). emitted_at w.opened j) (sym at);
-      },
-    )
+let_go_runs : (t : Taking) → IsWhole t → IsRunning (released t)
+let_go_runs t h = subst IsRunning (sym (let_go t h)) tt
 
--- the same with the side and the place as the code has them
-pub call_goes_at : (p q : Position) (t u : Taking) (table new : List NumberedCall) (run : Run Parsing Refusal) (all : List Entry) (call : KeptCall) {side : Side} → side ≡ Client → q ≡ p → u ≡ unbegun
-    → (m : HasMet p t table (Record side) run all) → KeepsCall m.so_far.calls (body_of t) new call → GoesTo (Some (variants.Call call)) q u new run all
-call_goes_at p q t u table new run all call {side} is same free m k =
-    subst (λ (r : Position). GoesTo (Some (variants.Call call)) r u new run all) (sym same)
-    (subst (λ (s : Side). (m : HasMet p t table (Record s) run all) → KeepsCall m.so_far.calls (body_of t) new call → GoesTo (Some (variants.Call call)) p u new run all) (sym is) (call_goes p t u table new run all call free) m k)
+pub leaves_running : (event : Option Event) (t : Taking) → Leaves event t → IsRunning (released t)
+leaves_running (Some (Record side)) t h = let_go_runs t h
+leaves_running (Some Begin) t h = at_rest_runs t h
+leaves_running (Some Turn) t h = at_rest_runs t h
+leaves_running (Some Close) t h = at_rest_runs t h
+leaves_running None t h = at_rest_runs t h
 
-pub reply_goes_at : (p q : Position) (t u : Taking) (table new : List NumberedCall) (run : Run Parsing Refusal) (all : List Entry) (reply : KeptReply) {side : Side} → side ≡ Server → q ≡ p → new ≡ table → u ≡ unbegun
-    → (m : HasMet p t table (Record side) run all) → KeepsReply m.so_far.calls (body_of t) reply → GoesTo (Some (variants.Reply reply)) q u new run all
-reply_goes_at p q t u table new run all reply {side} is same kept free m k =
-    subst (λ (r : Position). GoesTo (Some (variants.Reply reply)) r u new run all) (sym same)
-    (subst (λ (l : List NumberedCall). GoesTo (Some (variants.Reply reply)) p u l run all) (sym kept)
-    (subst (λ (s : Side). (m : HasMet p t table (Record s) run all) → KeepsReply m.so_far.calls (body_of t) reply → GoesTo (Some (variants.Reply reply)) p u table run all) (sym is) (reply_goes p t u table run all reply free) m k))
+stands_at_rest : (p : Position) (t : Taking) (table : List NumberedCall) (run : Run Parsing Refusal) (all : List Entry) → IsRunning t → StandsAt p t table run all → StandsAt p (released t) table run all
+stands_at_rest p t table run all runs s = subst (λ (u : Taking). StandsAt p u table run all) (sym (at_rest t runs)) s
+
+module _ {V : Type 0} (stands : V → List Item → Type 0) where
+  -- no entry is whole
+  pub none_goes : (v : V) (p q : Position) (t u : Taking) (table : List NumberedCall) (run : Run Parsing Refusal) (all : List Entry) (bytes : List ℕ) (event : Option Event) → event ≡ None → Leaves event u
+      → StandsAt p t table run all → Arrives (unpacking_of p t) bytes event q u → GoesTo stands v v None q u table (after file_next run bytes) all
+  none_goes v p q t u table run all bytes event is leaves s arrives = stands_at_rest q u table _ all (subst (λ (e : Option Event). Leaves e u) is leaves) (stands_on p q t u table run all bytes event s is arrives)
+
+  pub begin_goes : (v : V) (p : Position) (t : Taking) (table none : List NumberedCall) (run : Run Parsing Refusal) (all : List Entry) → none ≡ [] → IsRunning t → HasMet p t table Begin run all
+      → GoesTo stands v v (Some kinds.Begin) p t none run all
+  begin_goes v p t table none run all empty runs m = (
+    entries.Begin,
+    refl,
+    untold stands v,
+    stands_at_rest p t none run _ runs (record {
+      so_far = begun (unpacking_of p t) m.so_far;
+      agrees = m.agrees;
+      calls = λ q. ap (λ (l : List NumberedCall). found l q) empty;
+      stands = m.stands;
+      emitted = sym m.emits;
+    }),
+  )
+
+  pub turn_goes : (v : V) (p : Position) (t : Taking) (table : List NumberedCall) (run : Run Parsing Refusal) (all : List Entry) → IsRunning t → HasMet p t table Turn run all → GoesTo stands v v (Some kinds.Turn) p t table run all
+  turn_goes v p t table run all runs m =
+      (entries.Turn, refl, untold stands v, stands_at_rest p t table run _ runs (record { so_far = turned m.so_far; agrees = m.agrees; calls = m.calls; stands = m.stands; emitted = sym m.emits }))
+
+  pub close_goes : (v : V) (p : Position) (t : Taking) (table : List NumberedCall) (run : Run Parsing Refusal) (all : List Entry) → IsRunning t → HasMet p t table Close run all → GoesTo stands v v (Some kinds.Close) p t table run all
+  close_goes v p t table run all runs m =
+      (entries.Close, refl, untold stands v, stands_at_rest p t table run _ runs (record { so_far = closed m.so_far; agrees = m.agrees; calls = m.calls; stands = m.stands; emitted = sym m.emits }))
+
+  call_goes : (was now : V) (p : Position) (t : Taking) (table new : List NumberedCall) (run : Run Parsing Refusal) (all : List Entry) (id : ProcId) → IsWhole t
+      → (m : HasMet p t table (Record Client) run all) → TellsCall stands was now m.so_far.calls (body_of t) new id → GoesTo stands was now (Some (kinds.Call id)) p t new run all
+  call_goes was now p t table new run all id whole m k =
+      let v : Unpacking = unpacking_at p Between in
+      let at : unpacking_of p (released t) ≡ v = ap (unpacking_of p) (let_go t whole) in
+      let j : Judged = resuming.with_call m.so_far k.items in (
+        entries.Call k.items,
+        (k.items, whole, k.is_call, k.id_is, refl),
+        k.adds,
+        record {
+          so_far = j;
+          agrees = subst (λ (w : Unpacking). resuming.Agrees w j) (sym at) (m.agrees.0 k.items);
+          calls = k.added;
+          stands = m.stands ∙ ap (λ r. landed (call_judged v m.so_far r)) k.judged ∙ ap (λ (w : Unpacking). Runs (parsing_at w j)) (sym at);
+          emitted = sym (m.emits k.items) ∙ ap (λ (w : Unpacking). emitted_at w.opened j) (sym at);
+        },
+      )
+
+  reply_goes : (was now : V) (p : Position) (t : Taking) (table new : List NumberedCall) (run : Run Parsing Refusal) (all : List Entry) (id : ProcId) → new ≡ table → IsWhole t
+      → (m : HasMet p t table (Record Server) run all) → TellsReply stands was now m.so_far.calls (body_of t) id → GoesTo stands was now (Some (kinds.Reply id)) p t new run all
+  reply_goes was now p t table new run all id kept whole m k =
+      let v : Unpacking = unpacking_at p Between in
+      let at : unpacking_of p (released t) ≡ v = ap (unpacking_of p) (let_go t whole) in
+      let answer : ReplyItems = record { id = id; items = k.items } in
+      let j : Judged = resuming.with_reply m.so_far answer in (
+        entries.Reply id k.items,
+        (k.items, whole, k.is_reply, refl),
+        k.adds,
+        record {
+          so_far = j;
+          agrees = subst (λ (w : Unpacking). resuming.Agrees w j) (sym at) (m.agrees.0 answer);
+          calls = subst (λ (l : List NumberedCall). IsTableOf l m.so_far.calls) (sym kept) m.calls;
+          stands = m.stands ∙ ap (λ r. landed (reply_judged v m.so_far r)) k.judged ∙ ap (λ (w : Unpacking). Runs (parsing_at w j)) (sym at);
+          emitted = sym (m.emits answer) ∙ ap (λ (w : Unpacking). emitted_at w.opened j) (sym at);
+        },
+      )
+
+-- the same with the side and the container as the code has them
+module _ {V : Type 0} (stands : V → List Item → Type 0) (was now : V) (old new : Container) (table after_it : List NumberedCall) (run : Run Parsing Refusal) (all : List Entry) (id : ProcId) where
+  pub call_goes_at : {side : Side} → side ≡ Client → new ≡ old → IsWhole old.joiner → (m : HasMet old.position old.joiner table (Record side) run all) → TellsCall stands was now m.so_far.calls (body_of old.joiner) after_it id
+      → GoesTo stands was now (Some (kinds.Call id)) new.position new.joiner after_it run all
+  call_goes_at {side} is same whole m k =
+      subst (λ (c : Container). GoesTo stands was now (Some (kinds.Call id)) c.position c.joiner after_it run all) (sym same)
+      (subst (λ (s : Side). (m : HasMet old.position old.joiner table (Record s) run all) → TellsCall stands was now m.so_far.calls (body_of old.joiner) after_it id → GoesTo stands was now (Some (kinds.Call id)) old.position old.joiner after_it run all) (sym is)
+      (call_goes stands was now old.position old.joiner table after_it run all id whole) m k)
+
+  pub reply_goes_at : {side : Side} → side ≡ Server → new ≡ old → after_it ≡ table → IsWhole old.joiner → (m : HasMet old.position old.joiner table (Record side) run all) → TellsReply stands was now m.so_far.calls (body_of old.joiner) id
+      → GoesTo stands was now (Some (kinds.Reply id)) new.position new.joiner after_it run all
+  reply_goes_at {side} is same kept whole m k =
+      subst (λ (c : Container). GoesTo stands was now (Some (kinds.Reply id)) c.position c.joiner after_it run all) (sym same)
+      (subst (λ (s : Side). (m : HasMet old.position old.joiner table (Record s) run all) → TellsReply stands was now m.so_far.calls (body_of old.joiner) id → GoesTo stands was now (Some (kinds.Reply id)) old.position old.joiner after_it run all) (sym is)
+      (reply_goes stands was now old.position old.joiner table after_it run all id kept whole) m k)
 
 pub call_refused : (p : Position) (t : Taking) (table : List NumberedCall) (run : Run Parsing Refusal) (all : List Entry) (error : Error)
     → (m : HasMet p t table (Record Client) run all) → RefusesBody p Client (judge_call m.so_far.calls (body_of t)) error → EndsWith run error

@@ -6,9 +6,9 @@ use Rattle.std.proofs.Math.Logic.{∥∥₁_elim}
 use Rattle.std.proofs.Props.{props}
 use Rattle.std.specs.Io.KnownBytes.{Consumes, Keeps, IsAtEnd}
 use Rattle.xdr3.specs.declared.reason.Reason.TheVariants.{CaptureCut}
-use Rattle.xdr3.specs.Item.{AreBytes}
+use Rattle.xdr3.specs.Item.{AreBytes, Item}
 use Rattle.record_mark.specs.Machine.{Run, Runs, Stops, Stopped, after}
-use Rattle.record_mark.specs.Taking.{Taking, Led, OutOfMemory, IsRunning}
+use Rattle.record_mark.specs.Taking.{Taking, Led, OutOfMemory, IsRunning, released}
 use Rattle.record_mark.proofs.Machines.{after-append}
 use Rattle.std.specs.declared.hash.BuildHasher as BuildHasher
 use Rattle.std.specs.declared.hash.Hasher as Hasher
@@ -16,7 +16,8 @@ use Rattle.capture3.specs.declared.calls.NumberedCall.{NumberedCall}
 use Rattle.capture3.specs.declared.entries.Entries.{Entries}
 use Rattle.capture3.specs.declared.entries.Stage.{Stage}
 use Rattle.capture3.specs.declared.entries.Stage.TheVariants.{Reading, Over, Failed}
-use Rattle.capture3.specs.declared.entry.Entry as kept
+use Rattle.capture3.specs.declared.entry.Kind.{Kind}
+use Rattle.capture3.specs.declared.entry.Kind.TheVariants as kinds
 use Rattle.capture3.specs.declared.fault.Error.{Error}
 use Rattle.capture3.specs.declared.fault.Error.TheVariants as errors
 use Rattle.capture3.specs.declared.judging.Capture.{Capture}
@@ -28,7 +29,8 @@ use Rattle.capture3.specs.Container.{unpacking_of}
 use Rattle.capture3.specs.Entries.{AreAllBeforeEnd, AreFirstReached, IsMetBy, failure_in, failure_of, left_in, entries_left, unjudged, IsReading, StandsIn, StandsFor, HasRead, GoesOn, Turns, HandsOut, Answers}
 use Rattle.capture3.specs.Entry.{Entry, End}
 use Rattle.capture3.specs.FirstFault.{FirstFault, IsClean}
-use Rattle.capture3.specs.Judges.{StandsAt, GoesTo, FailsAt, IsOfBytes, entry_cost}
+use Rattle.capture3.specs.Judges.{StandsAt, GoesTo, FailsAt, IsHeld, IsOfBytes, entry_cost}
+use Rattle.capture3.specs.Kept.{IsOfKind}
 use Rattle.capture3.specs.Laws.{AreWithinLimits, most_bytes}
 use Rattle.capture3.specs.Parsing.{Parsing, file_next, file_start, parsed, emitted}
 use Rattle.capture3.specs.Position.{IsSound, IsSoundAt, opened_at, most_entries, room_of}
@@ -37,6 +39,7 @@ use Rattle.capture3.specs.Resumed.{parsing_at}
 use Rattle.capture3.specs.Sides.{file_fault}
 use Rattle.capture3.specs.Typed.{IsWellFormed, Typed}
 use Rattle.capture3.proofs.BytesOf.{AreBytes-append, split_bytes}
+use Rattle.capture3.proofs.Captures.{untold}
 use Rattle.capture3.proofs.Limits.{typed_within, whole_within}
 use Rattle.capture3.proofs.Growing.{emitted_is}
 use Rattle.capture3.proofs.Parsed.{cut_at, typed_at}
@@ -68,6 +71,14 @@ running-prop OutOfMemory = hlevel props
 
 pub running_joiner : (t : Taking) → ∥ IsRunning t ∥₁ → IsRunning t
 running_joiner t h = ∥∥₁_elim h (running-prop t) (λ s. s)
+
+kind_held : (kind : Kind) (t : Taking) (entry : Entry) → IsHeld kind t entry → IsOfKind kind entry
+kind_held kinds.Begin t entry is = is
+kind_held (kinds.Call id) t entry (items, whole, is_call, id_is, is) = (items, id_is, is)
+kind_held kinds.Turn t entry is = is
+kind_held (kinds.Reply id) t entry (items, whole, is_reply, is) = (items, is)
+kind_held kinds.Close t entry is = is
+kind_held kinds.End t entry is = is
 
 -- ---- behind bytes that the machine has taken
 
@@ -232,9 +243,9 @@ module _ {R S H : Type 0} {builds : BuildHasher.Ghosts S H} {hashes : Hasher.Gho
   all_judged : (e : Entries R S H builds hashes) (given : List ℕ) (handed : List Entry) → e.start ≡ e.end → (r : IsReading e given handed) → given ≡ r.judged
   all_judged e given handed empty r = r.split ∙ ap (λ (b : List ℕ). r.judged ++ b) (empty_range e.block.items e.start e.end empty) ∙ append-nil r.judged
 
-  machine_at : (e : Entries R S H builds hashes) (given : List ℕ) (handed : List Entry) → e.start ≡ e.end → IsReading e given handed → StandsAt e.capture.container.position e.capture.container.joiner e.capture.calls (parsed given) handed
+  machine_at : (e : Entries R S H builds hashes) (given : List ℕ) (handed : List Entry) → e.start ≡ e.end → IsReading e given handed → StandsAt e.capture.container.position (released e.capture.container.joiner) e.capture.calls (parsed given) handed
   machine_at e given handed empty r =
-      subst (λ (b : List ℕ). StandsAt e.capture.container.position e.capture.container.joiner e.capture.calls (parsed b) handed) (sym (all_judged e given handed empty r)) r.machine
+      subst (λ (b : List ℕ). StandsAt e.capture.container.position (released e.capture.container.joiner) e.capture.calls (parsed b) handed) (sym (all_judged e given handed empty r)) r.machine
 
   pub has_read : (old new : Entries R S H builds hashes) (given more : List ℕ) (handed : List Entry) → old.stage ≡ Reading → new.stage ≡ Reading → old.start ≡ old.end → new.capture ≡ old.capture → new.judged ≡ old.judged → unjudged new ≡ more → AreBytes more
       → Consumes (left old.source.now) (left new.source.now) more → StandsFor left old given handed → HasRead left old new given handed
@@ -246,7 +257,7 @@ module _ {R S H : Type 0} {builds : BuildHasher.Ghosts S H} {hashes : Hasher.Gho
         consumed = consumed;
         stands = stands_reading new (given ++ more) handed goes (AreBytes-append given more s.bytes are)
             (omega (arith, room_before old given handed is s, ap (λ (c : Capture (List NumberedCall)). room_of c.container.position) same))
-            (record { judged = r.judged; split = split; counted = count ∙ r.counted; machine = subst (λ (c : Capture (List NumberedCall)). StandsAt c.container.position c.container.joiner c.calls (parsed r.judged) handed) (sym same) r.machine });
+            (record { judged = r.judged; split = split; counted = count ∙ r.counted; machine = subst (λ (c : Capture (List NumberedCall)). StandsAt c.container.position (released c.container.joiner) c.calls (parsed r.judged) handed) (sym same) r.machine });
       }
 
   pub has_failed : (old new : Entries R S H builds hashes) (given : List ℕ) (handed : List Entry) → old.stage ≡ Reading → new.stage ≡ Failed errors.Read → old.start ≡ old.end
@@ -262,7 +273,7 @@ module _ {R S H : Type 0} {builds : BuildHasher.Ghosts S H} {hashes : Hasher.Gho
   -- ---- judging the block
 
   pub moves_on : (old new : Entries R S H builds hashes) (count : ℕ) (given : List ℕ) (handed all : List Entry) → new.judged ≡ old.judged + count → unjudged new ≡ slice_range old.block.items (old.start + count) old.end → old.start + count ≤ old.end → old.end ≤ length old.block.items
-      → (r : IsReading old given handed) → StandsAt new.capture.container.position new.capture.container.joiner new.capture.calls (after file_next (parsed r.judged) (take count (unjudged old))) all → IsReading new given all
+      → (r : IsReading old given handed) → StandsAt new.capture.container.position (released new.capture.container.joiner) new.capture.calls (after file_next (parsed r.judged) (take count (unjudged old))) all → IsReading new given all
   moves_on old new count given handed all judged block fits within r machine =
       let piece : List ℕ = take count (unjudged old) in
       let inner = length-take (old.end - old.start) (drop old.start old.block.items) in
@@ -276,19 +287,20 @@ module _ {R S H : Type 0} {builds : BuildHasher.Ghosts S H} {hashes : Hasher.Gho
       }
 
   -- with the entry that is whole, if one is
-  pub judged_on : (old new : Entries R S H builds hashes) (count : ℕ) (given : List ℕ) (handed : List Entry) (came : Option kept.Entry) → old.stage ≡ Reading → new.stage ≡ Reading → new.judged ≡ old.judged + count
-      → unjudged new ≡ slice_range old.block.items (old.start + count) old.end → old.start + count ≤ old.end → old.end ≤ length old.block.items
+  pub judged_on : {V : Type 0} (stands : V → List Item → Type 0) (was now : V) (old new : Entries R S H builds hashes) (count : ℕ) (given : List ℕ) (handed : List Entry) (came : Option Kind) → old.stage ≡ Reading → new.stage ≡ Reading
+      → new.judged ≡ old.judged + count → unjudged new ≡ slice_range old.block.items (old.start + count) old.end → old.start + count ≤ old.end → old.end ≤ length old.block.items
       → room_of new.capture.container.position + entry_cost came ≤ room_of old.capture.container.position → (s : StandsFor left old given handed)
-      → ((judged : List ℕ) → StandsAt old.capture.container.position old.capture.container.joiner old.capture.calls (parsed judged) handed
-      → GoesTo came new.capture.container.position new.capture.container.joiner new.capture.calls (after file_next (parsed judged) (take count (unjudged old))) handed) → GoesOn left new given handed (Ok came)
-  judged_on old new count given handed None is goes judged block fits within room s leads =
+      → ((judged : List ℕ) → StandsAt old.capture.container.position (released old.capture.container.joiner) old.capture.calls (parsed judged) handed
+      → GoesTo stands was now came new.capture.container.position new.capture.container.joiner new.capture.calls (after file_next (parsed judged) (take count (unjudged old))) handed) → GoesOn left stands new was now given handed (Ok came)
+  judged_on stands was now old new count given handed None is goes judged block fits within room s leads =
       let r = reading_of old given handed is s in
       stands_reading new given handed goes s.bytes (omega (arith, room_before old given handed is s, room)) (moves_on old new count given handed handed judged block fits within r (leads r.judged r.machine))
-  judged_on old new count given handed (Some one) is goes judged block fits within room s leads =
+  judged_on stands was now old new count given handed (Some kind) is goes judged block fits within room s leads =
       let r = reading_of old given handed is s in
-      let (entry, is_kept, machine) = leads r.judged r.machine in (
+      let (entry, held, adds, machine) = leads r.judged r.machine in (
         entry,
-        is_kept,
+        kind_held kind new.capture.container.joiner entry held,
+        adds,
         stands_reading new given (handed ++ entry ∷ []) goes s.bytes (omega (arith, room_before old given handed is s, room, length-append handed (entry ∷ []))) (moves_on old new count given handed (handed ++ entry ∷ []) judged block fits within r machine),
       )
 
@@ -301,7 +313,7 @@ module _ {R S H : Type 0} {builds : BuildHasher.Ghosts S H} {hashes : Hasher.Gho
   fails_by e errors.Memory given handed known are r f = first_in e given handed are r
 
   pub judged_failed : (old new : Entries R S H builds hashes) (error : Error) (given : List ℕ) (handed : List Entry) → old.stage ≡ Reading → new.stage ≡ Failed error → (s : StandsFor left old given handed)
-      → ((judged : List ℕ) → StandsAt old.capture.container.position old.capture.container.joiner old.capture.calls (parsed judged) handed → FailsAt (parsed judged) handed (unjudged old) error) → StandsFor left new given handed
+      → ((judged : List ℕ) → StandsAt old.capture.container.position (released old.capture.container.joiner) old.capture.calls (parsed judged) handed → FailsAt (parsed judged) handed (unjudged old) error) → StandsFor left new given handed
   judged_failed old new error given handed is fails s shows =
       let r = reading_of old given handed is s in
       stands_failed old new error given handed fails s (fails_by old error given handed (left new.source.now) s.bytes r (shows r.judged r.machine))
@@ -339,36 +351,42 @@ module _ {R S H : Type 0} {builds : BuildHasher.Ghosts S H} {hashes : Hasher.Gho
     stands = subst (λ (b : List ℕ). StandsFor left e b handed) (sym (append-nil given)) s;
   }
 
-  abbrev pub Goes : Entries R S H builds hashes → Entries R S H builds hashes → Result (Option kept.Entry) Error → Type 0
-  Goes mid new result = (given : List ℕ) (handed : List Entry) → StandsFor left mid given handed → GoesOn left new given handed result
+  -- the end is handed out, of which a visitor is told nothing
+  pub ended_on : {V : Type 0} (stands : V → List Item → Type 0) (v : V) (new : Entries R S H builds hashes) (given : List ℕ) (handed : List Entry) → StandsFor left new given (handed ++ End ∷ []) → GoesOn left stands new v v given handed (Ok (Some kinds.End))
+  ended_on stands v new given handed s = (End, refl, untold stands v, s)
+
+  abbrev pub Goes : {V : Type 0} → (V → List Item → Type 0) → Entries R S H builds hashes → Entries R S H builds hashes → (was now : V) → Result (Option Kind) Error → Type 0
+  Goes stands mid new was now result = (given : List ℕ) (handed : List Entry) → StandsFor left mid given handed → GoesOn left stands new was now given handed result
 
   -- a read, and then the block is judged
-  pub turned : (old mid new : Entries R S H builds hashes) (given : List ℕ) (handed : List Entry) (result : Result (Option kept.Entry) Error) → HasRead left old mid given handed → Goes mid new result → new.source.now ≡ mid.source.now → Turns left old new given handed result
-  turned old mid new given handed result read goes same = record {
+  pub turned : {V : Type 0} (stands : V → List Item → Type 0) (was now : V) (old mid new : Entries R S H builds hashes) (given : List ℕ) (handed : List Entry) (result : Result (Option Kind) Error) → HasRead left old mid given handed → Goes stands mid new was now result
+      → new.source.now ≡ mid.source.now → Turns left stands old new was now given handed result
+  turned stands was now old mid new given handed result read goes same = record {
     more = read.more;
     consumed = subst (λ (b : List ℕ). Consumes (left old.source.now) (left new.source.now) b) (append-nil read.more) (consumes_both _ _ _ read.more [] read.consumed (none_consumed _ _ (ap left same)));
     goes_on = goes (given ++ read.more) handed read.stands;
   }
 
-  pub turned_more : (old mid new : Entries R S H builds hashes) (given : List ℕ) (handed : List Entry) (result : Result (Option kept.Entry) Error) → HasRead left old mid given handed
-      → ((given : List ℕ) (handed : List Entry) → StandsFor left mid given handed → Turns left mid new given handed result) → Turns left old new given handed result
-  turned_more old mid new given handed result read turns =
+  pub turned_more : {V : Type 0} (stands : V → List Item → Type 0) (was now : V) (old mid new : Entries R S H builds hashes) (given : List ℕ) (handed : List Entry) (result : Result (Option Kind) Error) → HasRead left old mid given handed
+      → ((given : List ℕ) (handed : List Entry) → StandsFor left mid given handed → Turns left stands mid new was now given handed result) → Turns left stands old new was now given handed result
+  turned_more stands was now old mid new given handed result read turns =
       let t = turns (given ++ read.more) handed read.stands in
       record {
         more = read.more ++ t.more;
         consumed = consumes_both _ _ _ read.more t.more read.consumed t.consumed;
-        goes_on = subst (λ (b : List ℕ). GoesOn left new b handed result) (append_assoc given read.more t.more) t.goes_on;
+        goes_on = subst (λ (b : List ℕ). GoesOn left stands new was now b handed result) (append_assoc given read.more t.more) t.goes_on;
       }
 
-  pub read_more : (old mid new : Entries R S H builds hashes) (given : List ℕ) (handed : List Entry) (result : Result (Option kept.Entry) Error) → result ≡ Ok None → HasRead left old mid given handed
-      → ((given : List ℕ) (handed : List Entry) → StandsFor left mid given handed → Turns left mid new given handed result) → HasRead left old new given handed
-  read_more old mid new given handed result is read turns =
-      let t = subst (λ (r : Result (Option kept.Entry) Error). Turns left old new given handed r) is (turned_more old mid new given handed result read turns) in
+  pub read_more : {V : Type 0} (stands : V → List Item → Type 0) (was now : V) (old mid new : Entries R S H builds hashes) (given : List ℕ) (handed : List Entry) (result : Result (Option Kind) Error) → result ≡ Ok None → HasRead left old mid given handed
+      → ((given : List ℕ) (handed : List Entry) → StandsFor left mid given handed → Turns left stands mid new was now given handed result) → HasRead left old new given handed
+  read_more stands was now old mid new given handed result is read turns =
+      let t = subst (λ (r : Result (Option Kind) Error). Turns left stands old new was now given handed r) is (turned_more stands was now old mid new given handed result read turns) in
       record { more = t.more; consumed = t.consumed; stands = t.goes_on }
 
   -- no capture is so long
-  pub too_long : (old mid new : Entries R S H builds hashes) (given : List ℕ) (handed : List Entry) (result : Result (Option kept.Entry) Error) → HasRead left old mid given handed → mid.stage ≡ Reading → most_bytes < mid.judged → Turns left old new given handed result
-  too_long old mid new given handed result read is far =
+  pub too_long : {V : Type 0} (stands : V → List Item → Type 0) (was now : V) (old mid new : Entries R S H builds hashes) (given : List ℕ) (handed : List Entry) (result : Result (Option Kind) Error) → HasRead left old mid given handed → mid.stage ≡ Reading
+      → most_bytes < mid.judged → Turns left stands old new was now given handed result
+  too_long stands was now old mid new given handed result read is far =
       let r = reading_of mid (given ++ read.more) handed is read.stands in
       absurd (omega (arith, far, r.counted, size_here r.judged _ _ _ handed (split_bytes (given ++ read.more) r.judged (unjudged mid) r.split read.stands.bytes).0 r.machine))
 
@@ -377,28 +395,30 @@ module _ {R S H : Type 0} {builds : BuildHasher.Ghosts S H} {hashes : Hasher.Gho
   met_by : (e : Entries R S H builds hashes) (error : Error) (given : List ℕ) (handed : List Entry) → e.stage ≡ Failed error → StandsFor left e given handed → IsMetBy error (left e.source.now) given handed
   met_by e error given handed is s = subst (λ (stage : Stage). StandsIn stage (left e.source.now) e given handed) is s.here
 
-  hands_out : (e : Entries R S H builds hashes) (given : List ℕ) (handed : List Entry) (result : Result (Option kept.Entry) Error) → IfOk result (λ next. IsSome next) → OnOk result (failure_of e ≡ None) → IfErr result (λ error. e.stage ≡ Failed error) → GoesOn left e given handed result → HandsOut left e given handed result
-  hands_out e given handed (Ok (Some one)) some goes fails (entry, is_kept, stands) = (entry, is_kept, stands_first e given (handed ++ entry ∷ []) goes stands, stands)
-  hands_out e given handed (Ok None) some goes fails h = absurd (cc)
-  hands_out e given handed (Err error) some goes fails h = (met_by e error given handed fails h, h)
+  hands_out : {V : Type 0} (stands : V → List Item → Type 0) (was now : V) (e : Entries R S H builds hashes) (given : List ℕ) (handed : List Entry) (result : Result (Option Kind) Error) → IfOk result (λ next. IsSome next) → OnOk result (failure_of e ≡ None)
+      → IfErr result (λ error. e.stage ≡ Failed error) → GoesOn left stands e was now given handed result → HandsOut left stands e was now given handed result
+  hands_out stands was now e given handed (Ok (Some kind)) some goes fails (entry, is, adds, s) = (entry, is, stands_first e given (handed ++ entry ∷ []) goes s, adds, s)
+  hands_out stands was now e given handed (Ok None) some goes fails h = absurd (cc)
+  hands_out stands was now e given handed (Err error) some goes fails h = (met_by e error given handed fails h, h)
 
-  pub answers : (old new : Entries R S H builds hashes) (given : List ℕ) (handed : List Entry) (result : Result (Option kept.Entry) Error) → IfOk result (λ next. IsSome next) → OnOk result (failure_of new ≡ None) → IfErr result (λ error. new.stage ≡ Failed error) → Turns left old new given handed result → Answers left old new given handed result
-  answers old new given handed result some goes fails t = record { more = t.more; consumed = t.consumed; hands_out = hands_out new (given ++ t.more) handed result some goes fails t.goes_on }
+  pub answers : {V : Type 0} (stands : V → List Item → Type 0) (was now : V) (old new : Entries R S H builds hashes) (given : List ℕ) (handed : List Entry) (result : Result (Option Kind) Error) → IfOk result (λ next. IsSome next) → OnOk result (failure_of new ≡ None)
+      → IfErr result (λ error. new.stage ≡ Failed error) → Turns left stands old new was now given handed result → Answers left stands old new was now given handed result
+  answers stands was now old new given handed result some goes fails t = record { more = t.more; consumed = t.consumed; hands_out = hands_out stands was now new (given ++ t.more) handed result some goes fails t.goes_on }
 
-  pub answers_none : (e : Entries R S H builds hashes) (given : List ℕ) (handed : List Entry) → e.stage ≡ Over → StandsFor left e given handed → Answers left e e given handed (Ok None)
-  answers_none e given handed is s =
+  pub answers_none : {V : Type 0} (stands : V → List Item → Type 0) (v : V) (e : Entries R S H builds hashes) (given : List ℕ) (handed : List Entry) → e.stage ≡ Over → StandsFor left e given handed → Answers left stands e e v v given handed (Ok None)
+  answers_none stands v e given handed is s =
       let here : StandsIn Over (left e.source.now) e given handed = subst (λ (stage : Stage). StandsIn stage (left e.source.now) e given handed) is s.here in
       record {
         more = [];
         consumed = none_consumed (left e.source.now) (left e.source.now) refl;
-        hands_out = subst (λ (b : List ℕ). HandsOut left e b handed (Ok None)) (sym (append-nil given)) (here.0, here.1, s);
+        hands_out = subst (λ (b : List ℕ). HandsOut left stands e v v b handed (Ok None)) (sym (append-nil given)) (here.0, here.1, s);
       }
 
-  pub answers_again : (e : Entries R S H builds hashes) (error : Error) (given : List ℕ) (handed : List Entry) → e.stage ≡ Failed error → StandsFor left e given handed → Answers left e e given handed (Err error)
-  answers_again e error given handed is s = record {
+  pub answers_again : {V : Type 0} (stands : V → List Item → Type 0) (v : V) (e : Entries R S H builds hashes) (error : Error) (given : List ℕ) (handed : List Entry) → e.stage ≡ Failed error → StandsFor left e given handed → Answers left stands e e v v given handed (Err error)
+  answers_again stands v e error given handed is s = record {
     more = [];
     consumed = none_consumed (left e.source.now) (left e.source.now) refl;
-    hands_out = subst (λ (b : List ℕ). HandsOut left e b handed (Err error)) (sym (append-nil given)) (met_by e error given handed is s, s);
+    hands_out = subst (λ (b : List ℕ). HandsOut left stands e v v b handed (Err error)) (sym (append-nil given)) (met_by e error given handed is s, s);
   }
 
 -- ---- no device failed

@@ -117,7 +117,7 @@ pub call_xid : (s : Start) (front more : List Item) → xid_in (whole_call s fro
 unfolding followed_by
 call_xid s front more = refl
 
-call_whole : (before : List (List Item)) (body : List ℕ) (s : Start) (id : ProcId) (front : List Item) (head end to : ℕ) (more : List Item) → CallBegins body s id front head end
+pub call_whole : (before : List (List Item)) (body : List ℕ) (s : Start) (id : ProcId) (front : List Item) (head end to : ℕ) (more : List Item) → CallBegins body s id front head end
     → reading_layout (arguments_of id) body end ≡ Ok (more, to) → to ≡ length body
     → judge_call before body ≡ cond (agrees (procedure_of before s.xid) id) (Ok (whole_call s front more)) (refused 0 XidConflict)
 unfolding followed_by

@@ -21,11 +21,11 @@ use Rattle.procs3.specs.Table.{arguments_of}
 use Rattle.capture3.specs.declared.calls.NumberedCall.{NumberedCall}
 use Rattle.capture3.specs.Bodies.{procedure_of}
 use Rattle.capture3.specs.Calls.{found}
-use Rattle.capture3.specs.Judging.{agrees, judge_call, judge_reply}
+use Rattle.capture3.specs.Judging.{judge_call, judge_reply}
 use Rattle.capture3.specs.MessageScan.{ScansCall, ScansReply, StopsMessage}
 use Rattle.capture3.specs.Messages.{results_after}
 use Rattle.capture3.proofs.Bodies.{the_calls, the_replies}
-use Rattle.capture3.proofs.Judgements.{CallBegins, ReplyBegins, call_accepted, call_bad_arguments, call_bad_head, call_procedure, call_xid, refusal_judged, reply_accepted, reply_bad_head, reply_bad_results, reply_xid, whole_call, whole_reply}
+use Rattle.capture3.proofs.Judgements.{CallBegins, ReplyBegins, call_accepted, call_bad_arguments, call_bad_head, call_procedure, call_whole, call_xid, refusal_judged, reply_accepted, reply_bad_head, reply_bad_results, reply_xid, whole_call, whole_reply}
 use Rattle.capture3.proofs.Spelled.{asking}
 
 -- ---- what the code hands on
@@ -95,14 +95,14 @@ call_told stands body s id v1 v2 v3 n0 n1 n2 n3 b a h x =
       adds = adds_both stands n0 n1 n3 (start_items s) (c.0 ++ x.0) a (adds_both stands n1 n2 n3 c.0 x.0 c.3 x.3);
     }
 
-pub call_scans : {V : Type 0} (stands : V → List Item → Type 0) (table : List NumberedCall) (body : List ℕ) (s : Start) (id : ProcId) (head end : ℕ) (last : View) (old new : V) → AreBytes body
-    → CallRead stands body s id head end last old new → last.at ≡ length body → agrees (found table s.xid) id ≡ true → ScansCall stands table body (record { xid = s.xid; id = id }) old new
-call_scans stands table body s id head end last old new are r is agree = record {
+pub call_scans : {V : Type 0} (stands : V → List Item → Type 0) (body : List ℕ) (s : Start) (id : ProcId) (head end : ℕ) (last : View) (old new : V) → AreBytes body
+    → CallRead stands body s id head end last old new → last.at ≡ length body → ScansCall stands body (record { xid = s.xid; id = id }) old new
+call_scans stands body s id head end last old new are r is = record {
   items = whole_call s r.front r.more;
   is_call = (the_calls.accepted [] body (whole_call s r.front r.more) are (call_accepted [] body s id r.front head end last.at r.more r.begins r.read is refl)).0;
   xid_is = call_xid s r.front r.more;
   procedure_is = call_procedure body s id r.front r.more head end r.begins;
-  accepted = λ before known. call_accepted before body s id r.front head end last.at r.more r.begins r.read is (ap (λ p. agrees p id) (sym (known s.xid)) ∙ agree);
+  judged = λ before. call_whole before body s id r.front head end last.at r.more r.begins r.read is;
   adds = r.adds;
 }
 

@@ -1,13 +1,14 @@
 -- A whole file: from where its machine stands to what is to be said of it.
 use Rattle.std.proofs.Common.{◌≡◌, ◌≢◌, ℕ, zero, suc, ◌+◌, ◌-◌, Option, Some, None, take-append-drop, List, [], ◌∷◌, ◌++◌, length, take, take_all, drop, length-drop, append-nil, arith, refl, sym, ap, ◌∙◌, subst, Ok, Err}
 use Rattle.xdr3.specs.declared.reason.Reason.TheVariants.{CaptureCut}
-use Rattle.xdr3.specs.Item.{AreBytes}
+use Rattle.xdr3.specs.Item.{AreBytes, Item}
 use Rattle.record_mark.specs.Joining.{Joining}
 use Rattle.record_mark.specs.Machine.{Run, Runs, after}
-use Rattle.record_mark.specs.Taking.{Taking}
+use Rattle.record_mark.specs.Taking.{Taking, released}
 use Rattle.capture3.specs.declared.calls.NumberedCall.{NumberedCall}
 use Rattle.capture3.specs.declared.entry.Entry as kept
 use Rattle.capture3.specs.declared.entry.Entry.TheVariants as variants
+use Rattle.capture3.specs.declared.entry.Kind.{Kind}
 use Rattle.capture3.specs.declared.fault.Error.{Error}
 use Rattle.capture3.specs.declared.fault.Error.TheVariants as errors
 use Rattle.capture3.specs.declared.fault.Fault.{Fault}
@@ -19,7 +20,7 @@ use Rattle.capture3.specs.Connections.{Refusal}
 use Rattle.capture3.specs.Container.{unpacking_of}
 use Rattle.capture3.specs.Entry.{Entry, End}
 use Rattle.capture3.specs.FirstFault.{FirstFault}
-use Rattle.capture3.specs.Judges.{StandsAt, GoesTo, FailsAt}
+use Rattle.capture3.specs.Judges.{StandsAt, GoesTo, FailsAt, IsHeld}
 use Rattle.capture3.specs.Kept.{IsKept, AreKept, begun}
 use Rattle.capture3.specs.Laws.{begins}
 use Rattle.capture3.specs.Parsing.{Parsing, file_next, file_start, parsed, concluded, verdict_of}
@@ -123,19 +124,28 @@ pub stands_more : (bytes : List ℕ) (n m : ℕ) (p : Position) (t : Taking) (ta
 stands_more bytes n m p t table model s = subst (λ (r : Run Parsing Refusal). StandsAt p t table r model) (sym (piece_more file_next (Runs file_start) bytes n m)) s
 
 abbrev pub Keeps : Position → Taking → List NumberedCall → List ℕ → List kept.Entry → Type 0
-Keeps p t table bytes items = (model : List Entry) × StandsAt p t table (parsed bytes) model × AreKept items model
+Keeps p t table bytes items = (model : List Entry) × StandsAt p (released t) table (parsed bytes) model × AreKept items model
 
-pub keeps_on : (bytes : List ℕ) (n m : ℕ) (p : Position) (t : Taking) (table : List NumberedCall) (items : List kept.Entry) (model : List Entry) (came : Option kept.Entry) → came ≡ None
-    → GoesTo came p t table (after file_next (parsed (take n bytes)) (take m (take (length bytes - n) (drop n bytes)))) model → AreKept items model → Keeps p t table (take (n + m) bytes) items
-keeps_on bytes n m p t table items model None e goes are = (model, stands_more bytes n m p t table model goes, are)
-keeps_on bytes n m p t table items model (Some one) e goes are = absurd (cc)
+module _ {V : Type 0} (stands : V → List Item → Type 0) (was now : V) where
+  pub keeps_on : (bytes : List ℕ) (n m : ℕ) (p : Position) (t : Taking) (table : List NumberedCall) (items : List kept.Entry) (model : List Entry) (came : Option Kind) → came ≡ None
+      → GoesTo stands was now came p t table (after file_next (parsed (take n bytes)) (take m (take (length bytes - n) (drop n bytes)))) model → AreKept items model → Keeps p t table (take (n + m) bytes) items
+  keeps_on bytes n m p t table items model None e goes are = (model, stands_more bytes n m p (released t) table model goes, are)
+  keeps_on bytes n m p t table items model (Some kind) e goes are = absurd (cc)
 
-pub keeps_more : (bytes : List ℕ) (n m : ℕ) (p : Position) (t : Taking) (table : List NumberedCall) (items : List kept.Entry) (model : List Entry) (came : Option kept.Entry) (one : kept.Entry) → came ≡ Some one
-    → GoesTo came p t table (after file_next (parsed (take n bytes)) (take m (take (length bytes - n) (drop n bytes)))) model → AreKept items model → Keeps p t table (take (n + m) bytes) (items ++ one ∷ [])
-keeps_more bytes n m p t table items model None one e goes are = absurd (cc)
-keeps_more bytes n m p t table items model (Some new) one e goes are =
-    let same : new ≡ one = cc in
-    (model ++ goes.0 ∷ [], stands_more bytes n m p t table (model ++ goes.0 ∷ []) goes.2, kept_snoc items model one goes.0 are (subst (λ (x : kept.Entry). IsKept x goes.0) same goes.1))
+  -- the entry that is whole
+  pub held : (p : Position) (t : Taking) (table : List NumberedCall) (run : Run Parsing Refusal) (model : List Entry) (came : Option Kind) (kind : Kind) → came ≡ Some kind → GoesTo stands was now came p t table run model
+      → (entry : Entry) × IsHeld kind t entry × StandsAt p (released t) table run (model ++ entry ∷ [])
+  held p t table run model None kind e goes = absurd (cc)
+  held p t table run model (Some new) kind e goes =
+      let same : new ≡ kind = cc in
+      (goes.0, subst (λ (k : Kind). IsHeld k t goes.0) same goes.1, goes.3)
+
+  pub keeps_more : (bytes : List ℕ) (n m : ℕ) (p : Position) (t : Taking) (table : List NumberedCall) (items : List kept.Entry) (model : List Entry) (came : Option Kind) (kind : Kind) (one : kept.Entry) → came ≡ Some kind
+      → GoesTo stands was now came p t table (after file_next (parsed (take n bytes)) (take m (take (length bytes - n) (drop n bytes)))) model → ((entry : Entry) → IsHeld kind t entry → IsKept one entry) → AreKept items model
+      → Keeps p t table (take (n + m) bytes) (items ++ one ∷ [])
+  keeps_more bytes n m p t table items model came kind one e goes keeps are =
+      let h = held p t table _ model came kind e goes in
+      (model ++ h.0 ∷ [], stands_more bytes n m p (released t) table (model ++ h.0 ∷ []) h.2, kept_snoc items model one h.0 are (keeps h.0 h.1))
 
 -- ---- what kept entries begin
 

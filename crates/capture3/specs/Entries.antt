@@ -1,21 +1,23 @@
 -- A reader of entries, and the histories for which it stands: what its source gave it, and what it handed out.
 use Rattle.std.specs.Prelude.{◌≡◌, ◌⊎◌, ℕ, ◌+◌, ◌-◌, ◌^◌, ◌≤◌, min, Option, Some, None, Result, Ok, Err, List, [], ◌∷◌, ◌++◌, length, slice_range}
 use Rattle.std.specs.Io.KnownBytes.{Consumes, IsAtEnd}
-use Rattle.xdr3.specs.Item.{AreBytes}
+use Rattle.record_mark.specs.Taking.{released}
+use Rattle.xdr3.specs.Item.{AreBytes, Item}
+use Rattle.xdr3.specs.Visit.{Adds}
 use Rattle.std.specs.declared.hash.BuildHasher as BuildHasher
 use Rattle.std.specs.declared.hash.Hasher as Hasher
 use Rattle.capture3.specs.declared.entries.Entries.{Entries}
 use Rattle.capture3.specs.declared.entries.Stage.{Stage}
 use Rattle.capture3.specs.declared.entries.Stage.TheVariants.{Reading, Over, Failed}
-use Rattle.capture3.specs.declared.entry.Entry as kept
+use Rattle.capture3.specs.declared.entry.Kind.{Kind}
 use Rattle.capture3.specs.declared.fault.Error.{Error}
 use Rattle.capture3.specs.declared.fault.Error.TheVariants as errors
 use Rattle.capture3.specs.declared.position.Position.{Position}
 use Rattle.capture3.specs.Capture.{max_connections}
-use Rattle.capture3.specs.Entry.{Entry, End}
+use Rattle.capture3.specs.Entry.{Entry, End, items_of}
 use Rattle.capture3.specs.FirstFault.{FirstFault}
 use Rattle.capture3.specs.Judges.{StandsAt}
-use Rattle.capture3.specs.Kept.{IsKept}
+use Rattle.capture3.specs.Kept.{IsOfKind}
 use Rattle.capture3.specs.Laws.{begins}
 use Rattle.capture3.specs.Parsing.{parsed}
 use Rattle.capture3.specs.Position.{most_entries, room_of}
@@ -71,7 +73,7 @@ module _ {R S H : Type 0} {builds : BuildHasher.Ghosts S H} {hashes : Hasher.Gho
     pub judged : List ℕ
     pub split : given ≡ judged ++ unjudged entries
     pub counted : entries.judged ≡ length judged
-    pub machine : StandsAt entries.capture.container.position entries.capture.container.joiner entries.capture.calls (parsed judged) handed
+    pub machine : StandsAt entries.capture.container.position (released entries.capture.container.joiner) entries.capture.calls (parsed judged) handed
 
   abbrev pub StandsIn : Stage → Option (List ℕ) → Entries R S H builds hashes → List ℕ → List Entry → Type 0
   StandsIn Reading left entries given handed = IsReading entries given handed
@@ -85,20 +87,25 @@ module _ {R S H : Type 0} {builds : BuildHasher.Ghosts S H} {hashes : Hasher.Gho
     pub connections : begins handed ≤ max_connections
     pub here : StandsIn entries.stage (left entries.source.now) entries given handed
 
-  -- ---- what a call makes of a history
+  -- the end was handed out
+  abbrev pub IsOver : Entries R S H builds hashes → Type 0
+  IsOver entries = entries.stage ≡ Over
 
-  -- The next entry is handed out, and kept: the next of those that the bytes reach. None comes where no byte is left, behind all entries of a
-  -- well-formed capture.
-  abbrev pub HandsOut : (R → Option (List ℕ)) → Entries R S H builds hashes → List ℕ → List Entry → Result (Option kept.Entry) Error → Type 0
-  HandsOut left new given handed (Ok (Some one)) = (entry : Entry) × IsKept one entry × AreFirstReached given (handed ++ entry ∷ []) × StandsFor left new given (handed ++ entry ∷ [])
-  HandsOut left new given handed (Ok None) = Typed given handed × IsAtEnd (left new.source.now) × StandsFor left new given handed
-  HandsOut left new given handed (Err error) = IsMetBy error (left new.source.now) given handed × StandsFor left new given handed
+  -- ---- what a call makes of a history, and of a visitor
 
-  -- the same, behind the bytes that the source gave in the call
-  pub record Answers (left : R → Option (List ℕ)) (old new : Entries R S H builds hashes) (given : List ℕ) (handed : List Entry) (result : Result (Option kept.Entry) Error) : Type 0 where
+  -- The next entry is handed out: the next of those that the bytes reach, of this kind, whose items the visitor was told. None comes where no
+  -- byte is left, after all entries of a well-formed capture.
+  abbrev pub HandsOut : {V : Type 0} → (R → Option (List ℕ)) → (V → List Item → Type 0) → Entries R S H builds hashes → (was now : V) → List ℕ → List Entry → Result (Option Kind) Error → Type 0
+  HandsOut left stands new was now given handed (Ok (Some kind)) =
+      (entry : Entry) × IsOfKind kind entry × AreFirstReached given (handed ++ entry ∷ []) × Adds stands was now (items_of entry) × StandsFor left new given (handed ++ entry ∷ [])
+  HandsOut left stands new was now given handed (Ok None) = Typed given handed × IsAtEnd (left new.source.now) × StandsFor left new given handed
+  HandsOut left stands new was now given handed (Err error) = IsMetBy error (left new.source.now) given handed × StandsFor left new given handed
+
+  -- the same, after the bytes that the source gave in the call
+  pub record Answers {V : Type 0} (left : R → Option (List ℕ)) (stands : V → List Item → Type 0) (old new : Entries R S H builds hashes) (was now : V) (given : List ℕ) (handed : List Entry) (result : Result (Option Kind) Error) : Type 0 where
     pub more : List ℕ
     pub consumed : Consumes (left old.source.now) (left new.source.now) more
-    pub hands_out : HandsOut left new (given ++ more) handed result
+    pub hands_out : HandsOut left stands new was now (given ++ more) handed result
 
   -- ---- within the crate
 
@@ -108,13 +115,14 @@ module _ {R S H : Type 0} {builds : BuildHasher.Ghosts S H} {hashes : Hasher.Gho
     pub consumed : Consumes (left old.source.now) (left new.source.now) more
     pub stands : StandsFor left new (given ++ more) handed
 
-  -- an entry is handed out; or it goes on, or has failed
-  abbrev pub GoesOn : (R → Option (List ℕ)) → Entries R S H builds hashes → List ℕ → List Entry → Result (Option kept.Entry) Error → Type 0
-  GoesOn left new given handed (Ok (Some one)) = (entry : Entry) × IsKept one entry × StandsFor left new given (handed ++ entry ∷ [])
-  GoesOn left new given handed (Ok None) = StandsFor left new given handed
-  GoesOn left new given handed (Err error) = StandsFor left new given handed
+  -- an entry is handed out and told; or it goes on, or has failed
+  abbrev pub GoesOn : {V : Type 0} → (R → Option (List ℕ)) → (V → List Item → Type 0) → Entries R S H builds hashes → (was now : V) → List ℕ → List Entry → Result (Option Kind) Error → Type 0
+  GoesOn left stands new was now given handed (Ok (Some kind)) =
+      (entry : Entry) × IsOfKind kind entry × Adds stands was now (items_of entry) × StandsFor left new given (handed ++ entry ∷ [])
+  GoesOn left stands new was now given handed (Ok None) = StandsFor left new given handed
+  GoesOn left stands new was now given handed (Err error) = StandsFor left new given handed
 
-  pub record Turns (left : R → Option (List ℕ)) (old new : Entries R S H builds hashes) (given : List ℕ) (handed : List Entry) (result : Result (Option kept.Entry) Error) : Type 0 where
+  pub record Turns {V : Type 0} (left : R → Option (List ℕ)) (stands : V → List Item → Type 0) (old new : Entries R S H builds hashes) (was now : V) (given : List ℕ) (handed : List Entry) (result : Result (Option Kind) Error) : Type 0 where
     pub more : List ℕ
     pub consumed : Consumes (left old.source.now) (left new.source.now) more
-    pub goes_on : GoesOn left new (given ++ more) handed result
+    pub goes_on : GoesOn left stands new was now (given ++ more) handed result

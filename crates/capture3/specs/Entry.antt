@@ -1,5 +1,5 @@
 -- The entries of a capture.
-use Rattle.std.specs.Prelude.{List}
+use Rattle.std.specs.Prelude.{List, []}
 use Rattle.rpc_head.specs.declared.call.ProcId.{ProcId}
 use Rattle.xdr3.specs.Item.{Item}
 
@@ -12,3 +12,9 @@ pub data Entry : Type 0 where
   Reply : (id : ProcId) (items : List Item) → Entry
   Close : Entry
   End : Entry
+
+-- the items of an entry that is a message
+abbrev pub items_of : Entry → List Item
+items_of (Call items) = items
+items_of (Reply id items) = items
+items_of _ = []

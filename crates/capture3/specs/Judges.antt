@@ -4,14 +4,15 @@ use Rattle.xdr3.specs.declared.reason.GetError.{GetError}
 use Rattle.xdr3.specs.declared.reason.GetError.TheVariants as gets
 use Rattle.xdr3.specs.declared.reason.Stop.{Stop}
 use Rattle.xdr3.specs.Item.{Item}
+use Rattle.xdr3.specs.Visit.{Adds}
 use Rattle.record_mark.specs.Joining.{Between}
 use Rattle.record_mark.specs.Machine.{Ends, Run, Runs, Stops, after, landed}
-use Rattle.record_mark.specs.Taking.{Taking, body_of}
+use Rattle.record_mark.specs.Taking.{Taking, IsWhole, body_of, released}
+use Rattle.rpc_head.specs.declared.call.ProcId.{ProcId}
 use Rattle.rpc_head.specs.Messages.{procedure_in}
 use Rattle.capture3.specs.declared.calls.NumberedCall.{NumberedCall}
-use Rattle.capture3.specs.declared.entry.Entry as kept
-use Rattle.capture3.specs.declared.entry.KeptCall.{KeptCall}
-use Rattle.capture3.specs.declared.entry.KeptReply.{KeptReply}
+use Rattle.capture3.specs.declared.entry.Kind.{Kind}
+use Rattle.capture3.specs.declared.entry.Kind.TheVariants as kinds
 use Rattle.capture3.specs.declared.fault.Error.{Error}
 use Rattle.capture3.specs.declared.fault.Error.TheVariants as errors
 use Rattle.capture3.specs.declared.fault.Fault.{Fault}
@@ -20,12 +21,12 @@ use Rattle.capture3.specs.declared.fault.Side.{Side}
 use Rattle.capture3.specs.declared.position.Event.{Event}
 use Rattle.capture3.specs.declared.position.Event.TheVariants.{Begin, Record, Turn, Close}
 use Rattle.capture3.specs.declared.position.Position.{Position}
-use Rattle.capture3.specs.Bodies.{ReplyItems, IsCall, IsReply}
+use Rattle.capture3.specs.Bodies.{IsCall, IsReply}
 use Rattle.capture3.specs.Connections.{Refusal, refusal}
 use Rattle.capture3.specs.Container.{unpacking_of}
-use Rattle.capture3.specs.Entry.{Entry}
+use Rattle.capture3.specs.Entry.{Entry, items_of}
+use Rattle.capture3.specs.Entry as entries
 use Rattle.capture3.specs.Judging.{judge_call, judge_reply}
-use Rattle.capture3.specs.Kept.{IsKept}
 use Rattle.capture3.specs.Messages.{IsTableOf}
 use Rattle.capture3.specs.Parsing.{Parsing, file_next, emitted}
 use Rattle.capture3.specs.Position.{unpacking_at}
@@ -57,10 +58,20 @@ pub record HasMet (position : Position) (taking : Taking) (table : List Numbered
 
 -- ---- what a call leaves
 
--- the run goes on to there, and its entry, if there is one, is kept
-abbrev pub GoesTo : Option kept.Entry → Position → Taking → List NumberedCall → Run Parsing Refusal → List Entry → Type 0
-GoesTo None position taking table run entries = StandsAt position taking table run entries
-GoesTo (Some one) position taking table run entries = (entry : Entry) × IsKept one entry × StandsAt position taking table run (entries ++ entry ∷ [])
+-- what is whole is this entry, whose body stands there where it is a message
+abbrev pub IsHeld : Kind → Taking → Entry → Type 0
+IsHeld kinds.Begin taking entry = entry ≡ entries.Begin
+IsHeld (kinds.Call id) taking entry = (items : List Item) × IsWhole taking × IsCall (body_of taking) items × (id ≡ procedure_in items) × (entry ≡ entries.Call items)
+IsHeld kinds.Turn taking entry = entry ≡ entries.Turn
+IsHeld (kinds.Reply id) taking entry = (items : List Item) × IsWhole taking × IsReply (body_of taking) (record { id = id; items = items }) × (entry ≡ entries.Reply id items)
+IsHeld kinds.Close taking entry = entry ≡ entries.Close
+IsHeld kinds.End taking entry = entry ≡ entries.End
+
+-- The run goes on to there, and its entry, if there is one, is told a visitor. A whole record stands until the next call.
+abbrev pub GoesTo : {V : Type 0} → (V → List Item → Type 0) → (was now : V) → Option Kind → Position → Taking → List NumberedCall → Run Parsing Refusal → List Entry → Type 0
+GoesTo stands was now None position taking table run entries = StandsAt position (released taking) table run entries
+GoesTo stands was now (Some kind) position taking table run entries =
+    (entry : Entry) × IsHeld kind taking entry × Adds stands was now (items_of entry) × StandsAt position (released taking) table run (entries ++ entry ∷ [])
 
 -- the last byte of the run shows the fault, unless memory ran out
 abbrev pub EndsWith : Run Parsing Refusal → Error → Type 0
@@ -87,22 +98,21 @@ FailsAt run entries bytes _ = ⊥
 
 -- ---- one record
 
--- the body was a call, which is kept and joins the calls of its connection
-pub record KeepsCall (calls : List (List Item)) (body : List ℕ) (table : List NumberedCall) (call : KeptCall) : Type 0 where
+-- the body was a call, which is told a visitor and joins the calls of its connection
+pub record TellsCall {V : Type 0} (stands : V → List Item → Type 0) (was now : V) (calls : List (List Item)) (body : List ℕ) (table : List NumberedCall) (id : ProcId) : Type 0 where
   pub items : List Item
   pub judged : judge_call calls body ≡ Ok items
   pub is_call : IsCall body items
-  pub body_is : call.body.items ≡ body
-  pub id_is : call.id ≡ procedure_in items
+  pub id_is : id ≡ procedure_in items
   pub added : IsTableOf table (calls ++ items ∷ [])
+  pub adds : Adds stands was now items
 
--- the body was a reply, which is kept
-pub record KeepsReply (calls : List (List Item)) (body : List ℕ) (reply : KeptReply) : Type 0 where
-  pub answer : ReplyItems
-  pub judged : judge_reply calls body ≡ Ok answer
-  pub is_reply : IsReply body answer
-  pub body_is : reply.body.items ≡ body
-  pub id_is : reply.id ≡ answer.id
+-- the body was a reply, which is told a visitor
+pub record TellsReply {V : Type 0} (stands : V → List Item → Type 0) (was now : V) (calls : List (List Item)) (body : List ℕ) (id : ProcId) : Type 0 where
+  pub items : List Item
+  pub judged : judge_reply calls body ≡ Ok (record { id = id; items = items })
+  pub is_reply : IsReply body (record { id = id; items = items })
+  pub adds : Adds stands was now items
 
 -- the body was refused, unless memory ran out
 abbrev pub RefusesBody : {X : Type 0} → Position → Side → Result X Stop → Error → Type 0
@@ -123,6 +133,6 @@ IsOfBytes errors.Read = ⊥
 IsOfBytes errors.Write = ⊥
 IsOfBytes errors.Memory = Unit {0}
 
-abbrev pub entry_cost : Option kept.Entry → ℕ
+abbrev pub entry_cost : Option Kind → ℕ
 entry_cost None = 0
-entry_cost (Some entry) = 1
+entry_cost (Some kind) = 1

@@ -4,8 +4,19 @@ use Rattle.xdr3.specs.Item.{Item}
 use Rattle.rpc_head.specs.Messages.{procedure_in}
 use Rattle.capture3.specs.declared.entry.Entry as kept
 use Rattle.capture3.specs.declared.entry.Entry.TheVariants as variants
+use Rattle.capture3.specs.declared.entry.Kind.{Kind}
+use Rattle.capture3.specs.declared.entry.Kind.TheVariants as kinds
 use Rattle.capture3.specs.Bodies.{IsCall, IsReply}
 use Rattle.capture3.specs.Entry.{Entry, Begin, Call, Turn, Reply, Close, End}
+
+-- An entry is of this kind, and for this procedure where it is a message.
+abbrev pub IsOfKind : Kind → Entry → Type 0
+IsOfKind kinds.Begin entry = entry ≡ Begin
+IsOfKind (kinds.Call id) entry = (items : List Item) × (id ≡ procedure_in items) × (entry ≡ Call items)
+IsOfKind kinds.Turn entry = entry ≡ Turn
+IsOfKind (kinds.Reply id) entry = (items : List Item) × (entry ≡ Reply id items)
+IsOfKind kinds.Close entry = entry ≡ Close
+IsOfKind kinds.End entry = entry ≡ End
 
 -- A kept message's body spells the entry's items, for its procedure (RFC 5531, section 9).
 abbrev pub IsKept : kept.Entry → Entry → Type 0

@@ -1,6 +1,6 @@
 // The calls of a connection.
 
-ghost use Rattle.std.specs.Prelude.{◌≡◌, [], OnOk, OnErr};
+ghost use Rattle.std.specs.Prelude.{◌≡◌, [], IfOk, IsTrue};
 ghost use Rattle.capture3.specs.Calls.{found, numbered_calls, with_call};
 ghost use Rattle.capture3.specs.Judging.{agrees};
 
@@ -34,17 +34,26 @@ pub(crate) trait CallTable: KnownCalls {
     fn clear(&mut self)
         ensures { Self.calls self.new ≡ [] };
 
-    /// Adds a call, unless its xid is there.
-    fn add(&mut self, xid: u32, id: ProcId) -> Result<(), AllocError>
-        ensures ok { OnOk result (Self.calls self.new ≡ with_call (Self.calls self.old) xid id) }
-        ensures err { OnErr result (Self.calls self.new ≡ Self.calls self.old) };
+    /// Adds a call, unless its xid is there. False stands for a call at odds with one that has its xid
+    /// and another procedure, after which the calls are open.
+    fn admit(&mut self, xid: u32, id: ProcId) -> Result<bool, AllocError>
+        ensures agrees { IfOk result (λ is. is ≡ agrees (found (Self.calls self.old) xid) id) }
+        ensures added { IfOk result
+            (λ is. IsTrue is → Self.calls self.new ≡ with_call (Self.calls self.old) xid id) };
 }
 
 /// Tells that no call has this xid and another procedure.
 pub(crate) fn agrees_in<C: KnownCalls>(calls: &C, xid: u32, id: ProcId) -> bool
     ensures { result ≡ agrees (found (C.calls calls.now) xid) id }
 {
-    match calls.procedure_of(xid) {
+    is_none_or(calls.procedure_of(xid), id)
+}
+
+/// Tells that no procedure is there, or this one.
+fn is_none_or(other: Option<ProcId>, id: ProcId) -> bool
+    ensures { result ≡ agrees other id }
+{
+    match other {
         None => true,
         Some(other) => other == id,
     }
@@ -93,11 +102,14 @@ impl CallTable for CallList {
         self.calls.clear();
     }
 
-    fn add(&mut self, xid: u32, id: ProcId) -> Result<(), AllocError> {
-        if self.procedure_of(xid).is_none() {
-            self.calls.push(NumberedCall { xid, id })?;
+    fn admit(&mut self, xid: u32, id: ProcId) -> Result<bool, AllocError> {
+        match self.procedure_of(xid) {
+            Some(other) => Ok(other == id),
+            None => {
+                self.calls.push(NumberedCall { xid, id })?;
+                Ok(true)
+            }
         }
-        Ok(())
     }
 }
 
@@ -140,14 +152,10 @@ impl<S: BuildHasher + Drop> CallTable for HashedCalls<S> {
         self.calls.clear();
     }
 
-    fn add(&mut self, xid: u32, id: ProcId) -> Result<(), AllocError> {
-        match self.procedure_of(xid) {
-            Some(_) => Ok(()),
-            None => {
-                self.calls.insert(xid, id)?;
-                Ok(())
-            }
-        }
+    // One look-up: the call takes the place of one with its xid, which is the same unless they are at odds.
+    fn admit(&mut self, xid: u32, id: ProcId) -> Result<bool, AllocError> {
+        let other = self.calls.insert(xid, id)?;
+        Ok(is_none_or(other, id))
     }
 }
 

@@ -5,7 +5,7 @@ ghost use Rattle.capture3.specs.Container.{Arrives, Fails, Leaves, unpacking_of}
 ghost use Rattle.capture3.specs.Position.{cost_of, IsOpenBody, IsSound, most_things, room_of, TakesSome};
 ghost use Rattle.capture3.specs.Unpacking.{unpacking_start};
 ghost use Rattle.record_mark.specs.RecordMark.{max_body};
-ghost use Rattle.record_mark.specs.Taking.{IsRunning, IsWhole, body_of, joining_of, unbegun};
+ghost use Rattle.record_mark.specs.Taking.{IsRunning, IsWhole, body_of, joining_of, released};
 
 use crate::fault::{Error, Place, Side};
 use crate::position::{Event, Position, Spot, Taken, file_fault};
@@ -42,12 +42,12 @@ impl Container {
         self.joiner.body()
     }
 
-    /// Makes room for the next record.
-    pub(crate) fn clear_record(&mut self)
-        ensures joiner { self.new.joiner ≡ unbegun }
+    /// Makes room for the next record where one is whole.
+    pub(crate) fn release(&mut self)
+        ensures joiner { self.new.joiner ≡ released self.old.joiner }
         ensures position { self.new.position ≡ self.old.position }
     {
-        self.joiner.clear();
+        self.joiner.release();
     }
 
     /// A fault of the record that is whole.

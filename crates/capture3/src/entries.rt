@@ -1,8 +1,8 @@
 // The entries of a capture, read one by one.
 
-ghost use Rattle.std.specs.Prelude.{◌≡◌, ◌≢◌, ◌≤◌, ◌<◌, ℕ, List, [], length, vec_len, IsTrue, IsFalse, IsSome, IfErr, IfOk, OnOk, Err, None, Some};
+ghost use Rattle.std.specs.Prelude.{◌≡◌, ◌≢◌, ◌≤◌, ◌<◌, ◌++◌, ◌∷◌, ℕ, List, [], length, vec_len, IsTrue, IsFalse, IsSome, IfErr, IfOk, OnErr, OnOk, Err, Ok, None, Some};
 ghost use Rattle.std.specs.Io.KnownBytes.{IsAtEnd, ReadConsumes};
-ghost use Rattle.record_mark.specs.Taking.{IsRunning};
+ghost use Rattle.record_mark.specs.Taking.{IsRunning, released};
 ghost use Rattle.capture3.specs.declared.entries.Stage.TheVariants as stages;
 ghost use Rattle.capture3.specs.declared.fault.Error.TheVariants as errors;
 ghost use Rattle.xdr3.specs.Item.{AreBytes};
@@ -13,14 +13,14 @@ ghost use Rattle.capture3.specs.Position.{IsSound};
 
 use crate::calls::HashedCalls;
 use crate::device::DeviceFailed;
-use crate::entry::Entry;
+use crate::entry::Kind;
 use crate::fault::Error;
 use crate::judging::Capture;
 use crate::position::file_fault;
 use crate::source::Source;
 use std::alloc::{AllocError, Global};
 use std::hash::BuildHasher;
-use xdr3::Reason;
+use xdr3::{Reason, Visit};
 
 /// How many bytes a read asks for.
 const BLOCK: usize = 65_536;
@@ -45,7 +45,6 @@ enum Stage {
 #[derive(Drop)]
 pub struct Entries<'r, R, S: BuildHasher + Drop> {
     source: &'r mut R,
-    alloc: Global,
     // The bytes from `start` to `end` are not judged yet.
     block: Vec<u8>,
     start: usize,
@@ -58,27 +57,15 @@ pub struct Entries<'r, R, S: BuildHasher + Drop> {
     ghost within: { end ≤ vec_len block },
     ghost roomy: { 0 < vec_len block },
     ghost sound: { stage ≡ stages.Reading → ∥ IsSound capture.container.position ∥₁ },
-    ghost running: { stage ≡ stages.Reading → ∥ IsRunning capture.container.joiner ∥₁ },
+    ghost running: { stage ≡ stages.Reading → ∥ IsRunning (released capture.container.joiner) ∥₁ },
     ghost never_writes: { stage ≢ stages.Failed errors.Write },
 }
 
 impl<'r, R: Source, S: BuildHasher + Drop> Entries<'r, R, S> {
-    ghost use Rattle.capture3.specs.Entries.{Answers, CountsReading, entries_left, failure_of, GoesOn, HasRead, StandsFor, Turns};
+    ghost use Rattle.capture3.specs.Entries.{Answers, CountsReading, entries_left, failure_of, GoesOn, HasRead, IsOver, StandsFor, Turns};
 
-    /// Takes the block's memory, and reads nothing. The hasher is for the calls of a connection by their
-    /// xids, and plays no part in the answers.
-    pub fn new(alloc: Global, hasher: S, source: &'r mut R) -> Result<Entries<'r, R, S>, AllocError>
-        ensures stands { IfOk result (λ entries. StandsFor R.left entries [] []) }
-        ensures unread { IfOk result (λ entries. entries.source.now ≡ source.old) }
-        ensures going { IfOk result (λ entries. failure_of entries ≡ None) }
-        ensures same_reference { IfOk result (λ entries. entries.source.ghost_name ≡ source.entry.ghost_name) }
-    {
-        let block = new_block(alloc)?;
-        Ok(Entries::through(alloc, hasher, source, block))
-    }
-
-    /// The same through a block that is there already, and has room: where memory is wanting, the
-    /// source was not lent.
+    /// A reader through a block that has room, which reads nothing yet. The hasher is for the calls of a
+    /// connection by their xids, and plays no part in the answers.
     pub fn through(alloc: Global, hasher: S, source: &'r mut R, block: Vec<u8>) -> Entries<'r, R, S>
         requires { 0 < vec_len block }
         ensures stands { StandsFor R.left result [] [] }
@@ -88,7 +75,6 @@ impl<'r, R: Source, S: BuildHasher + Drop> Entries<'r, R, S> {
     {
         Entries {
             source,
-            alloc,
             block,
             start: 0,
             end: 0,
@@ -107,15 +93,21 @@ impl<'r, R: Source, S: BuildHasher + Drop> Entries<'r, R, S> {
         source
     }
 
-    /// The next entry. None comes after the end, and again.
+    /// The next entry. A visitor is told the items of a message while it is read: an entry that is no
+    /// message has none. None comes after the end, and again, and nothing is read.
     ///
     /// # Errors
     ///
     /// `Refused` with the first fault of a capture that is not well formed, `Read` where a read failed, and
-    /// `Memory` where none was to be had; never `Write`. The same error is answered from then on, and
-    /// nothing is read.
-    pub fn next(&mut self) -> Result<Option<Entry>, Error>
-        ensures answers { (given : List ℕ) (handed : List spec.Entry) → StandsFor R.left self.old given handed → Answers R.left self.old self.new given handed result }
+    /// `Memory` where none was to be had, by the visitor too; never `Write`. What the visitor holds is open.
+    /// The same error is answered from then on, and nothing is read.
+    pub fn next<V: Visit>(&mut self, visitor: &mut V) -> Result<Option<Kind>, Error>
+        ensures answers { (given : List ℕ) (handed : List spec.Entry)
+            → StandsFor R.left self.old given handed
+            → Answers R.left V.stands self.old self.new visitor.old visitor.new given handed
+            result }
+        ensures end { result ≡ Ok (Some Kind.End) → IsOver self.new }
+        ensures over { IsOver self.old → (result ≡ Ok None) × (self.new ≡ self.old) }
         ensures fewer { IfOk result (λ next. IsSome next → entries_left self.new < entries_left self.old) }
         ensures going { OnOk result (failure_of self.new ≡ None) }
         ensures failed { IfErr result (λ error. failure_of self.new ≡ Some error) }
@@ -126,16 +118,19 @@ impl<'r, R: Source, S: BuildHasher + Drop> Entries<'r, R, S> {
         ensures same_reference { self.new.source.ghost_name ≡ self.old.source.ghost_name }
     {
         match self.stage {
-            Stage::Reading => self.read_on(),
+            Stage::Reading => self.read_on(visitor),
             Stage::Over => Ok(None),
             Stage::Failed(error) => Err(error),
         }
     }
 
     /// The next entry of a capture whose end was not handed out.
-    fn read_on(&mut self) -> Result<Option<Entry>, Error>
+    fn read_on<V: Visit>(&mut self, visitor: &mut V) -> Result<Option<Kind>, Error>
         requires reading { self.old.stage ≡ Stage.Reading }
-        ensures turns { (given : List ℕ) (handed : List spec.Entry) → StandsFor R.left self.old given handed → Turns R.left self.old self.new given handed result }
+        ensures turns { (given : List ℕ) (handed : List spec.Entry)
+            → StandsFor R.left self.old given handed
+            → Turns R.left V.stands self.old self.new visitor.old visitor.new given handed result }
+        ensures end { result ≡ Ok (Some Kind.End) → IsOver self.new }
         ensures fewer { OnOk result (entries_left self.new < entries_left self.old) }
         ensures some { IfOk result (λ next. IsSome next) }
         ensures going { OnOk result (failure_of self.new ≡ None) }
@@ -144,9 +139,9 @@ impl<'r, R: Source, S: BuildHasher + Drop> Entries<'r, R, S> {
         ensures same_reference { self.new.source.ghost_name ≡ self.old.source.ghost_name }
     {
         while self.judged <= MOST_BYTES {
-            match self.turn() {
+            match self.turn(visitor) {
                 Ok(None) => {}
-                Ok(Some(entry)) => return Ok(Some(entry)),
+                Ok(Some(kind)) => return Ok(Some(kind)),
                 Err(error) => return Err(error),
             }
         }
@@ -156,12 +151,16 @@ impl<'r, R: Source, S: BuildHasher + Drop> Entries<'r, R, S> {
     }
 
     /// One read at most, and one piece judged: the entry that is whole with it, if one is.
-    fn turn(&mut self) -> Result<Option<Entry>, Error>
+    fn turn<V: Visit>(&mut self, visitor: &mut V) -> Result<Option<Kind>, Error>
         requires reading { self.old.stage ≡ Stage.Reading }
         requires bounded { self.old.judged ≤ most_bytes }
-        ensures turns { (given : List ℕ) (handed : List spec.Entry) → StandsFor R.left self.old given handed → Turns R.left self.old self.new given handed result }
+        ensures turns { (given : List ℕ) (handed : List spec.Entry)
+            → StandsFor R.left self.old given handed
+            → Turns R.left V.stands self.old self.new visitor.old visitor.new given handed result }
+        ensures end { result ≡ Ok (Some Kind.End) → IsOver self.new }
         ensures fewer { IfOk result (λ next. IsSome next → entries_left self.new < entries_left self.old) }
         ensures on { IfOk result (λ next. next ≡ None → self.old.judged < self.new.judged) }
+        ensures untold { IfOk result (λ next. next ≡ None → visitor.new ≡ visitor.old) }
         ensures no_more { IfOk result (λ next. next ≡ None → entries_left self.new ≤ entries_left self.old) }
         ensures reading { IfOk result (λ next. next ≡ None → self.new.stage ≡ Stage.Reading) }
         ensures going { OnOk result (failure_of self.new ≡ None) }
@@ -172,11 +171,16 @@ impl<'r, R: Source, S: BuildHasher + Drop> Entries<'r, R, S> {
         if self.start == self.end {
             match self.refill() {
                 Ok(true) => {}
-                Ok(false) => return self.finish(),
+                Ok(false) => {
+                    return match self.finish() {
+                        Ok(()) => Ok(Some(Kind::End)),
+                        Err(error) => Err(error),
+                    };
+                }
                 Err(error) => return Err(error),
             }
         }
-        self.judge()
+        self.judge(visitor)
     }
 
     /// Reads the next block. False stands for the end of the bytes.
@@ -209,11 +213,15 @@ impl<'r, R: Source, S: BuildHasher + Drop> Entries<'r, R, S> {
     }
 
     /// Judges the rest of the block, up to the next entry.
-    fn judge(&mut self) -> Result<Option<Entry>, Error>
+    fn judge<V: Visit>(&mut self, visitor: &mut V) -> Result<Option<Kind>, Error>
         requires reading { self.old.stage ≡ Stage.Reading }
         requires bounded { self.old.judged ≤ most_bytes }
         requires some { self.old.start < self.old.end }
-        ensures goes_on { (given : List ℕ) (handed : List spec.Entry) → StandsFor R.left self.old given handed → GoesOn R.left self.new given handed result }
+        ensures goes_on { (given : List ℕ) (handed : List spec.Entry)
+            → StandsFor R.left self.old given handed
+            → GoesOn R.left V.stands self.new visitor.old visitor.new given handed result }
+        ensures not_end { result ≢ Ok (Some Kind.End) }
+        ensures untold { IfOk result (λ next. next ≡ None → visitor.new ≡ visitor.old) }
         ensures fewer { IfOk result (λ next. IsSome next → entries_left self.new < entries_left self.old) }
         ensures no_more { IfOk result (λ next. next ≡ None → entries_left self.new ≤ entries_left self.old) }
         ensures on { OnOk result (self.old.judged < self.new.judged) }
@@ -224,11 +232,11 @@ impl<'r, R: Source, S: BuildHasher + Drop> Entries<'r, R, S> {
         ensures same_reference { self.new.source.ghost_name ≡ self.old.source.ghost_name }
     {
         let piece = &self.block[self.start..self.end];
-        match self.capture.next(self.alloc, piece) {
-            Ok((count, entry)) => {
+        match self.capture.next(piece, visitor) {
+            Ok((count, kind)) => {
                 self.start += count;
                 self.judged += count as u64;
-                Ok(entry)
+                Ok(kind)
             }
             Err(error) => {
                 self.stage = Stage::Failed(error);
@@ -238,12 +246,16 @@ impl<'r, R: Source, S: BuildHasher + Drop> Entries<'r, R, S> {
     }
 
     /// The capture's end, where no byte is left.
-    fn finish(&mut self) -> Result<Option<Entry>, Error>
+    fn finish(&mut self) -> Result<(), Error>
         requires reading { self.old.stage ≡ Stage.Reading }
         requires judged { self.old.start ≡ self.old.end }
         requires end { IsAtEnd (R.left self.old.source.now) }
-        ensures goes_on { (given : List ℕ) (handed : List spec.Entry) → StandsFor R.left self.old given handed → GoesOn R.left self.new given handed result }
-        ensures some { IfOk result (λ next. IsSome next) }
+        ensures ok { (given : List ℕ) (handed : List spec.Entry)
+            → StandsFor R.left self.old given handed
+            → OnOk result (StandsFor R.left self.new given (handed ++ spec.End ∷ [])) }
+        ensures err { (given : List ℕ) (handed : List spec.Entry)
+            → StandsFor R.left self.old given handed
+            → OnErr result (StandsFor R.left self.new given handed) }
         ensures over { OnOk result (self.new.stage ≡ Stage.Over) }
         ensures failed { IfErr result (λ error. self.new.stage ≡ Stage.Failed error) }
         ensures never_reads { IfErr result (λ error. error ≢ Error.Read) }
@@ -253,7 +265,7 @@ impl<'r, R: Source, S: BuildHasher + Drop> Entries<'r, R, S> {
         match self.capture.end(self.judged) {
             Ok(()) => {
                 self.stage = Stage::Over;
-                Ok(Some(Entry::End))
+                Ok(())
             }
             Err(error) => {
                 self.stage = Stage::Failed(error);

@@ -15,6 +15,17 @@ use rpc_head::{ProcId, start};
 use std::alloc::{AllocError, Global};
 use xdr3::{GetError, Input, Visit};
 
+/// What an entry is, and a message's procedure: of a reply that of its call.
+#[derive(Clone, Copy, Debug, PartialEq, Eq)]
+pub enum Kind {
+    Begin,
+    Call(ProcId),
+    Turn,
+    Reply(ProcId),
+    Close,
+    End,
+}
+
 /// A call that outlives its record: its procedure, and the body that spells it.
 #[derive(Drop)]
 pub struct KeptCall {
@@ -61,7 +72,7 @@ impl KeptCall {
     pub fn scan<V: Visit>(&self, visitor: &mut V) -> Result<(), AllocError>
         ensures { OnOk result (TellsCall V.stands self.now.body.items visitor.old visitor.new) }
     {
-        match scan_call(&None::<NumberedCall>, &self.body, visitor) {
+        match scan_call(&self.body, visitor) {
             Ok(_) => Ok(()),
             Err(GetError::Memory) => Err(AllocError),
             Err(GetError::Stop(_)) => unreachable!(),

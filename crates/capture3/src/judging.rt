@@ -2,12 +2,13 @@
 
 ghost use Rattle.std.specs.Prelude.{◌≡◌, ◌≢◌, ◌≤◌, ◌<◌, ◌+◌, List, [], length, take, IfErr, IfOk, OnOk, None, Some};
 ghost use Rattle.record_mark.specs.Machine.{Run, Runs, after};
-ghost use Rattle.record_mark.specs.Taking.{IsRunning, IsWhole, body_of, unbegun};
+ghost use Rattle.record_mark.specs.Taking.{IsRunning, IsWhole, body_of, released};
 ghost use Rattle.xdr3.specs.Item.{Item};
 ghost use Rattle.capture3.specs.Connections.{Refusal};
 ghost use Rattle.capture3.specs.Container.{Leaves};
 ghost use Rattle.capture3.specs.Entry as spec;
-ghost use Rattle.capture3.specs.Judges.{EndsWith, entry_cost, error_at, FailsAt, GoesTo, HasMet, IsOfBytes, KeepsCall, KeepsReply, RefusesBody, StandsAt};
+ghost use Rattle.capture3.specs.Judges.{EndsWith, entry_cost, error_at, FailsAt, GoesTo, HasMet, IsHeld, IsOfBytes, RefusesBody, StandsAt, TellsCall, TellsReply};
+ghost use Rattle.capture3.specs.Kept.{IsKept};
 ghost use Rattle.capture3.specs.Judging.{judge_call, judge_reply};
 ghost use Rattle.capture3.specs.Messages.{IsTableOf};
 ghost use Rattle.capture3.specs.Parsing.{Parsing, file_next, file_start};
@@ -15,13 +16,14 @@ ghost use Rattle.capture3.specs.Position.{cost_of, IsSound, most_things, room_of
 
 use crate::calls::CallTable;
 use crate::container::Container;
-use crate::entry::{Entry, KeptCall, KeptReply};
+use crate::entry::{Entry, KeptCall, KeptReply, Kind};
 use crate::fault::{Error, Place, Side};
+use crate::message::stop;
 use crate::message_scan::{scan_call, scan_reply};
 use crate::position::{Event, Spot};
-use crate::silent::Silent;
-use std::alloc::Global;
-use xdr3::{GetError, Reason};
+use rpc_head::ProcId;
+use std::alloc::{AllocError, Global};
+use xdr3::{GetError, Reason, Visit};
 
 /// A container, and the calls of its open connection.
 #[derive(Drop)]
@@ -44,31 +46,68 @@ impl<C: CallTable + Drop> Capture<C> {
         }
     }
 
-    /// Takes bytes of `piece` up to the next entry, or all of them, and says how many.
-    pub(crate) fn next(
+    /// Takes bytes of `piece` up to the next entry, or all of them, and says how many. A visitor is told the
+    /// items of a message, whose record stands until the next call. After an error what it holds is open.
+    pub(crate) fn next<V: Visit>(
         &mut self,
-        alloc: Global,
         piece: &[u8],
-    ) -> Result<(usize, Option<Entry>), Error>
+        visitor: &mut V,
+    ) -> Result<(usize, Option<Kind>), Error>
         requires sound { IsSound self.old.container.position }
-        requires running { IsRunning self.old.container.joiner }
+        requires running { IsRunning (released self.old.container.joiner) }
         ensures within { IfOk result (λ r. r.0 ≤ length piece.now) }
         ensures some { IfOk result (λ r. 0 < length piece.now → 0 < r.0) }
         ensures more { IfOk result (λ r. r.1 ≡ None → r.0 ≡ length piece.now) }
+        ensures untold { IfOk result (λ r. r.1 ≡ None → visitor.new ≡ visitor.old) }
+        ensures not_end { IfOk result (λ r. r.1 ≢ Some Kind.End) }
         ensures sound { OnOk result (IsSound self.new.container.position) }
-        ensures running { OnOk result (IsRunning self.new.container.joiner) }
-        ensures room { IfOk result (λ r. room_of self.new.container.position + entry_cost r.1 ≤ room_of self.old.container.position) }
-        ensures machine { (run : Run Parsing Refusal) (entries : List spec.Entry) → StandsAt self.old.container.position self.old.container.joiner (C.calls self.old.calls) run entries → IfOk result (λ r. GoesTo r.1 self.new.container.position self.new.container.joiner (C.calls self.new.calls) (after file_next run (take r.0 piece.now)) entries) }
-        ensures fault { (run : Run Parsing Refusal) (entries : List spec.Entry) → StandsAt self.old.container.position self.old.container.joiner (C.calls self.old.calls) run entries → IfErr result (FailsAt run entries piece.now) }
+        ensures running { OnOk result (IsRunning (released self.new.container.joiner)) }
+        ensures room { IfOk result
+            (λ r. room_of self.new.container.position + entry_cost r.1 ≤
+            room_of self.old.container.position) }
+        ensures machine { (run : Run Parsing Refusal) (entries : List spec.Entry)
+            → StandsAt self.old.container.position (released self.old.container.joiner)
+            (C.calls self.old.calls) run entries
+            → IfOk result
+            (λ r. GoesTo V.stands visitor.old visitor.new r.1 self.new.container.position
+            self.new.container.joiner (C.calls self.new.calls)
+            (after file_next run (take r.0 piece.now)) entries) }
+        ensures fault { (run : Run Parsing Refusal) (entries : List spec.Entry)
+            → StandsAt self.old.container.position (released self.old.container.joiner)
+            (C.calls self.old.calls) run entries
+            → IfErr result (FailsAt run entries piece.now) }
         ensures device { IfErr result IsOfBytes }
     {
+        self.container.release();
         match self.container.advance(piece) {
-            Ok((count, Some(event))) => match self.entry(alloc, event) {
-                Ok(entry) => Ok((count, Some(entry))),
+            Ok((count, Some(event))) => match self.entry(event, visitor) {
+                Ok(kind) => Ok((count, Some(kind))),
                 Err(error) => Err(error),
             },
             Ok((count, None)) => Ok((count, None)),
             Err(error) => Err(error),
+        }
+    }
+
+    /// The entry of this kind that `next` came to, with the body of its own.
+    pub(crate) fn kept(&self, alloc: Global, kind: Kind) -> Result<Entry, AllocError>
+        requires held { (entry : spec.Entry) × IsHeld kind self.now.container.joiner entry }
+        ensures kept { (entry : spec.Entry) → IsHeld kind self.now.container.joiner entry
+            → IfOk result (λ one. IsKept one entry) }
+    {
+        match kind {
+            Kind::Begin => Ok(Entry::Begin),
+            Kind::Call(id) => {
+                let body = Vec::from_slice(alloc, self.container.body())?;
+                Ok(Entry::Call(KeptCall { id, body }))
+            }
+            Kind::Turn => Ok(Entry::Turn),
+            Kind::Reply(id) => {
+                let body = Vec::from_slice(alloc, self.container.body())?;
+                Ok(Entry::Reply(KeptReply { id, body }))
+            }
+            Kind::Close => Ok(Entry::Close),
+            Kind::End => Ok(Entry::End),
         }
     }
 
@@ -80,85 +119,108 @@ impl<C: CallTable + Drop> Capture<C> {
         self.container.end(size)
     }
 
-    /// The entry that is whole.
-    fn entry(&mut self, alloc: Global, event: Event) -> Result<Entry, Error>
+    /// What is whole.
+    fn entry<V: Visit>(&mut self, event: Event, visitor: &mut V) -> Result<Kind, Error>
         requires { Leaves (Some event) self.old.container.joiner }
-        ensures running { OnOk result (IsRunning self.new.container.joiner) }
-        ensures position { self.new.container.position ≡ self.old.container.position }
-        ensures machine { (run : Run Parsing Refusal) (entries : List spec.Entry) → HasMet self.old.container.position self.old.container.joiner (C.calls self.old.calls) event run entries → IfOk result (λ one. GoesTo (Some one) self.new.container.position self.new.container.joiner (C.calls self.new.calls) run entries) }
-        ensures fault { (run : Run Parsing Refusal) (entries : List spec.Entry) → HasMet self.old.container.position self.old.container.joiner (C.calls self.old.calls) event run entries → IfErr result (EndsWith run) }
+        ensures container { self.new.container ≡ self.old.container }
+        ensures not_end { IfOk result (λ kind. kind ≢ Kind.End) }
+        ensures machine { (run : Run Parsing Refusal) (entries : List spec.Entry)
+            → HasMet self.old.container.position self.old.container.joiner
+            (C.calls self.old.calls) event run entries
+            → IfOk result
+            (λ kind. GoesTo V.stands visitor.old visitor.new (Some kind)
+            self.new.container.position self.new.container.joiner (C.calls self.new.calls) run
+            entries) }
+        ensures fault { (run : Run Parsing Refusal) (entries : List spec.Entry)
+            → HasMet self.old.container.position self.old.container.joiner
+            (C.calls self.old.calls) event run entries → IfErr result (EndsWith run) }
         ensures device { IfErr result IsOfBytes }
     {
         match event {
             Event::Begin => {
                 self.calls.clear();
-                Ok(Entry::Begin)
+                Ok(Kind::Begin)
             }
-            Event::Record(side) => self.message(alloc, side),
-            Event::Turn => Ok(Entry::Turn),
-            Event::Close => Ok(Entry::Close),
+            Event::Record(side) => self.message(side, visitor),
+            Event::Turn => Ok(Kind::Turn),
+            Event::Close => Ok(Kind::Close),
         }
     }
 
     /// The message that is whole.
-    fn message(&mut self, alloc: Global, side: Side) -> Result<Entry, Error>
+    fn message<V: Visit>(&mut self, side: Side, visitor: &mut V) -> Result<Kind, Error>
         requires { IsWhole self.old.container.joiner }
-        ensures running { OnOk result (IsRunning self.new.container.joiner) }
-        ensures position { self.new.container.position ≡ self.old.container.position }
-        ensures machine { (run : Run Parsing Refusal) (entries : List spec.Entry) → HasMet self.old.container.position self.old.container.joiner (C.calls self.old.calls) (Event.Record side) run entries → IfOk result (λ one. GoesTo (Some one) self.new.container.position self.new.container.joiner (C.calls self.new.calls) run entries) }
-        ensures fault { (run : Run Parsing Refusal) (entries : List spec.Entry) → HasMet self.old.container.position self.old.container.joiner (C.calls self.old.calls) (Event.Record side) run entries → IfErr result (EndsWith run) }
+        ensures container { self.new.container ≡ self.old.container }
+        ensures not_end { IfOk result (λ kind. kind ≢ Kind.End) }
+        ensures machine { (run : Run Parsing Refusal) (entries : List spec.Entry)
+            → HasMet self.old.container.position self.old.container.joiner
+            (C.calls self.old.calls) (Event.Record side) run entries
+            → IfOk result
+            (λ kind. GoesTo V.stands visitor.old visitor.new (Some kind)
+            self.new.container.position self.new.container.joiner (C.calls self.new.calls) run
+            entries) }
+        ensures fault { (run : Run Parsing Refusal) (entries : List spec.Entry)
+            → HasMet self.old.container.position self.old.container.joiner
+            (C.calls self.old.calls) (Event.Record side) run entries
+            → IfErr result (EndsWith run) }
         ensures device { IfErr result IsOfBytes }
     {
         match side {
-            Side::Client => match self.call(alloc) {
-                Ok(call) => Ok(Entry::Call(call)),
+            Side::Client => match self.call(visitor) {
+                Ok(id) => Ok(Kind::Call(id)),
                 Err(error) => Err(error),
             },
-            Side::Server => match self.reply(alloc) {
-                Ok(reply) => Ok(Entry::Reply(reply)),
+            Side::Server => match self.reply(visitor) {
+                Ok(id) => Ok(Kind::Reply(id)),
                 Err(error) => Err(error),
             },
         }
     }
 
-    /// The call that is whole, which joins the calls of its connection.
-    fn call(&mut self, alloc: Global) -> Result<KeptCall, Error>
+    /// The procedure of the call that is whole, which joins the calls of its connection.
+    fn call<V: Visit>(&mut self, visitor: &mut V) -> Result<ProcId, Error>
         requires { IsWhole self.old.container.joiner }
-        ensures joiner { OnOk result (self.new.container.joiner ≡ unbegun) }
-        ensures position { self.new.container.position ≡ self.old.container.position }
-        ensures ok { (calls : List (List Item)) → IsTableOf (C.calls self.old.calls) calls → IfOk result (KeepsCall calls (body_of self.old.container.joiner) (C.calls self.new.calls)) }
-        ensures err { (calls : List (List Item)) → IsTableOf (C.calls self.old.calls) calls → IfErr result (RefusesBody self.old.container.position Side.Client (judge_call calls (body_of self.old.container.joiner))) }
+        ensures container { self.new.container ≡ self.old.container }
+        ensures ok { (calls : List (List Item)) → IsTableOf (C.calls self.old.calls) calls
+            → IfOk result
+            (TellsCall V.stands visitor.old visitor.new calls
+            (body_of self.old.container.joiner) (C.calls self.new.calls)) }
+        ensures err { (calls : List (List Item)) → IsTableOf (C.calls self.old.calls) calls
+            → IfErr result
+            (RefusesBody self.old.container.position Side.Client
+            (judge_call calls (body_of self.old.container.joiner))) }
         ensures device { IfErr result IsOfBytes }
     {
-        let body = self.container.body();
-        let call = match scan_call(&self.calls, body, &mut Silent) {
+        let call = match scan_call(self.container.body(), visitor) {
             Ok(call) => call,
             Err(error) => return Err(self.record_error(Side::Client, error)),
         };
-        let body = Vec::from_slice(alloc, body)?;
-        self.calls.add(call.xid, call.id)?;
-        self.container.clear_record();
-        Ok(KeptCall { id: call.id, body })
+        if self.calls.admit(call.xid, call.id)? {
+            Ok(call.id)
+        } else {
+            Err(self.record_error(Side::Client, stop(0, Reason::XidConflict)))
+        }
     }
 
-    /// The reply that is whole.
-    fn reply(&mut self, alloc: Global) -> Result<KeptReply, Error>
+    /// The procedure of the reply that is whole.
+    fn reply<V: Visit>(&mut self, visitor: &mut V) -> Result<ProcId, Error>
         requires { IsWhole self.old.container.joiner }
-        ensures joiner { OnOk result (self.new.container.joiner ≡ unbegun) }
-        ensures position { self.new.container.position ≡ self.old.container.position }
+        ensures container { self.new.container ≡ self.old.container }
         ensures calls { C.calls self.new.calls ≡ C.calls self.old.calls }
-        ensures ok { (calls : List (List Item)) → IsTableOf (C.calls self.old.calls) calls → IfOk result (KeepsReply calls (body_of self.old.container.joiner)) }
-        ensures err { (calls : List (List Item)) → IsTableOf (C.calls self.old.calls) calls → IfErr result (RefusesBody self.old.container.position Side.Server (judge_reply calls (body_of self.old.container.joiner))) }
+        ensures ok { (calls : List (List Item)) → IsTableOf (C.calls self.old.calls) calls
+            → IfOk result
+            (TellsReply V.stands visitor.old visitor.new calls
+            (body_of self.old.container.joiner)) }
+        ensures err { (calls : List (List Item)) → IsTableOf (C.calls self.old.calls) calls
+            → IfErr result
+            (RefusesBody self.old.container.position Side.Server
+            (judge_reply calls (body_of self.old.container.joiner))) }
         ensures device { IfErr result IsOfBytes }
     {
-        let body = self.container.body();
-        let id = match scan_reply(&self.calls, body, &mut Silent) {
-            Ok(id) => id,
-            Err(error) => return Err(self.record_error(Side::Server, error)),
-        };
-        let body = Vec::from_slice(alloc, body)?;
-        self.container.clear_record();
-        Ok(KeptReply { id, body })
+        match scan_reply(&self.calls, self.container.body(), visitor) {
+            Ok(id) => Ok(id),
+            Err(error) => Err(self.record_error(Side::Server, error)),
+        }
     }
 
     fn record_error(&self, side: Side, error: GetError) -> Error

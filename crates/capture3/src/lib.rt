@@ -25,11 +25,12 @@ mod word_part;
 
 pub use device::DeviceFailed;
 pub use entries::{Entries, new_block};
-pub use entry::{Entry, KeptCall, KeptReply};
+pub use entry::{Entry, KeptCall, KeptReply, Kind};
 pub use fault::{Error, Fault, Place, Side};
 pub use hashers::Hashers;
 pub use message::{CallMsg, ReplyMsg};
 pub use packing::{pack_chunk, pack_header};
 pub use position::{MAX_BYTES, MAX_CONNECTIONS};
+pub use silent::Silent;
 pub use source::{FromRead, MemSource, Source};
 pub use whole::parse;

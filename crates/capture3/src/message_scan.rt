@@ -9,25 +9,21 @@ ghost use Rattle.capture3.specs.Judging as spec;
 ghost use Rattle.capture3.specs.MessageScan.{ScansCall, ScansReply, StopsMessage};
 ghost use Rattle.capture3.specs.Messages.{IsTableOf, results_after};
 
-use crate::calls::{KnownCalls, NumberedCall, agrees_in};
+use crate::calls::{KnownCalls, NumberedCall};
 use crate::message::stop;
 use procs3::{scan_arguments, scan_results};
 use rpc_head::{ProcId, Start, scan_call_head, scan_reply_head, start};
 use std::alloc::AllocError;
 use xdr3::{GetError, Input, Reason, Visit};
 
-/// Reads a body of the client stream, after the calls of its connection that came before it, and tells
-/// its items to the visitor. It answers the call's xid and procedure. After an error what the visitor
-/// holds is open.
-pub(crate) fn scan_call<C: KnownCalls, V: Visit>(
-    calls: &C,
-    body: &[u8],
-    visitor: &mut V,
-) -> Result<NumberedCall, GetError>
+/// Reads a body of the client stream, and tells its items to the visitor. It answers the call's xid and
+/// procedure, which may be at odds with the calls of its connection that came before it. After an error
+/// what the visitor holds is open.
+pub(crate) fn scan_call<V: Visit>(body: &[u8], visitor: &mut V) -> Result<NumberedCall, GetError>
     requires { length body.now ≤ 16777216 }
     ensures ok { IfOk result
-        (λ call. ScansCall V.stands (C.calls calls.now) body.now call visitor.old visitor.new) }
-    ensures err { (before : List (List Item)) → IsTableOf (C.calls calls.now) before
+        (λ call. ScansCall V.stands body.now call visitor.old visitor.new) }
+    ensures err { (before : List (List Item))
         → IfErr result (λ error. StopsMessage error (spec.judge_call before body.now)) }
 {
     let mut input = Input::new(body);
@@ -39,9 +35,6 @@ pub(crate) fn scan_call<C: KnownCalls, V: Visit>(
     let id = scan_call_head(&mut input, visitor)?;
     scan_arguments(id, &mut input, visitor)?;
     input.end()?;
-    if !agrees_in(calls, start.xid, id) {
-        return Err(stop(0, Reason::XidConflict));
-    }
     Ok(NumberedCall { xid: start.xid, id })
 }
 

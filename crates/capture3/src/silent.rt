@@ -5,7 +5,7 @@ use xdr3::Visit;
 
 /// A visitor that keeps nothing, with which a message is judged alone.
 #[derive(Drop)]
-pub(crate) struct Silent;
+pub struct Silent;
 
 #[tactic(auto, unfolding(xdr3::specs::Visit::Adds, xdr3::specs::Visit::Keeps))]
 impl Visit for Silent {

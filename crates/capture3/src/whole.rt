@@ -15,6 +15,7 @@ use crate::calls::CallList;
 use crate::entry::Entry;
 use crate::fault::Error;
 use crate::judging::Capture;
+use crate::silent::Silent;
 use std::alloc::Global;
 
 /// The entries of a capture, or its first fault.
@@ -36,9 +37,10 @@ pub fn parse(alloc: Global, bytes: &[u8]) -> Result<Vec<Entry>, Error>
     let mut entries = Vec::new(alloc);
     let mut taken = 0;
     while taken < bytes.len() {
-        match capture.next(alloc, &bytes[taken..]) {
-            Ok((count, Some(entry))) => {
+        match capture.next(&bytes[taken..], &mut Silent) {
+            Ok((count, Some(kind))) => {
                 taken += count;
+                let entry = capture.kept(alloc, kind)?;
                 entries.push(entry)?;
             }
             Ok((count, None)) => taken += count,

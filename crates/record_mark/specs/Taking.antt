@@ -30,6 +30,11 @@ abbrev pub IsRunning : Taking → Type 0
 IsRunning (Led (Runs s)) = Unit {0}
 IsRunning _ = ⊥
 
+-- where the next record starts, once a whole one is let go
+abbrev pub released : Taking → Taking
+released (Led (Stops (Whole body))) = unbegun
+released taking = taking
+
 -- where the machine stands that runs
 abbrev pub joining_of : Taking → Joining
 joining_of (Led (Runs s)) = s

@@ -1,26 +1,25 @@
-use Rattle.std.proofs.Common.{arith, ◌≡◌, ◌≢◌, length, Err, ap, refl, sym, ◌∙◌, false}
+use Rattle.std.proofs.Common.{arith, ◌≢◌, length, Err, ap, refl, sym, ◌∙◌, false}
 use Rattle.std.proofs.lemmas.Bool.{false≢true}
-use Rattle.xdr3.specs.declared.reason.Reason.TheVariants.{WrongSide, XidConflict}
+use Rattle.xdr3.specs.declared.reason.Reason.TheVariants.{WrongSide}
 use Rattle.xdr3.specs.declared.reason.Stop.{Stop}
-use Rattle.capture3.specs.Bodies.{procedure_of}
-use Rattle.capture3.specs.Judging.{agrees, judge_call}
-use Rattle.capture3.proofs.Judgements.{call_bad_start, call_conflicts, call_trails, call_wrong_side, refusal_judged}
+use Rattle.capture3.specs.Judging.{judge_call}
+use Rattle.capture3.proofs.Judgements.{call_bad_start, call_trails, call_wrong_side, refusal_judged}
 use Rattle.capture3.proofs.MessageScanLemmas.{StartRead, arguments_stop, call_head_stops, call_scans, call_told, error_stops, stop_stops}
 use Rattle.capture3.proofs.message_scan.scan_call.Goals as goal
 
 pub returns-in_err-start-clause-err : goal.returns-in_err-start-clause-err
-returns-in_err-start-clause-err g c before table =
+returns-in_err-start-clause-err g c before =
     stop_stops c.from_residual.result (judge_call before c.args.body.now) c.in_err-start.field-0.0 c.from_residual.ensures.1
     (call_bad_start before c.args.body.now c.in_err-start.field-0.0 (rw (c.new-input.ensures.body, c.new-input.ensures.start) at c.in_err-start.ensures.read))
 
 pub returns-then-start-clause-err : goal.returns-then-start-clause-err
-returns-then-start-clause-err g c before table =
+returns-then-start-clause-err g c before =
     let start = rw (c.new-input.ensures.body, c.new-input.ensures.start) at c.in_ok-start.ensures.read in
     refusal_judged c.stop.result (judge_call before c.args.body.now) (record { at = 4; reason = WrongSide }) c.stop.ensures
     (call_wrong_side before c.args.body.now c.in_ok-start.start c.start.new.input.at start c.if-start.true)
 
 pub returns-in_err-id-clause-err : goal.returns-in_err-id-clause-err
-returns-in_err-id-clause-err g c before table =
+returns-in_err-id-clause-err g c before =
     let start = rw (c.new-input.ensures.body, c.new-input.ensures.start) at c.in_ok-start.ensures.read in
     let begun : StartRead c.args.body.now c.in_ok-start.start false c.start.new.input =
     record { start = start; side = c.if-start.false; same_body = c.in_ok-start.ensures.moves.same_body ∙ c.new-input.ensures.body } in
@@ -28,7 +27,7 @@ returns-in_err-id-clause-err g c before table =
     (call_head_stops before c.args.body.now c.in_ok-start.start c.start.new.input c.in_err-id.field-0.0 begun c.in_err-id.ensures.err)
 
 pub returns-in_err-scan_arguments-clause-err : goal.returns-in_err-scan_arguments-clause-err
-returns-in_err-scan_arguments-clause-err g c before table =
+returns-in_err-scan_arguments-clause-err g c before =
     let start = rw (c.new-input.ensures.body, c.new-input.ensures.start) at c.in_ok-start.ensures.read in
     let begun : StartRead c.args.body.now c.in_ok-start.start false c.start.new.input =
     record { start = start; side = c.if-start.false; same_body = c.in_ok-start.ensures.moves.same_body ∙ c.new-input.ensures.body } in
@@ -37,7 +36,7 @@ returns-in_err-scan_arguments-clause-err g c before table =
     c.in_ok-id.ensures.ok c.in_err-scan_arguments.ensures.err)
 
 pub returns-in_err-end-clause-err : goal.returns-in_err-end-clause-err
-returns-in_err-end-clause-err g c before table =
+returns-in_err-end-clause-err g c before =
     let start = rw (c.new-input.ensures.body, c.new-input.ensures.start) at c.in_ok-start.ensures.read in
     let begun : StartRead c.args.body.now c.in_ok-start.start false c.start.new.input =
     record { start = start; side = c.if-start.false; same_body = c.in_ok-start.ensures.moves.same_body ∙ c.new-input.ensures.body } in
@@ -48,19 +47,6 @@ returns-in_err-end-clause-err g c before table =
     (call_trails before c.args.body.now c.in_ok-start.start c.in_ok-id.id r.front c.start.new.input.at c.scan_call_head.new.input.at c.scan_arguments.new.input.at r.more r.begins r.read other
     ∙ ap (λ (s : Stop). Err s) (sym c.in_err-end.ensures.err))
 
-pub returns-then-not-agrees_in-clause-err : goal.returns-then-not-agrees_in-clause-err
-returns-then-not-agrees_in-clause-err g c before table =
-    let start = rw (c.new-input.ensures.body, c.new-input.ensures.start) at c.in_ok-start.ensures.read in
-    let begun : StartRead c.args.body.now c.in_ok-start.start false c.start.new.input =
-    record { start = start; side = c.if-start.false; same_body = c.in_ok-start.ensures.moves.same_body ∙ c.new-input.ensures.body } in
-    let r = call_told g.V.Visit.stands c.args.body.now c.in_ok-start.start c.in_ok-id.id c.start.new.input c.scan_call_head.new.input c.scan_arguments.new.input c.args.visitor.now c.tell_start.new.visitor c.scan_call_head.new.visitor
-    c.scan_arguments.new.visitor begun c.in_ok-tell_start.ensures c.in_ok-id.ensures.ok c.in_ok-scan_arguments.ensures.ok in
-    let is : c.scan_arguments.new.input.at ≡ length c.args.body.now = c.in_ok-end.ensures.ok.0 refl ∙ ap length r.same_body in
-    let disagree : agrees (procedure_of before c.in_ok-start.start.xid) c.in_ok-id.id ≡ false =
-    ap (λ p. agrees p c.in_ok-id.id) (sym (table c.in_ok-start.start.xid)) ∙ sym c.agrees_in.ensures ∙ c.if-not-agrees_in.true in
-    refusal_judged c.stop-then-not-agrees_in.result (judge_call before c.args.body.now) (record { at = 0; reason = XidConflict }) c.stop-then-not-agrees_in.ensures
-    (call_conflicts before c.args.body.now c.in_ok-start.start c.in_ok-id.id r.front c.start.new.input.at c.scan_call_head.new.input.at c.scan_arguments.new.input.at r.more r.begins r.read is disagree)
-
 pub returns-clause-ok : goal.returns-clause-ok
 returns-clause-ok g c =
     let start = rw (c.new-input.ensures.body, c.new-input.ensures.start) at c.in_ok-start.ensures.read in
@@ -68,5 +54,5 @@ returns-clause-ok g c =
     record { start = start; side = c.if-start.false; same_body = c.in_ok-start.ensures.moves.same_body ∙ c.new-input.ensures.body } in
     let r = call_told g.V.Visit.stands c.args.body.now c.in_ok-start.start c.in_ok-id.id c.start.new.input c.scan_call_head.new.input c.scan_arguments.new.input c.args.visitor.now c.tell_start.new.visitor c.scan_call_head.new.visitor
     c.scan_arguments.new.visitor begun c.in_ok-tell_start.ensures c.in_ok-id.ensures.ok c.in_ok-scan_arguments.ensures.ok in
-    call_scans g.V.Visit.stands (g.C.KnownCalls.calls c.args.calls.now) c.args.body.now c.in_ok-start.start c.in_ok-id.id c.start.new.input.at c.scan_call_head.new.input.at c.scan_arguments.new.input c.args.visitor.now
-    c.scan_arguments.new.visitor (λ i. omega (arith, c.type_inv.body i)) r (c.in_ok-end.ensures.ok.0 refl ∙ ap length r.same_body) (sym c.agrees_in.ensures ∙ c.if-not-agrees_in.false)
+    call_scans g.V.Visit.stands c.args.body.now c.in_ok-start.start c.in_ok-id.id c.start.new.input.at c.scan_call_head.new.input.at c.scan_arguments.new.input c.args.visitor.now c.scan_arguments.new.visitor
+    (λ i. omega (arith, c.type_inv.body i)) r (c.in_ok-end.ensures.ok.0 refl ∙ ap length r.same_body)

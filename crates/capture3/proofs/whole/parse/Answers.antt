@@ -5,11 +5,11 @@ use Rattle.capture3.specs.FirstFault.{FirstFault}
 use Rattle.capture3.specs.Judges.{entry_cost}
 use Rattle.capture3.specs.Parsing.{parsed}
 use Rattle.capture3.proofs.Limits.{typed_within}
-use Rattle.capture3.proofs.Parsed.{begun_is, cut_at, first_fault, kept_snoc, keeps_more, keeps_on, never_reads, never_writes, refused_is, typed_at}
+use Rattle.capture3.proofs.Parsed.{begun_is, cut_at, first_fault, held, kept_snoc, keeps_more, keeps_on, never_reads, never_writes, refused_is, typed_at}
 use Rattle.capture3.proofs.whole.parse.Goals as goal
 
-pub loop-taken-preserved-in-Continue-1 : goal.loop-taken-preserved-in-Continue-1
-loop-taken-preserved-in-Continue-1 c =
+pub loop-taken-preserved-in-Continue-branch-2 : goal.loop-taken-preserved-in-Continue-branch-2
+loop-taken-preserved-in-Continue-branch-2 c =
     let invariant = c.loop-taken.invariant in
     let cost = ap entry_cost c.in-Ok-default-Some.field-0-1-is in
     let left = length-drop c.loop-taken.taken c.args.bytes.now in
@@ -21,8 +21,8 @@ loop-taken-preserved-in-Continue-1 c =
       room = omega (arith, invariant.room, c.in-Ok-default-Some.ensures.room, cost, c.in_ok-push-in-Ok-default-Some.ensures.len);
       machine =
           rw c.in_ok-push-in-Ok-default-Some.ensures.items
-          (keeps_more c.args.bytes.now c.loop-taken.taken c.in-Ok-default-Some.count _ _ _ c.loop-taken.entries.items invariant.machine.0 _ _ c.in-Ok-default-Some.field-0-1-is
-          (c.in-Ok-default-Some.ensures.machine (parsed (take c.loop-taken.taken c.args.bytes.now)) invariant.machine.0 invariant.machine.1) invariant.machine.2);
+          (keeps_more _ _ _ c.args.bytes.now c.loop-taken.taken c.in-Ok-default-Some.count _ _ _ c.loop-taken.entries.items invariant.machine.0 _ _ _ c.in-Ok-default-Some.field-0-1-is
+          (c.in-Ok-default-Some.ensures.machine (parsed (take c.loop-taken.taken c.args.bytes.now)) invariant.machine.0 invariant.machine.1) (λ entry h. c.in_ok-entry-in-Ok-default-Some.ensures.kept entry h) invariant.machine.2);
     }
 
 pub loop-taken-preserved : goal.loop-taken-preserved
@@ -37,7 +37,7 @@ loop-taken-preserved c =
       running = c.in-Ok-default-None.ensures.running;
       room = omega (arith, invariant.room, c.in-Ok-default-None.ensures.room, cost);
       machine =
-          keeps_on c.args.bytes.now c.loop-taken.taken c.in-Ok-default-None.count _ _ _ c.loop-taken.entries.items invariant.machine.0 _ c.in-Ok-default-None.field-0-1-is
+          keeps_on _ _ _ c.args.bytes.now c.loop-taken.taken c.in-Ok-default-None.count _ _ _ c.loop-taken.entries.items invariant.machine.0 _ c.in-Ok-default-None.field-0-1-is
           (c.in-Ok-default-None.ensures.machine (parsed (take c.loop-taken.taken c.args.bytes.now)) invariant.machine.0 invariant.machine.1) invariant.machine.2;
     }
 
@@ -75,3 +75,9 @@ returns-clause-fault c fault e =
     let all : take c.loop-taken.taken c.args.bytes.now ≡ c.args.bytes.now = take_all c.loop-taken.taken c.args.bytes.now (omega (arith, c.loop-taken-test.false)) in
     let met = cut_at c.args.bytes.now _ _ _ (parsed (take c.loop-taken.taken c.args.bytes.now)) invariant.machine.0 (λ i. omega (arith, c.type_inv.bytes i)) invariant.machine.1 (ap parsed all) c.in-Err-end.ensures.err.0 in
     subst (λ (f : Fault). FirstFault c.args.bytes.now f) (refused_is _ fault (sym c.in-Err-end.ensures.err.1 ∙ e)) met
+
+pub kept-requires : goal.kept-requires
+kept-requires c =
+    let invariant = c.loop-taken.invariant in
+    let h = held _ _ _ _ _ _ _ _ _ _ c.in-Ok-default-Some.field-0-1-is (c.in-Ok-default-Some.ensures.machine (parsed (take c.loop-taken.taken c.args.bytes.now)) invariant.machine.0 invariant.machine.1) in
+    record { held = (h.0, h.1) }

@@ -1,5 +1,5 @@
 use Rattle.std.proofs.Common.{◌≤◌, ◌+◌, ◌-◌, List, length, take, vec_len}
-use Rattle.record_mark.specs.Taking.{IsRunning}
+use Rattle.record_mark.specs.Taking.{IsRunning, released}
 use Rattle.capture3.specs.Entry.{Entry}
 use Rattle.capture3.specs.Judges.{StandsAt}
 use Rattle.capture3.specs.Kept.{AreKept}
@@ -11,9 +11,9 @@ abbrev pub invariant-loop-taken : goal.invariant-loop-taken
 invariant-loop-taken l = record {
   within : l.taken ≤ length l.bytes;
   sound : IsSound l.capture.container.position;
-  running : IsRunning l.capture.container.joiner;
+  running : IsRunning (released l.capture.container.joiner);
   room : vec_len l.entries + room_of l.capture.container.position ≤ most_things;
-  machine : (entries : List Entry) × StandsAt l.capture.container.position l.capture.container.joiner l.capture.calls (parsed (take l.taken l.bytes)) entries × AreKept l.entries.items entries;
+  machine : (entries : List Entry) × StandsAt l.capture.container.position (released l.capture.container.joiner) l.capture.calls (parsed (take l.taken l.bytes)) entries × AreKept l.entries.items entries;
 }
 
 abbrev pub decreases-loop-taken : goal.decreases-loop-taken

@@ -1,4 +1,4 @@
-use Rattle.std.proofs.Common.{List, ℕ, [], refl, sym, ap, subst, ◌∙◌}
+use Rattle.std.proofs.Common.{List, ℕ, [], sym, ap, subst, ◌∙◌}
 use Rattle.std.proofs.Math.Logic.{∥∥₁_elim}
 use mathlib.Core.HLevel.{⊥_prop}
 use Rattle.capture3.specs.Bodies.{IsCall}
@@ -9,7 +9,7 @@ use Rattle.capture3.proofs.entry.KeptCall.scan.Goals as goal
 pub unreachable-requires : goal.unreachable-requires
 unreachable-requires g c =
     ∥∥₁_elim c.args.self.now.spells ⊥_prop
-    (λ s. call_never_stops c.args.self.now.id c.args.self.now.body.items c.in-Err-Stop.field-0-0 s (ap (judge_call []) (sym c.deref.ensures.value) ∙ c.in-Err-Stop.ensures.err [] (λ xid. refl) c.in-Err-Stop.field-0-0 c.in-Err-Stop.field-0-is))
+    (λ s. call_never_stops c.args.self.now.id c.args.self.now.body.items c.in-Err-Stop.field-0-0 s (ap (judge_call []) (sym c.deref.ensures.value) ∙ c.in-Err-Stop.ensures.err [] c.in-Err-Stop.field-0-0 c.in-Err-Stop.field-0-is))
 
 pub returns-in-Ok : goal.returns-in-Ok
 returns-in-Ok g c =
