@@ -1,6 +1,6 @@
 use super::{
-    DeviceFailed, Entries, Entry, Error, Fault, FromRead, KeptCall, KeptReply, MemSource, Place,
-    Source, pack_chunk, pack_header, parse,
+    DeviceFailed, Entries, Entry, Error, Fault, FromRead, KeptCall, KeptReply, Kind, MemSource,
+    Place, Silent, Source, new_block, pack_chunk, pack_header, parse,
 };
 use rpc_head::ProcId;
 use std::alloc::Global;
@@ -37,6 +37,17 @@ fn name(entry: &Entry) -> &'static str {
         Entry::Reply(_) => "reply",
         Entry::Close => "close",
         Entry::End => "end",
+    }
+}
+
+fn name_of(kind: Kind) -> &'static str {
+    match kind {
+        Kind::Begin => "begin",
+        Kind::Call(_) => "call",
+        Kind::Turn => "turn",
+        Kind::Reply(_) => "reply",
+        Kind::Close => "close",
+        Kind::End => "end",
     }
 }
 
@@ -115,17 +126,18 @@ fn read_names<S: Source>(
     alloc: Global,
     source: &mut S,
 ) -> Result<(Vec<&'static str>, Option<Error>), Fail> {
-    let mut entries = Entries::new(alloc, hasher(), source)?;
+    let block = new_block(alloc)?;
+    let mut entries = Entries::through(alloc, hasher(), source, block);
     let mut names = Vec::new(alloc);
     for _ in 0..10 {
-        match entries.next() {
-            Ok(Some(entry)) => names.push(name(&entry))?,
+        match entries.next(&mut Silent) {
+            Ok(Some(kind)) => names.push(name_of(kind))?,
             Ok(None) => {
-                assert!(rt; matches!(entries.next(), Ok(None)));
+                assert!(rt; matches!(entries.next(&mut Silent), Ok(None)));
                 return Ok((names, None));
             }
             Err(error) => {
-                match entries.next() {
+                match entries.next(&mut Silent) {
                     Ok(_) => panic!(rt; "goes on behind {error:?}"),
                     Err(again) => assert_eq!(rt; again, error),
                 }
@@ -187,24 +199,28 @@ fn kept_messages_are_told(rt: HostRuntime) -> Result<(), Fail> {
     Ok(())
 }
 
+/// A visitor that writes what it is told writes the call's body, bytes 20 to 59, and the reply's, bytes 72
+/// to 95, and between them nothing.
 #[test]
-fn kept_messages_one_by_one(rt: HostRuntime) -> Result<(), Fail> {
+fn messages_are_told_one_by_one(rt: HostRuntime) -> Result<(), Fail> {
     let mut source = MemSource::new(&NULL, 5, 0);
-    let mut entries = Entries::new(rt.alloc(), hasher(), &mut source)?;
-    for _ in 0..NAMES.len() {
-        match entries.next()? {
-            Some(Entry::Call(kept)) => {
-                let call = kept.read(rt.alloc())?;
-                assert_eq!(rt; call.xid, 0xdead_beef);
-                assert!(rt; call.head.id == NULL_PROCEDURE);
+    let mut entries = Entries::through(rt.alloc(), hasher(), &mut source, new_block(rt.alloc())?);
+    for wanted in NAMES {
+        let mut told = Writer::new(rt.alloc());
+        let Some(kind) = entries.next(&mut told)? else {
+            panic!(rt; "too few entries")
+        };
+        assert_eq!(rt; name_of(kind), wanted);
+        match kind {
+            Kind::Call(id) => {
+                assert!(rt; id == NULL_PROCEDURE);
+                assert!(rt; told.bytes() == &NULL[20..60]);
             }
-            Some(Entry::Reply(kept)) => {
-                let reply = kept.read(rt.alloc())?;
-                assert_eq!(rt; reply.xid, 0xdead_beef);
-                assert!(rt; reply.id == NULL_PROCEDURE);
+            Kind::Reply(id) => {
+                assert!(rt; id == NULL_PROCEDURE);
+                assert!(rt; told.bytes() == &NULL[72..96]);
             }
-            Some(_) => {}
-            None => panic!(rt; "too few entries"),
+            _ => assert!(rt; told.bytes().is_empty()),
         }
     }
     Ok(())
@@ -257,15 +273,15 @@ fn calls_with_many_xids(rt: HostRuntime) -> Result<(), Fail> {
     // no replies, and no more connections
     file.extend_from_slice(&[0; 12])?;
     let mut source = MemSource::new(&file, 65_536, 0);
-    let mut entries = Entries::new(rt.alloc(), hasher(), &mut source)?;
+    let mut entries = Entries::through(rt.alloc(), hasher(), &mut source, new_block(rt.alloc())?);
     let mut calls = 0_u32;
     for _ in 0..20_004 {
-        if let Some(Entry::Call(_)) = entries.next()? {
+        if let Some(Kind::Call(_)) = entries.next(&mut Silent)? {
             calls = calls.saturating_add(1);
         }
     }
     assert_eq!(rt; calls, 20_000);
-    assert!(rt; matches!(entries.next(), Ok(None)));
+    assert!(rt; matches!(entries.next(&mut Silent), Ok(None)));
     Ok(())
 }
 
