@@ -27,7 +27,7 @@ use Rattle.capture3.specs.Container.{unpacking_of, arrived, Arrives, Fails, Leav
 use Rattle.capture3.specs.Entry.{Entry}
 use Rattle.capture3.specs.Entry as entries
 use Rattle.capture3.specs.Judges.{StandsAt, HasMet, met, GoesTo, EndsWith, FailsAt, ShowsWithin, TellsCall, TellsReply, RefusesBody}
-use Rattle.capture3.specs.Judging.{judge_call, judge_reply}
+use Rattle.capture3.specs.Judging.{agrees, judge_call, judge_reply}
 use Rattle.capture3.specs.Messages.{IsTableOf}
 use Rattle.capture3.specs.Parsing.{Parsing, file_next, file_start}
 use Rattle.capture3.specs.Position.{unpacking_at}
@@ -93,6 +93,10 @@ table_added table calls call xid id xid_is id_is same q = by_test (is_some (foun
         ∙ ap (λ (x : ℕ). or_else (procedure_of calls q) (if_same x id q)) (sym xid_is)
         ∙ ap (λ (i : ProcId). or_else (procedure_of calls q) (if_same (xid_in call) i q)) (sym id_is)
         ∙ sym (procedure_more calls call q)
+
+-- what the table answers holds of its calls
+pub table_agrees : (table : List NumberedCall) (calls : List (List Item)) (xid : ℕ) (id : ProcId) (answer : Bool) → IsTableOf table calls → answer ≡ agrees (found table xid) id → answer ≡ true → agrees (procedure_of calls xid) id ≡ true
+table_agrees table calls xid id answer same is agree = ap (λ (p : Option ProcId). agrees p id) (sym (same xid)) ∙ sym is ∙ agree
 
 -- ---- the first byte
 

@@ -26,7 +26,8 @@ use Rattle.capture3.specs.declared.position.Spot.{Spot}
 use Rattle.capture3.specs.declared.position.Spot.TheVariants as spots
 use Rattle.capture3.specs.Connections.{Refusal}
 use Rattle.capture3.specs.Container.{unpacking_of}
-use Rattle.capture3.specs.Entries.{AreAllBeforeEnd, AreFirstReached, IsMetBy, failure_in, failure_of, left_in, entries_left, unjudged, IsReading, StandsIn, StandsFor, HasRead, GoesOn, Turns, HandsOut, Answers}
+use Rattle.capture3.specs.declared.fault.Fault.{Fault}
+use Rattle.capture3.specs.Entries.{AreAllBeforeEnd, AreFirstReached, IsMetBy, IsShownBy, failure_in, failure_of, left_in, entries_left, unjudged, IsReading, StandsIn, StandsFor, HasRead, GoesOn, Turns, HandsOut, Answers}
 use Rattle.capture3.specs.Entry.{Entry, End}
 use Rattle.capture3.specs.FirstFault.{FirstFault, IsClean}
 use Rattle.capture3.specs.Judges.{StandsAt, GoesTo, FailsAt, IsHeld, IsOfBytes, entry_cost}
@@ -184,11 +185,13 @@ none_consumed None other is = tt
 none_consumed (Some xs) None is = absurd (cc)
 none_consumed (Some xs) (Some ys) is = let same : ys ≡ xs = cc in sym same
 
-nothing_behind : (given : List ℕ) (known : Option (List ℕ)) (rest : List ℕ) → IsAtEnd known → known ≡ Some rest → given ≡ given ++ rest
-nothing_behind given None rest end is = absurd (cc)
-nothing_behind given (Some xs) rest end is =
+-- what is left is known
+pub shown_in : (given rest : List ℕ) (left : Option (List ℕ)) (handed : List Entry) (fault : Fault) → left ≡ Some rest → IsShownBy left given handed fault → FirstFault (given ++ rest) fault × Reached (given ++ rest) handed
+shown_in given rest left handed fault is (inl whatever) = whatever rest
+shown_in given rest None handed fault is (inr (end, first, reached)) = absurd (cc)
+shown_in given rest (Some xs) handed fault is (inr (end, first, reached)) =
     let same : xs ≡ rest = cc in
-    sym (ap (λ (b : List ℕ). given ++ b) (sym same ∙ end) ∙ append-nil given)
+    subst (λ (b : List ℕ). FirstFault b fault × Reached b handed) (sym (ap (λ (b : List ℕ). given ++ b) (sym same ∙ end) ∙ append-nil given)) (first, reached)
 
 -- ---- the reader
 
@@ -305,9 +308,9 @@ module _ {R S H : Type 0} {builds : BuildHasher.Ghosts S H} {hashes : Hasher.Gho
       )
 
   fails_by : (e : Entries R S H builds hashes) (error : Error) (given : List ℕ) (handed : List Entry) (known : Option (List ℕ)) → AreBytes given → (r : IsReading e given handed) → FailsAt (parsed r.judged) handed (unjudged e) error → IsMetBy error known given handed
-  fails_by e (errors.Refused fault) given handed known are r f = λ rest is.
+  fails_by e (errors.Refused fault) given handed known are r f = inl (λ rest.
       let refused = refused_behind r.judged (unjudged e) rest handed fault (subst AreBytes r.split are) f in
-      subst (λ (b : List ℕ). FirstFault (b ++ rest) fault × Reached (b ++ rest) handed) (sym r.split) refused
+      subst (λ (b : List ℕ). FirstFault (b ++ rest) fault × Reached (b ++ rest) handed) (sym r.split) refused)
   fails_by e errors.Read given handed known are r f = absurd f
   fails_by e errors.Write given handed known are r f = absurd f
   fails_by e errors.Memory given handed known are r f = first_in e given handed are r
@@ -340,7 +343,7 @@ module _ {R S H : Type 0} {builds : BuildHasher.Ghosts S H} {hashes : Hasher.Gho
       let first : FirstFault given (file_fault old.judged CaptureCut) = subst (λ (n : ℕ). FirstFault given (file_fault n CaptureCut)) (sym size) (cut_here given _ _ _ handed s.bytes at not) in
       let reached = (not_ended given _ _ _ handed s.bytes at not).1 in
       stands_failed old new error given handed fails s
-      (subst (λ (e : Error). IsMetBy e (left new.source.now) given handed) (sym cut) (λ rest known. subst (λ (b : List ℕ). FirstFault b (file_fault old.judged CaptureCut) × Reached b handed) (nothing_behind given (left new.source.now) rest end known) (first, reached)))
+      (subst (λ (e : Error). IsMetBy e (left new.source.now) given handed) (sym cut) (inr (end, first, reached)))
 
   -- ---- one after another
 

@@ -4,10 +4,11 @@ use Rattle.std.specs.Result.{IsErrAnd}
 use Rattle.std.proofs.Common.{◌≡◌, ℕ, Bool, true, false, cond, List, [], ◌∷◌, ◌++◌, length, Some, None, Result, Ok, Err, refl, sym, ap, subst, ◌∙◌, eq-eqb}
 use Rattle.xdr3.specs.declared.reason.GetError.{GetError}
 use Rattle.xdr3.specs.declared.reason.GetError.TheVariants as errors
+use Rattle.xdr3.specs.declared.reason.Reason.TheVariants.{XidConflict}
 use Rattle.xdr3.specs.declared.reason.Stop.{Stop}
 use Rattle.xdr3.specs.Item.{AreBytes, Item, followed_by}
 use Rattle.xdr3.specs.Layout.{reading_layout}
-use Rattle.xdr3.specs.Reading.{reading}
+use Rattle.xdr3.specs.Reading.{reading, refused}
 use Rattle.xdr3.specs.Scan.{ScansLayout, Stops, StopsLayout}
 use Rattle.xdr3.specs.View.{View}
 use Rattle.xdr3.specs.Visit.{Adds}
@@ -21,7 +22,7 @@ use Rattle.procs3.specs.Table.{arguments_of}
 use Rattle.capture3.specs.declared.calls.NumberedCall.{NumberedCall}
 use Rattle.capture3.specs.Bodies.{procedure_of}
 use Rattle.capture3.specs.Calls.{found}
-use Rattle.capture3.specs.Judging.{judge_call, judge_reply}
+use Rattle.capture3.specs.Judging.{agrees, judge_call, judge_reply}
 use Rattle.capture3.specs.MessageScan.{ScansCall, ScansReply, StopsMessage}
 use Rattle.capture3.specs.Messages.{results_after}
 use Rattle.capture3.proofs.Bodies.{the_calls, the_replies}
@@ -105,6 +106,11 @@ call_scans stands body s id head end last old new are r is = record {
   judged = λ before. call_whole before body s id r.front head end last.at r.more r.begins r.read is;
   adds = r.adds;
 }
+
+-- a call that agrees with those before it is accepted
+pub call_agrees : {V : Type 0} (stands : V → List Item → Type 0) (before : List (List Item)) (body : List ℕ) (call : NumberedCall) (old new : V) → (s : ScansCall stands body call old new) → agrees (procedure_of before call.xid) call.id ≡ true
+    → judge_call before body ≡ Ok s.items
+call_agrees stands before body call old new s agree = s.judged before ∙ ap (λ (b : Bool). cond b (Ok s.items) (refused 0 XidConflict)) agree
 
 -- ---- replies
 

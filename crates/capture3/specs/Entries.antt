@@ -12,6 +12,7 @@ use Rattle.capture3.specs.declared.entries.Stage.TheVariants.{Reading, Over, Fai
 use Rattle.capture3.specs.declared.entry.Kind.{Kind}
 use Rattle.capture3.specs.declared.fault.Error.{Error}
 use Rattle.capture3.specs.declared.fault.Error.TheVariants as errors
+use Rattle.capture3.specs.declared.fault.Fault.{Fault}
 use Rattle.capture3.specs.declared.position.Position.{Position}
 use Rattle.capture3.specs.Capture.{max_connections}
 use Rattle.capture3.specs.Entry.{Entry, End, items_of}
@@ -37,10 +38,16 @@ AreAllBeforeEnd bytes entries = Typed bytes (entries ++ End ∷ []) ⊎ ((IsWell
 abbrev pub AreFirstReached : List ℕ → List Entry → Type 0
 AreFirstReached bytes entries = (more : List Entry) × Reached bytes (entries ++ more)
 
--- What an error says, behind the bytes given and the entries handed out, where so much is left: the fault is the first of all bytes, which reach
--- just these entries; or a read failed, and what the bytes given reach was handed out; or memory ran out.
+-- After the bytes given, where so much is left: whatever follows them, the fault is the first, and these entries are reached before it; or
+-- nothing follows them, and the same holds of them alone.
+abbrev pub IsShownBy : (left : Option (List ℕ)) (given : List ℕ) (handed : List Entry) → Fault → Type 0
+IsShownBy left given handed fault =
+    ((rest : List ℕ) → FirstFault (given ++ rest) fault × Reached (given ++ rest) handed) ⊎ (IsAtEnd left × FirstFault given fault × Reached given handed)
+
+-- What an error says, after the bytes given and the entries handed out, where so much is left: the bytes given show the fault, and just these
+-- entries are reached; or a read failed, and what the bytes given reach was handed out; or memory ran out.
 abbrev pub IsMetBy : Error → Option (List ℕ) → List ℕ → List Entry → Type 0
-IsMetBy (errors.Refused fault) left given handed = (rest : List ℕ) → left ≡ Some rest → FirstFault (given ++ rest) fault × Reached (given ++ rest) handed
+IsMetBy (errors.Refused fault) left given handed = IsShownBy left given handed fault
 IsMetBy errors.Read left given handed = AreAllBeforeEnd given handed
 IsMetBy errors.Write left given handed = ⊥
 IsMetBy errors.Memory left given handed = AreFirstReached given handed

@@ -276,9 +276,9 @@ impl<'r, R: Source, S: BuildHasher + Drop> Entries<'r, R, S> {
 }
 
 /// A block of 65,536 bytes to read through.
-// The clause gives no more than that it has room, since a goal with so many zeros is slow.
 pub fn new_block(alloc: Global) -> Result<Vec<u8>, AllocError>
-    ensures { IfOk result (λ block. 0 < vec_len block) }
+    ensures size { IfOk result (λ block. vec_len block ≡ BLOCK) }
+    ensures room { IfOk result (λ block. 0 < vec_len block) }
 {
     vec![in alloc; 0; BLOCK]
 }
