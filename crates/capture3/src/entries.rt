@@ -108,6 +108,7 @@ impl<'r, R: Source, S: BuildHasher + Drop> Entries<'r, R, S> {
             result }
         ensures end { result ≡ Ok (Some Kind.End) → IsOver self.new }
         ensures over { IsOver self.old → (result ≡ Ok None) × (self.new ≡ self.old) }
+        ensures untold { IfOk result (λ next. next ≡ None → visitor.new ≡ visitor.old) }
         ensures fewer { IfOk result (λ next. IsSome next → entries_left self.new < entries_left self.old) }
         ensures going { OnOk result (failure_of self.new ≡ None) }
         ensures failed { IfErr result (λ error. failure_of self.new ≡ Some error) }
