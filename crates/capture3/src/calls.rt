@@ -1,6 +1,6 @@
 // The calls of a connection.
 
-ghost use Rattle.std.specs.Prelude.{◌≡◌, [], IfOk, IsTrue};
+ghost use Rattle.std.specs.Prelude.{◌≡◌, [], IfOk, IfSome, IsTrue, Some};
 ghost use Rattle.capture3.specs.Calls.{found, numbered_calls, with_call};
 ghost use Rattle.capture3.specs.Judging.{agrees};
 
@@ -24,9 +24,10 @@ pub(crate) trait KnownCalls {
     // The xids, each once and with its procedure, in the order of their first appearance.
     ghost calls: { Self → List NumberedCall };
 
-    /// The procedure of the calls with this xid.
-    fn procedure_of(&self, xid: u32) -> Option<ProcId>
-        ensures { result ≡ found (calls self.now) xid };
+    /// The procedure of the calls with this xid. The calls stay.
+    fn procedure_of(&mut self, xid: u32) -> Option<ProcId>
+        ensures found { result ≡ found (calls self.old) xid }
+        ensures stay { calls self.new ≡ calls self.old };
 }
 
 /// The calls of a connection, as they come.
@@ -43,8 +44,8 @@ pub(crate) trait CallTable: KnownCalls {
 }
 
 /// Tells that no call has this xid and another procedure.
-pub(crate) fn agrees_in<C: KnownCalls>(calls: &C, xid: u32, id: ProcId) -> bool
-    ensures { result ≡ agrees (found (C.calls calls.now) xid) id }
+pub(crate) fn agrees_in<C: KnownCalls>(calls: &mut C, xid: u32, id: ProcId) -> bool
+    ensures { result ≡ agrees (found (C.calls calls.old) xid) id }
 {
     is_none_or(calls.procedure_of(xid), id)
 }
@@ -82,12 +83,10 @@ impl CallList {
             calls: Vec::new(alloc),
         }
     }
-}
 
-impl KnownCalls for CallList {
-    ghost calls = { λ list. list };
-
-    fn procedure_of(&self, xid: u32) -> Option<ProcId> {
+    fn find(&self, xid: u32) -> Option<ProcId>
+        ensures { result ≡ found self.now xid }
+    {
         for call in &self.calls {
             if call.xid == xid {
                 return Some(call.id);
@@ -97,13 +96,21 @@ impl KnownCalls for CallList {
     }
 }
 
+impl KnownCalls for CallList {
+    ghost calls = { λ list. list };
+
+    fn procedure_of(&mut self, xid: u32) -> Option<ProcId> {
+        self.find(xid)
+    }
+}
+
 impl CallTable for CallList {
     fn clear(&mut self) {
         self.calls.clear();
     }
 
     fn admit(&mut self, xid: u32, id: ProcId) -> Result<bool, AllocError> {
-        match self.procedure_of(xid) {
+        match self.find(xid) {
             Some(other) => Ok(other == id),
             None => {
                 self.calls.push(NumberedCall { xid, id })?;
@@ -117,6 +124,8 @@ impl CallTable for CallList {
 #[derive(Drop)]
 pub(crate) struct HashedCalls<S: BuildHasher + Drop> {
     calls: IndexMap<u32, ProcId, S>,
+    // Where the call stands whose reply is expected next.
+    next: usize,
 }
 
 impl<S: BuildHasher + Drop> Model for HashedCalls<S> {
@@ -135,6 +144,17 @@ impl<S: BuildHasher + Drop> HashedCalls<S> {
     {
         HashedCalls {
             calls: IndexMap::with_hasher(alloc, hasher),
+            next: 0,
+        }
+    }
+
+    /// The procedure of the call that is expected next, if it has this xid.
+    fn expected(&self, xid: u32) -> Option<ProcId>
+        ensures { IfSome result (λ id. found self.now xid ≡ Some id) }
+    {
+        match self.calls.get_index(self.next) {
+            Some((next, id)) if *next == xid => Some(*id),
+            _ => None,
         }
     }
 }
@@ -142,14 +162,27 @@ impl<S: BuildHasher + Drop> HashedCalls<S> {
 impl<S: BuildHasher + Drop> KnownCalls for HashedCalls<S> {
     ghost calls = { λ table. table };
 
-    fn procedure_of(&self, xid: u32) -> Option<ProcId> {
-        self.calls.get(&xid).copied()
+    // Most replies come in the order of their calls, which takes no look-up.
+    fn procedure_of(&mut self, xid: u32) -> Option<ProcId> {
+        if let Some(id) = self.expected(xid) {
+            self.next = self.next.saturating_add(1);
+            return Some(id);
+        }
+        match self.calls.get_full(&xid) {
+            Some((index, _, id)) => {
+                let id = *id;
+                self.next = index.saturating_add(1);
+                Some(id)
+            }
+            None => None,
+        }
     }
 }
 
 impl<S: BuildHasher + Drop> CallTable for HashedCalls<S> {
     fn clear(&mut self) {
         self.calls.clear();
+        self.next = 0;
     }
 
     // One look-up: the call takes the place of one with its xid, which is the same unless they are at odds.
@@ -165,7 +198,7 @@ impl KnownCalls for Option<NumberedCall> {
 
     ghost calls = { one_or_none };
 
-    fn procedure_of(&self, xid: u32) -> Option<ProcId> {
+    fn procedure_of(&mut self, xid: u32) -> Option<ProcId> {
         match self {
             Some(call) if call.xid == xid => Some(call.id),
             _ => None,

@@ -84,7 +84,7 @@ impl KeptCall {
         ensures call { IfOk result (λ call. IsCall self.now.body.items (call_items call)) }
         ensures procedure { IfOk result (λ call. call.head.id ≡ self.now.id) }
     {
-        match judge_call(alloc, &None::<NumberedCall>, &self.body) {
+        match judge_call(alloc, &mut None::<NumberedCall>, &self.body) {
             Ok(call) => Ok(call),
             Err(GetError::Memory) => Err(AllocError),
             Err(GetError::Stop(_)) => unreachable!(),
@@ -110,7 +110,7 @@ impl KeptReply {
         ensures { OnOk result
             (TellsReply V.stands self.now.body.items self.now.id visitor.old visitor.new) }
     {
-        match scan_reply(&Some(self.answered()), &self.body, visitor) {
+        match scan_reply(&mut Some(self.answered()), &self.body, visitor) {
             Ok(_) => Ok(()),
             Err(GetError::Memory) => Err(AllocError),
             Err(GetError::Stop(_)) => unreachable!(),
@@ -122,7 +122,7 @@ impl KeptReply {
         ensures reply { IfOk result (λ reply. IsReply self.now.body.items (answered_items reply)) }
         ensures procedure { IfOk result (λ reply. reply.id ≡ self.now.id) }
     {
-        match judge_reply(alloc, &Some(self.answered()), &self.body) {
+        match judge_reply(alloc, &mut Some(self.answered()), &self.body) {
             Ok(reply) => Ok(reply),
             Err(GetError::Memory) => Err(AllocError),
             Err(GetError::Stop(_)) => unreachable!(),

@@ -217,7 +217,7 @@ impl<C: CallTable + Drop> Capture<C> {
             (judge_reply calls (body_of self.old.container.joiner))) }
         ensures device { IfErr result IsOfBytes }
     {
-        match scan_reply(&self.calls, self.container.body(), visitor) {
+        match scan_reply(&mut self.calls, self.container.body(), visitor) {
             Ok(id) => Ok(id),
             Err(error) => Err(self.record_error(Side::Server, error)),
         }

@@ -37,11 +37,11 @@ pub struct ReplyMsg<'a> {
 /// Reads a body of the client stream, behind the calls of its connection that came before it.
 pub(crate) fn judge_call<'a, C: KnownCalls>(
     alloc: Global,
-    calls: &C,
+    calls: &mut C,
     body: &'a [u8],
 ) -> Result<CallMsg<'a>, GetError>
     requires { length body.now ≤ 16777216 }
-    ensures judged { (before : List (List Item)) → IsTableOf (C.calls calls.now) before → Judged call_items result (spec.judge_call before body.now) }
+    ensures judged { (before : List (List Item)) → IsTableOf (C.calls calls.old) before → Judged call_items result (spec.judge_call before body.now) }
     ensures call { IfOk result (λ call. IsCall body.now (call_items call)) }
 {
     let mut input = Input::new(body);
@@ -65,13 +65,13 @@ pub(crate) fn judge_call<'a, C: KnownCalls>(
 /// Reads a body of the server stream, behind all calls of its connection.
 pub(crate) fn judge_reply<'a, C: KnownCalls>(
     alloc: Global,
-    calls: &C,
+    calls: &mut C,
     body: &'a [u8],
 ) -> Result<ReplyMsg<'a>, GetError>
     requires { length body.now ≤ 16777216 }
-    ensures judged { (before : List (List Item)) → IsTableOf (C.calls calls.now) before → Judged answered_items result (spec.judge_reply before body.now) }
+    ensures judged { (before : List (List Item)) → IsTableOf (C.calls calls.old) before → Judged answered_items result (spec.judge_reply before body.now) }
     ensures reply { IfOk result (λ reply. IsReply body.now (answered_items reply)) }
-    ensures procedure { IfOk result (λ reply. found (C.calls calls.now) reply.xid ≡ Some reply.id) }
+    ensures procedure { IfOk result (λ reply. found (C.calls calls.old) reply.xid ≡ Some reply.id) }
 {
     let mut input = Input::new(body);
     let start = start(&mut input)?;

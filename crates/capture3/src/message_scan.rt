@@ -1,6 +1,6 @@
 // Whole messages that a visitor is told as they are read.
 
-ghost use Rattle.std.specs.Prelude.{◌≤◌, List, length, IfErr, IfOk, OnOk};
+ghost use Rattle.std.specs.Prelude.{◌≡◌, ◌≤◌, List, length, IfErr, IfOk, OnOk};
 ghost use Rattle.rpc_head.specs.Starts.{start_items};
 ghost use Rattle.xdr3.specs.Item.{Item};
 ghost use Rattle.xdr3.specs.Scan.{ScansLayout, StopsLayout};
@@ -41,14 +41,15 @@ pub(crate) fn scan_call<V: Visit>(body: &[u8], visitor: &mut V) -> Result<Number
 /// Reads a body of the server stream, after all calls of its connection, and tells its items to the
 /// visitor. It answers the procedure of its call. After an error what the visitor holds is open.
 pub(crate) fn scan_reply<C: KnownCalls, V: Visit>(
-    calls: &C,
+    calls: &mut C,
     body: &[u8],
     visitor: &mut V,
 ) -> Result<ProcId, GetError>
     requires { length body.now ≤ 16777216 }
     ensures ok { IfOk result
-        (λ id. ScansReply V.stands (C.calls calls.now) body.now id visitor.old visitor.new) }
-    ensures err { (before : List (List Item)) → IsTableOf (C.calls calls.now) before
+        (λ id. ScansReply V.stands (C.calls calls.old) body.now id visitor.old visitor.new) }
+    ensures stay { C.calls calls.new ≡ C.calls calls.old }
+    ensures err { (before : List (List Item)) → IsTableOf (C.calls calls.old) before
         → IfErr result (λ error. StopsMessage error (spec.judge_reply before body.now)) }
 {
     let mut input = Input::new(body);

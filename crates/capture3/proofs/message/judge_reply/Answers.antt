@@ -27,7 +27,7 @@ returns-then-not-start-clause-judged g c before table =
 pub returns-in_default-clause-judged : goal.returns-in_default-clause-judged
 returns-in_default-clause-judged g c before table =
     let start = rw (c.new-input.ensures.body, c.new-input.ensures.start) at c.in_ok-start.ensures.read in
-    let none : procedure_of before c.in_ok-start.start.xid ≡ None = sym (table c.in_ok-start.start.xid) ∙ sym c.procedure_of.ensures ∙ c.in_default.is in
+    let none : procedure_of before c.in_ok-start.start.xid ≡ None = sym (table c.in_ok-start.start.xid) ∙ sym c.procedure_of.ensures.found ∙ c.in_default.is in
     refusal_judged c.stop-in_default.result (judge_reply before c.args.body.now) (record { at = 0; reason = NoCall }) c.stop-in_default.ensures
     (reply_unasked before c.args.body.now c.in_ok-start.start c.start.new.input.at start (not_false c.in_ok-start.start.is_reply c.if-not-start.false) none)
 
@@ -35,7 +35,7 @@ pub returns-in_err-head-clause-judged : goal.returns-in_err-head-clause-judged
 returns-in_err-head-clause-judged g c before table =
     let start = rw (c.new-input.ensures.body, c.new-input.ensures.start) at c.in_ok-start.ensures.read in
     let body : c.start.new.input.body ≡ c.args.body.now = c.in_ok-start.ensures.moves.same_body ∙ c.new-input.ensures.body in
-    let asked : procedure_of before c.in_ok-start.start.xid ≡ Some c.in-Some.id = sym (table c.in_ok-start.start.xid) ∙ sym c.procedure_of.ensures ∙ c.in-Some.is in
+    let asked : procedure_of before c.in_ok-start.start.xid ≡ Some c.in-Some.id = sym (table c.in_ok-start.start.xid) ∙ sym c.procedure_of.ensures.found ∙ c.in-Some.is in
     error_judged answered_items _ _ c.in_err-head.field-0.0 c.from_residual-in_err-head.ensures.1
     (λ stop is. reply_bad_head before c.args.body.now c.in_ok-start.start c.in-Some.id stop c.start.new.input.at start (not_false c.in_ok-start.start.is_reply c.if-not-start.false) asked (rw body at (c.in_err-head.ensures.read stop is)))
 
@@ -44,7 +44,7 @@ returns-in_err-results-clause-judged g c before table =
     let start = rw (c.new-input.ensures.body, c.new-input.ensures.start) at c.in_ok-start.ensures.read in
     let body : c.start.new.input.body ≡ c.args.body.now = c.in_ok-start.ensures.moves.same_body ∙ c.new-input.ensures.body in
     let behind : c.get.new.input.body ≡ c.args.body.now = c.in_ok-head.ensures.moves.same_body ∙ body in
-    let asked : procedure_of before c.in_ok-start.start.xid ≡ Some c.in-Some.id = sym (table c.in_ok-start.start.xid) ∙ sym c.procedure_of.ensures ∙ c.in-Some.is in
+    let asked : procedure_of before c.in_ok-start.start.xid ≡ Some c.in-Some.id = sym (table c.in_ok-start.start.xid) ∙ sym c.procedure_of.ensures.found ∙ c.in-Some.is in
     let begins : ReplyBegins before c.args.body.now c.in_ok-start.start c.in-Some.id (tells_success (reply_head_items c.in_ok-head.head)) (reply_head_items c.in_ok-head.head) c.start.new.input.at c.get.new.input.at =
     record { start = start; is_reply = not_false c.in_ok-start.start.is_reply c.if-not-start.false; asked = asked; read = rw body at c.in_ok-head.ensures.read; told = refl } in
     error_judged answered_items _ _ c.in_err-results.field-0.0 c.from_residual-in_err-results.ensures.1
@@ -55,7 +55,7 @@ returns-in_err-end-clause-judged g c before table =
     let start = rw (c.new-input.ensures.body, c.new-input.ensures.start) at c.in_ok-start.ensures.read in
     let body : c.start.new.input.body ≡ c.args.body.now = c.in_ok-start.ensures.moves.same_body ∙ c.new-input.ensures.body in
     let behind : c.get.new.input.body ≡ c.args.body.now = c.in_ok-head.ensures.moves.same_body ∙ body in
-    let asked : procedure_of before c.in_ok-start.start.xid ≡ Some c.in-Some.id = sym (table c.in_ok-start.start.xid) ∙ sym c.procedure_of.ensures ∙ c.in-Some.is in
+    let asked : procedure_of before c.in_ok-start.start.xid ≡ Some c.in-Some.id = sym (table c.in_ok-start.start.xid) ∙ sym c.procedure_of.ensures.found ∙ c.in-Some.is in
     let begins : ReplyBegins before c.args.body.now c.in_ok-start.start c.in-Some.id (tells_success (reply_head_items c.in_ok-head.head)) (reply_head_items c.in_ok-head.head) c.start.new.input.at c.get.new.input.at =
     record { start = start; is_reply = not_false c.in_ok-start.start.is_reply c.if-not-start.false; asked = asked; read = rw body at c.in_ok-head.ensures.read; told = refl } in
     let last : c.results_after.new.input.body ≡ c.args.body.now = c.in_ok-results.ensures.moves.same_body ∙ behind in
@@ -69,7 +69,7 @@ returns-clause-judged g c before table =
     let start = rw (c.new-input.ensures.body, c.new-input.ensures.start) at c.in_ok-start.ensures.read in
     let body : c.start.new.input.body ≡ c.args.body.now = c.in_ok-start.ensures.moves.same_body ∙ c.new-input.ensures.body in
     let behind : c.get.new.input.body ≡ c.args.body.now = c.in_ok-head.ensures.moves.same_body ∙ body in
-    let asked : procedure_of before c.in_ok-start.start.xid ≡ Some c.in-Some.id = sym (table c.in_ok-start.start.xid) ∙ sym c.procedure_of.ensures ∙ c.in-Some.is in
+    let asked : procedure_of before c.in_ok-start.start.xid ≡ Some c.in-Some.id = sym (table c.in_ok-start.start.xid) ∙ sym c.procedure_of.ensures.found ∙ c.in-Some.is in
     let begins : ReplyBegins before c.args.body.now c.in_ok-start.start c.in-Some.id (tells_success (reply_head_items c.in_ok-head.head)) (reply_head_items c.in_ok-head.head) c.start.new.input.at c.get.new.input.at =
     record { start = start; is_reply = not_false c.in_ok-start.start.is_reply c.if-not-start.false; asked = asked; read = rw body at c.in_ok-head.ensures.read; told = refl } in
     let last : c.results_after.new.input.body ≡ c.args.body.now = c.in_ok-results.ensures.moves.same_body ∙ behind in
