@@ -16,7 +16,8 @@ use Rattle.canon3.specs.Rewriting.{are_some, magic_unless}
 use Rattle.canon3.specs.Progress.{side_in}
 use Rattle.canon3.proofs.Ends.{ends_too, past}
 use Rattle.canon3.proofs.First.{first_in_order, parts_where_forms_do, same_from_bytes}
-use Rattle.canon3.proofs.Growing.{bytes_behind, first_front, form_grows}
+use Rattle.canon3.specs.Spelling.{bytes_behind}
+use Rattle.canon3.proofs.Growing.{first_front, form_grows}
 use Rattle.canon3.proofs.Numbering.{canonical-same}
 use Rattle.canon3.proofs.Places.{place_from_parting}
 use Rattle.canon3.proofs.Prefixes.{canonical-take}

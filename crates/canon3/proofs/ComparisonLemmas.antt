@@ -1,18 +1,20 @@
 -- A comparison of two captures, entry by entry.
-use Rattle.std.proofs.Common.{◌≡◌, ◌≢◌, ℕ, Bool, true, false, ◌<◌, ◌^◌, List, [], ◌∷◌, ◌++◌, length, append-nil, Option, None, Some, Result, Ok, Err, refl, sym, ap, ◌∙◌, subst, arith}
+use Rattle.std.proofs.Common.{◌≡◌, ◌≢◌, ⊎_elim, ℕ, Bool, true, false, ◌<◌, ◌^◌, List, [], ◌∷◌, ◌++◌, length, append-nil, Option, None, Some, Result, Ok, Err, refl, sym, ap, ◌∙◌, subst, arith}
 use Rattle.std.specs.Io.KnownBytes.{Consumes, IsAtEnd}
 use Rattle.std.specs.Result.{IsErr, IsErrAnd}
 use Rattle.std.proofs.KnownBytes.{Consumes-all, Consumes-trans}
 use Rattle.std.specs.declared.hash.BuildHasher as BuildHasher
 use Rattle.std.specs.declared.hash.Hasher as Hasher
-use Rattle.capture3.specs.declared.entry.Entry as kept
+use Rattle.xdr3.specs.Item.{Item}
+use Rattle.xdr3.specs.Visit.{Adds}
 use Rattle.capture3.specs.declared.entries.Entries.{Entries}
 use Rattle.capture3.specs.declared.fault.Error.{Error}
 use Rattle.capture3.specs.declared.fault.Error.TheVariants as errors
 use Rattle.capture3.specs.declared.fault.Place.{Place}
 use Rattle.capture3.specs.Entries.{Answers, IsMetBy, StandsFor}
-use Rattle.capture3.specs.Entry.{Entry}
-use Rattle.capture3.specs.Kept.{IsKept}
+use Rattle.capture3.specs.Entry.{Entry, items_of}
+use Rattle.capture3.specs.FirstFault.{FirstFault}
+use Rattle.capture3.specs.Reached.{Reached}
 use Rattle.capture3.specs.Typed.{IsWellFormed, Typed}
 use Rattle.canon3.specs.declared.comparison.Comparison.{Comparison}
 use Rattle.canon3.specs.declared.comparison.Finding.{Finding}
@@ -20,61 +22,58 @@ use Rattle.canon3.specs.declared.comparison.Finding.TheVariants as findings
 use Rattle.canon3.specs.declared.numbered.Numbering.{Numbering}
 use Rattle.canon3.specs.declared.spelling.Spelling.{Spelling}
 use Rattle.canon3.specs.declared.progress.Progress.{Progress}
+use Rattle.capture3.specs.declared.entry.Kind.{Kind}
 use Rattle.canon3.specs.declared.verdict.SameError.{SameError}
 use Rattle.canon3.specs.declared.verdict.Verdict.{Verdict}
 use Rattle.canon3.specs.declared.verdict.Verdict.TheVariants as verdicts
 use Rattle.canon3.specs.declared.verdict.Which.TheVariants.{First, Second}
-use Rattle.canon3.specs.Comparison.{Agree, Decides, HasGiven, HasGivenOn, HaveEnded, HaveParted, IsCompared, IsFound, IsReadAfter, IsReadOut, IsRefused, Meets, met_second, PartWith, ReadsOn, StepsOn, Stops}
-use Rattle.canon3.specs.Following.{open_xids}
+use Rattle.canon3.specs.Comparison.{Agree, Decides, HasGiven, HasGivenOn, HaveEnded, HaveParted, IsCompared, IsFound, IsReadAfter, IsReadOut, IsRefused, IsTold, Meets, met_second, PartWith, ReadsOn, StepsOn, Stops}
 use Rattle.canon3.specs.Laws.{AreFirst}
-use Rattle.canon3.specs.Numbered.{AreFew, Holds}
+use Rattle.canon3.specs.Numbered.{Before, behind, Stands, values_of}
 use Rattle.canon3.specs.Renaming.{Same}
-use Rattle.canon3.specs.Spelling.{HasSpelled, spelling_of}
+use Rattle.canon3.specs.Spelling.{bytes_behind, HasSpelled, spelling_of}
+use Rattle.capture3.specs.Kept.{IsOfKind}
 use Rattle.canon3.specs.Progress.{HasPassed, place_from, side_in}
-use Rattle.canon3.specs.Values.{handles, handles_in, items_of, verifiers, verifiers_in}
 use Rattle.canon3.proofs.AgreementLemmas.{agree_more, differ_here, mark_alike, no_more, not_same, parting, place_there, typed_first}
-use Rattle.canon3.proofs.First.{first_in_order, same_from_bytes}
-use Rattle.canon3.proofs.Growing.{bytes_behind, few_xids, handles_push, open-append, verifiers_push}
+use Rattle.canon3.proofs.First.{same_from_bytes}
 use Rattle.canon3.proofs.Reaching.{first_reached}
 use Rattle.canon3.proofs.ProgressLemmas.{place_is}
-
--- ---- one capture
-
-module _ {S H : Type 0} (n : Numbering S H) (form : Spelling) (a : List Entry) (e : Entry) (first : AreFirst (a ++ e ∷ [])) (s : HasSpelled n form (handles a) (verifiers a) (open_xids [] a) e) where
-  are_few : AreFew (handles a ++ handles_in (items_of e)) (verifiers a ++ verifiers_in (items_of e))
-  are_few =
-      let order = first_in_order (a ++ e ∷ []) first in
-      (subst (λ (l : List (List ℕ)). length l < 2 ^ 32) (handles_push a e) order.few_handles, subst (λ (l : List (List ℕ)). length l < 2 ^ 32) (verifiers_push a e) order.few_verifiers)
-
-  pub told : length (a ++ e ∷ []) < 2 ^ 32 → spelling_of form n.writer ≡ bytes_behind a (e ∷ [])
-  told few = s.spelled are_few (few_xids a e few)
-
-  pub held_more : Holds n (handles (a ++ e ∷ [])) (verifiers (a ++ e ∷ [])) (open_xids [] (a ++ e ∷ []))
-  held_more =
-      subst (λ (xs : List ℕ). Holds n (handles (a ++ e ∷ [])) (verifiers (a ++ e ∷ [])) xs) (sym (open-append a (e ∷ []) []))
-      (subst (λ (hs : List (List ℕ)). Holds n hs (verifiers (a ++ e ∷ [])) (open_xids (open_xids [] a) (e ∷ []))) (sym (handles_push a e))
-      (subst (λ (vs : List (List ℕ)). Holds n (handles a ++ handles_in (items_of e)) vs (open_xids (open_xids [] a) (e ∷ []))) (sym (verifiers_push a e)) s.holds))
+use Rattle.canon3.proofs.Visiting.{behind-append}
 
 -- ---- an entry of each
 
-module _ {S H : Type 0} (n m : Numbering S H) (form other_form : Spelling) (a b : List Entry) (e f : Entry) (first : AreFirst (a ++ e ∷ [])) (second : AreFirst (b ++ f ∷ [])) (few : length (a ++ e ∷ []) < 2 ^ 32) (other_few : length (b ++ f ∷ []) < 2 ^ 32)
-    (s : HasSpelled n form (handles a) (verifiers a) (open_xids [] a) e) (t : HasSpelled m other_form (handles b) (verifiers b) (open_xids [] b) f) (g : Agree a b) where
-  pub compared_more : (progress : Progress) → spelling_of form n.writer ≡ spelling_of other_form m.writer → HasPassed progress (a ++ e ∷ []) → IsCompared (record { first = n; second = m; progress = progress }) (a ++ e ∷ []) (b ++ f ∷ [])
-  compared_more progress alike behind = record {
-    agree = agree_more a b e f first second g (sym (told n form a e first s few) ∙ (alike ∙ told m other_form b f second t other_few));
-    first = held_more n form a e first s;
-    second = held_more m other_form b f second t;
-    progress = behind;
-  }
+module _ {S H : Type 0} (n m : Numbering S H) (form other_form : Spelling) (a b : List Entry) (e f : Entry) (first : AreFirst (a ++ e ∷ [])) (second : AreFirst (b ++ f ∷ [])) (s : HasSpelled n form a e) (t : HasSpelled m other_form b f) (g : Agree a b) where
+  pub agree_on : spelling_of form n.writer ≡ spelling_of other_form m.writer → Agree (a ++ e ∷ []) (b ++ f ∷ [])
+  agree_on alike = agree_more a b e f first second g (sym s.spelled ∙ (alike ∙ t.spelled))
 
   pub parts_here : (progress : Progress) (place : Place) → spelling_of form n.writer ≢ spelling_of other_form m.writer → HasPassed progress a → place ≡ place_from progress (side_in e) (side_in f) → PartWith a b e f place
   parts_here progress place unlike behind is =
-      let differ : bytes_behind a (e ∷ []) ≢ bytes_behind b (f ∷ []) = λ same. unlike (told n form a e first s few ∙ (same ∙ sym (told m other_form b f second t other_few))) in
+      let differ : bytes_behind a (e ∷ []) ≢ bytes_behind b (f ∷ []) = λ same. unlike (s.spelled ∙ (same ∙ sym t.spelled)) in
       record {
         agree = g;
         differ = differ_here a b e f first second g differ;
         place_is = rw is (place_is progress a behind e f (λ same none. differ (mark_alike a b e none ∙ ap (λ k. bytes_behind b (k ∷ [])) same)) (place_there a b e f first second g));
       }
+
+-- ---- a comparison whose numberings are told items
+
+abbrev pub with_first : {S H : Type 0} → Comparison S H → Numbering S H → Comparison S H
+with_first comparison n = record { first = n; second = comparison.second; progress = comparison.progress }
+
+abbrev pub with_second : {S H : Type 0} → Comparison S H → Numbering S H → Comparison S H
+with_second comparison n = record { first = comparison.first; second = n; progress = comparison.progress }
+
+-- the items told stand behind the values
+told : {S H : Type 0} (was now : Numbering S H) (before : Before) (items : List Item) → Adds Stands was now items → Stands was (behind before []) → Stands now (behind before items)
+unfolding Adds
+told was now before items adds stands = subst (Stands now) (sym (behind-append before [] items)) (adds (behind before []) stands)
+
+module _ {S H : Type 0} (comparison : Comparison S H) (a b : List Entry) (n : Numbering S H) where
+  pub told_first : (items : List Item) → Adds Stands comparison.first n items → IsCompared comparison a b → IsTold (with_first comparison n) a b items []
+  told_first items adds c = record { agree = c.agree; first = told comparison.first n (values_of a) items adds c.first; second = c.second; progress = c.progress }
+
+  pub told_second : (items others : List Item) → Adds Stands comparison.second n others → IsTold comparison a b items [] → IsTold (with_second comparison n) a b items others
+  told_second items others adds c = record { agree = c.agree; first = c.first; second = told comparison.second n (values_of b) others adds c.second; progress = c.progress }
 
 -- ---- what a reader answers
 
@@ -85,7 +84,12 @@ rest_of file given (Some rest) consumed = (rest, refl, consumed)
 pub met_refused : (file given : List ℕ) (handed : List Entry) (left : Option (List ℕ)) (error : Error) → Consumes (Some file) left given → IsMetBy error left given handed → IsRefused file error
 met_refused file given handed left (errors.Refused fault) consumed met =
     let (rest, is, whole) = rest_of file given left consumed in
-    rw whole (met rest is).0
+    ⊎_elim
+    (λ (shown : (more : List ℕ) → FirstFault (given ++ more) fault × Reached (given ++ more) handed). rw whole (shown rest).0)
+    (λ (shown : IsAtEnd left × FirstFault given fault × Reached given handed).
+    let all : given ≡ file = Consumes-all (Some file) left given [] given consumed shown.0 refl in
+    subst (λ (l : List ℕ). FirstFault l fault) all shown.1)
+    met
 met_refused file given handed left errors.Read consumed met = tt
 met_refused file given handed left errors.Write consumed met = tt
 met_refused file given handed left errors.Memory consumed met = tt
@@ -109,22 +113,22 @@ second_stops file other errors.Memory whole met = tt
 
 -- ---- along a reader
 
-module _ {R S H : Type 0} {builds : BuildHasher.Ghosts S H} {hashes : Hasher.Ghosts H} (left : R → Option (List ℕ)) (file : List ℕ) (old new : Entries R S H builds hashes) (handed : List Entry) where
-  -- what a call of it says of the file
-  abbrev pub Hands : Result (Option kept.Entry) Error → Type 0
-  Hands (Ok (Some one)) = (entry : Entry) × IsKept one entry × AreFirst (handed ++ entry ∷ []) × (length (handed ++ entry ∷ []) < 2 ^ 32) × HasGiven left file new (handed ++ entry ∷ [])
+module _ {R S H V : Type 0} {builds : BuildHasher.Ghosts S H} {hashes : Hasher.Ghosts H} (left : R → Option (List ℕ)) (stands : V → List Item → Type 0) (file : List ℕ) (old new : Entries R S H builds hashes) (was now : V) (handed : List Entry) where
+  -- what a call of it says of the file, and of the visitor
+  abbrev pub Hands : Result (Option Kind) Error → Type 0
+  Hands (Ok (Some kind)) = (entry : Entry) × IsOfKind kind entry × AreFirst (handed ++ entry ∷ []) × (length (handed ++ entry ∷ []) < 2 ^ 32) × Adds stands was now (items_of entry) × HasGiven left file new (handed ++ entry ∷ [])
   Hands (Ok None) = Typed file handed × HasGiven left file new handed
   Hands (Err error) = IsRefused file error
 
-  pub hands : (h : HasGiven left file old handed) (result : Result (Option kept.Entry) Error) → Answers left old new h.given handed result → Hands result
-  hands h (Ok (Some one)) a =
-      let (entry, is, reached, stands) = a.hands_out in
-      let few : length (handed ++ entry ∷ []) < 2 ^ 32 = omega (arith, stands.few) in
-      (entry, is, first_reached (h.given ++ a.more) (handed ++ entry ∷ []) reached, few, record { given = h.given ++ a.more; consumed = Consumes-trans (Some file) (left old.source.now) (left new.source.now) h.given a.more h.consumed a.consumed; stands = stands })
+  pub hands : (h : HasGiven left file old handed) (result : Result (Option Kind) Error) → Answers left stands old new was now h.given handed result → Hands result
+  hands h (Ok (Some kind)) a =
+      let (entry, is, reached, adds, stands_for) = a.hands_out in
+      let few : length (handed ++ entry ∷ []) < 2 ^ 32 = omega (arith, stands_for.few) in
+      (entry, is, first_reached (h.given ++ a.more) (handed ++ entry ∷ []) reached, few, adds, record { given = h.given ++ a.more; consumed = Consumes-trans (Some file) (left old.source.now) (left new.source.now) h.given a.more h.consumed a.consumed; stands = stands_for })
   hands h (Ok None) a =
       let consumed = Consumes-trans (Some file) (left old.source.now) (left new.source.now) h.given a.more h.consumed a.consumed in
-      let (typed, ended, stands) = a.hands_out in
-      (all_typed file (h.given ++ a.more) handed (left new.source.now) consumed ended typed, record { given = h.given ++ a.more; consumed = consumed; stands = stands })
+      let (typed, ended, stands_for) = a.hands_out in
+      (all_typed file (h.given ++ a.more) handed (left new.source.now) consumed ended typed, record { given = h.given ++ a.more; consumed = consumed; stands = stands_for })
   hands h (Err error) a =
       met_refused file (h.given ++ a.more) handed (left new.source.now) error (Consumes-trans (Some file) (left old.source.now) (left new.source.now) h.given a.more h.consumed a.consumed) a.hands_out.0
 

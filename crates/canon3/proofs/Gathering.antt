@@ -10,11 +10,11 @@ use Rattle.xdr3.proofs.Items.{length_of_spelling}
 use Rattle.record_mark.specs.RecordMark.{max_body}
 use Rattle.nfs3_types.specs.declared.handle.Handle as handles
 use Rattle.nfs3_types.specs.Handle.{bytes_of}
-use Rattle.capture3.specs.Entry.{Entry}
+use Rattle.capture3.specs.Entry.{Entry, items_of}
 use Rattle.canon3.specs.Gathering.{Gathers, same_handle}
 use Rattle.canon3.specs.Rank.{before, distinct, rank, with_key, with_keys, StandsFor}
 use Rattle.canon3.specs.Summing.{all_items}
-use Rattle.canon3.specs.Values.{handle_in, handles, handles_in, items_of}
+use Rattle.canon3.specs.Values.{handle_in, handles, handles_in}
 
 -- ---- distinct ones by what they hold
 
@@ -68,8 +68,12 @@ gathers_one old new handle name (b ∷ bs) items is some step (given, stands, ar
       ∙ sym (flat_map-append handle_in items (Opaque Handle name (b ∷ bs) ∷ [])),
 )
 
+-- as many handles as bytes of them
+pub distinct_held : {hs : List (List ℕ)} (given : List handles.Handle) → map bytes_of given ≡ hs → length (distinct same_handle given) ≡ length (distinct bytes_eq hs)
+distinct_held given are = distinct_mapped bytes_eq bytes_of given ∙ ap (λ (l : List (List ℕ)). length (distinct bytes_eq l)) are
+
 pub count_gathered : (table : List handles.Handle) (items : List Item) (g : Gathers table items) → length (distinct same_handle g.0) ≡ length (distinct bytes_eq (handles_in items))
-count_gathered table items (given, stands, are) = distinct_mapped bytes_eq bytes_of given ∙ ap (λ (l : List (List ℕ)). length (distinct bytes_eq l)) are
+count_gathered table items (given, stands, are) = distinct_held given are
 
 -- ---- of all entries
 

@@ -3,21 +3,18 @@ use Rattle.std.proofs.Common.{◌≡◌, ◌≤◌, ◌<◌, ◌+◌, ◌^◌, �
 use Rattle.std.specs.List.{flat_map}
 use Rattle.std.proofs.lemmas.Grind.{flat_map-append}
 use Rattle.xdr3.specs.Item.{Item, Word}
-use Rattle.capture3.specs.Bodies.{xid_in}
 use Rattle.capture3.specs.Capture.{One, magic}
-use Rattle.capture3.specs.Entry.{Entry, Begin, Call, Turn, Reply, Close, End}
+use Rattle.capture3.specs.Entry.{Entry, Begin, Call, Turn, Reply, Close, End, items_of}
 use Rattle.canon3.specs.Bytes.{bytes_of, entry_bytes}
 use Rattle.canon3.specs.Canonical.{canonical, numbered}
 use Rattle.canon3.specs.Following.{entries_after, open_xids}
 use Rattle.canon3.specs.Laws.{AreFirst}
-use Rattle.canon3.specs.Pairing.{Member}
 use Rattle.canon3.specs.Rewriting.{are_some, magic_unless}
-use Rattle.canon3.specs.Values.{handles, handles_in, items_of, verifiers, verifiers_in, xid_of}
-use Rattle.canon3.specs.Writing.{IsInTurn}
+use Rattle.canon3.specs.Values.{handles, handles_in, verifiers, verifiers_in, xid_of}
+use Rattle.canon3.specs.Spelling.{bytes_behind}
 use Rattle.canon3.proofs.First.{first_in_order}
 use Rattle.canon3.proofs.Following.{canonical-after, entries_after-append}
 use Rattle.canon3.proofs.Nesting.{Paired, paired}
-use Rattle.canon3.proofs.Order.{IsAnswering}
 
 pub first_front : (a b : List Entry) → AreFirst (a ++ b) → AreFirst a
 first_front a b f = record { file = f.file; all = f.all; more = b ++ f.more; typed = f.typed; split = f.split ∙ append_assoc a b f.more }
@@ -46,7 +43,7 @@ one_xid (Word name x ∷ items) = omega arith
 one_xid [] = omega arith
 one_xid (_ ∷ items) = omega arith
 
-few_open : (a : List Entry) (xs : List ℕ) → length (open_xids xs a) ≤ length xs + length a
+pub few_open : (a : List Entry) (xs : List ℕ) → length (open_xids xs a) ≤ length xs + length a
 few_open [] xs = omega arith
 few_open (Begin ∷ a) xs = omega (arith, few_open a [])
 few_open (Call m ∷ a) xs = omega (arith, few_open a (xs ++ xid_of m), length-append xs (xid_of m), one_xid m)
@@ -58,31 +55,19 @@ few_open (End ∷ a) xs = omega (arith, few_open a xs)
 pub few_xids : (a : List Entry) (one : Entry) → length (a ++ one ∷ []) < 2 ^ 32 → length (open_xids (open_xids [] a) (one ∷ [])) < 2 ^ 32
 few_xids a one few = omega (arith, few, few_open (a ++ one ∷ []) [], ap length (open-append a (one ∷ []) []))
 
--- ---- a reply's xid
+-- ---- a message's xid
 
-member_in : (xs : List ℕ) (items : List Item) → IsAnswering xs items → Member (xid_in items) xs
-member_in xs (Word name x ∷ items) a = a
-member_in xs _ a = absurd a
+paired_behind : (a b : List Entry) (xs : List ℕ) → Paired xs (a ++ b) → Paired (open_xids xs a) b
+paired_behind [] b xs p = p
+paired_behind (Begin ∷ a) b xs p = paired_behind a b [] p
+paired_behind (Call m ∷ a) b xs p = paired_behind a b (xs ++ xid_of m) p.1
+paired_behind (Turn ∷ a) b xs p = paired_behind a b xs p
+paired_behind (Reply id m ∷ a) b xs p = paired_behind a b xs p.1
+paired_behind (Close ∷ a) b xs p = paired_behind a b xs p
+paired_behind (End ∷ a) b xs p = paired_behind a b xs p
 
-turn_of : (xs : List ℕ) (one : Entry) → Paired xs (one ∷ []) → IsInTurn xs one
-turn_of xs Begin p = tt
-turn_of xs (Call m) p = tt
-turn_of xs Turn p = tt
-turn_of xs (Reply id m) p = member_in xs m p.0
-turn_of xs Close p = tt
-turn_of xs End p = tt
-
-in_turn_behind : (a : List Entry) (one : Entry) (xs : List ℕ) → Paired xs (a ++ one ∷ []) → IsInTurn (open_xids xs a) one
-in_turn_behind [] one xs p = turn_of xs one p
-in_turn_behind (Begin ∷ a) one xs p = in_turn_behind a one [] p
-in_turn_behind (Call m ∷ a) one xs p = in_turn_behind a one (xs ++ xid_of m) p.1
-in_turn_behind (Turn ∷ a) one xs p = in_turn_behind a one xs p
-in_turn_behind (Reply id m ∷ a) one xs p = in_turn_behind a one xs p.1
-in_turn_behind (Close ∷ a) one xs p = in_turn_behind a one xs p
-in_turn_behind (End ∷ a) one xs p = in_turn_behind a one xs p
-
-pub in_turn : (a : List Entry) (one : Entry) → AreFirst (a ++ one ∷ []) → IsInTurn (open_xids [] a) one
-in_turn a one f = in_turn_behind a one [] (paired (first_in_order (a ++ one ∷ []) f).run [] tt)
+pub last_paired : (a : List Entry) (one : Entry) → AreFirst (a ++ one ∷ []) → Paired (open_xids [] a) (one ∷ [])
+last_paired a one f = paired_behind a (one ∷ []) [] (paired (first_in_order (a ++ one ∷ []) f).run [] tt)
 
 -- ---- bytes
 
@@ -105,10 +90,6 @@ bytes_with : (l m : List Entry) → are_some l ≡ true → bytes_of (l ++ m) �
 bytes_with [] m some = absurd cc
 bytes_with (e ∷ l) m some =
     ap (λ (b : List ℕ). magic One ++ b) (flat_map-append entry_bytes (e ∷ l) m) ∙ sym (append_assoc (magic One) (flat_map entry_bytes (e ∷ l)) (flat_map entry_bytes m))
-
--- the bytes of the entries behind
-abbrev pub bytes_behind : (a b : List Entry) → List ℕ
-bytes_behind a b = flat_map entry_bytes (entries_after (handles a) (verifiers a) (open_xids [] a) b)
 
 form_some : (e : Entry) (a b : List Entry) → AreFirst ((e ∷ a) ++ b) → bytes_of (canonical ((e ∷ a) ++ b)) ≡ bytes_of (canonical (e ∷ a)) ++ bytes_behind (e ∷ a) b
 form_some e a b f =

@@ -4,11 +4,11 @@ use Rattle.std.specs.List.{AllByRecursion, flat_map}
 use Rattle.xdr3.specs.Item.{Item, Spells, zero_spelling}
 use Rattle.capture3.specs.Bodies.{ReplyItems, xid_in}
 use Rattle.capture3.specs.Chunks.{max_bytes}
-use Rattle.capture3.specs.Entry.{Entry, Begin, Call, Turn, Reply, Close, End}
+use Rattle.capture3.specs.Entry.{Entry, Begin, Call, Turn, Reply, Close, End, items_of}
 use Rattle.capture3.specs.Laws.{spelled}
 use Rattle.capture3.specs.Typed.{IsIn, reply_entry, connection_entries, Typed}
 use Rattle.capture3.proofs.Limits.{typed_within}
-use Rattle.canon3.specs.Values.{items_of, handles_in, verifiers_in, xid_of}
+use Rattle.canon3.specs.Values.{handles_in, verifiers_in, xid_of}
 use Rattle.canon3.specs.Pairing.{Member, IsHandle, IsVerifier}
 use Rattle.canon3.proofs.Order.{BeginsWithXid, IsAnswering, Between, InCalls, InReplies, Over, begin, call, turn, reply, close, end, Runs, stays, steps, IsWellFormed}
 use Rattle.canon3.proofs.Ranks.{member-append_cases}

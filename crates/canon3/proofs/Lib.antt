@@ -23,6 +23,7 @@ pub mod Files
 pub mod InOrder
 pub mod Closing
 pub mod First
+pub mod Laid
 pub mod Reaching
 pub mod Checks
 pub mod Ends
@@ -31,7 +32,6 @@ pub mod Written
 pub mod Tables
 pub mod Visiting
 pub mod Opening
-pub mod Entering
 pub mod Growing
 pub mod EntryWriterLemmas
 pub mod Rewritten

@@ -2,8 +2,8 @@
 use Rattle.std.proofs.Common.{◌≡◌, ◌≢◌, ℕ, ◌≤◌, ◌+◌, ◌↔◌, List, [], ◌∷◌, ◌++◌, length, take, drop, refl, sym, ap, ◌∙◌, subst, arith, append_assoc, length-append, take-append-drop, take-take}
 use Rattle.std.specs.List.{flat_map}
 use Rattle.std.proofs.lemmas.List.Concat.{flat_map-append}
-use Rattle.capture3.specs.Entry.{Entry}
-use Rattle.canon3.specs.Values.{handles_in, verifiers_in, items_of}
+use Rattle.capture3.specs.Entry.{Entry, items_of}
+use Rattle.canon3.specs.Values.{handles_in, verifiers_in}
 use Rattle.canon3.specs.Pairing.{Member}
 use Rattle.canon3.specs.Renaming.{Same}
 use Rattle.canon3.specs.Canonical.{canonical}

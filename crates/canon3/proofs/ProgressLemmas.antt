@@ -1,16 +1,16 @@
 -- How far the entries of a capture have come.
 use Rattle.std.proofs.Common.{◌≡◌, ◌⊎◌, inl, inr, ⊎_elim, ℕ, ◌+◌, List, [], ◌∷◌, ◌++◌, Option, None, Some, refl, sym, ap, ap₂, ◌∙◌, subst, arith}
-use Rattle.capture3.specs.declared.entry.Entry as kept
-use Rattle.capture3.specs.declared.entry.Entry.TheVariants as variants
 use Rattle.capture3.specs.declared.fault.Side.{Side}
 use Rattle.capture3.specs.declared.fault.Side.TheVariants.{Client, Server}
 use Rattle.capture3.specs.declared.fault.Place.{Place}
 use Rattle.capture3.specs.declared.fault.Place.TheVariants as places
 use Rattle.capture3.specs.Entry.{Entry, Begin, Call, Turn, Reply, Close, End}
-use Rattle.capture3.specs.Kept.{IsKept}
 use Rattle.canon3.specs.declared.progress.Progress.{Progress}
+use Rattle.capture3.specs.declared.entry.Kind.{Kind}
+use Rattle.capture3.specs.declared.entry.Kind.TheVariants as kinds
 use Rattle.canon3.specs.Parting.{connections, records_after, IsMessageOf, IsPlaceOf, first_message, second_message, first_ends, second_ends, next_record}
-use Rattle.canon3.specs.Progress.{HasPassed, keeps_side, place_from, side_in, progress_after}
+use Rattle.canon3.specs.Progress.{HasPassed, place_from, progress_after, side_in, side_of_kind}
+use Rattle.capture3.specs.Kept.{IsOfKind}
 
 -- ---- one entry more
 
@@ -39,21 +39,21 @@ module _ (progress : Progress) (entries : List Entry) (b : HasPassed progress en
     records_are = is ∙ (ap (λ n. records_after n (one ∷ [])) b.records_are ∙ sym (records-append 0 entries (one ∷ [])));
   }
 
-  pub behind_more : (entry : kept.Entry) (one : Entry) → IsKept entry one → HasPassed (progress_after progress entry) (entries ++ one ∷ [])
-  behind_more variants.Begin one is = rw is (behind_one (progress_after progress variants.Begin) Begin refl refl)
-  behind_more (variants.Call call) one (items, is_call, same, is) = rw is (behind_one (progress_after progress (variants.Call call)) (Call items) (omega arith) refl)
-  behind_more variants.Turn one is = rw is (behind_one (progress_after progress variants.Turn) Turn (omega arith) refl)
-  behind_more (variants.Reply reply) one (items, is_reply, is) = rw is (behind_one (progress_after progress (variants.Reply reply)) (Reply reply.id items) (omega arith) refl)
-  behind_more variants.Close one is = rw is (behind_one progress Close (omega arith) refl)
-  behind_more variants.End one is = rw is (behind_one progress End (omega arith) refl)
+  pub behind_more : (kind : Kind) (one : Entry) → IsOfKind kind one → HasPassed (progress_after progress kind) (entries ++ one ∷ [])
+  behind_more kinds.Begin one is = rw is (behind_one (progress_after progress kinds.Begin) Begin refl refl)
+  behind_more (kinds.Call id) one (items, asks, is) = rw is (behind_one (progress_after progress (kinds.Call id)) (Call items) (omega arith) refl)
+  behind_more kinds.Turn one is = rw is (behind_one (progress_after progress kinds.Turn) Turn (omega arith) refl)
+  behind_more (kinds.Reply id) one (items, is) = rw is (behind_one (progress_after progress (kinds.Reply id)) (Reply id items) (omega arith) refl)
+  behind_more kinds.Close one is = rw is (behind_one progress Close (omega arith) refl)
+  behind_more kinds.End one is = rw is (behind_one progress End (omega arith) refl)
 
-pub side_same : (entry : kept.Entry) (one : Entry) → IsKept entry one → keeps_side entry ≡ side_in one
-side_same variants.Begin one is = sym (ap side_in is)
-side_same (variants.Call call) one is = sym (ap side_in is.3)
-side_same variants.Turn one is = sym (ap side_in is)
-side_same (variants.Reply reply) one is = sym (ap side_in is.2)
-side_same variants.Close one is = sym (ap side_in is)
-side_same variants.End one is = sym (ap side_in is)
+pub side_same : (kind : Kind) (one : Entry) → IsOfKind kind one → side_of_kind kind ≡ side_in one
+side_same kinds.Begin one is = sym (ap side_in is)
+side_same (kinds.Call id) one is = sym (ap side_in is.2)
+side_same kinds.Turn one is = sym (ap side_in is)
+side_same (kinds.Reply id) one is = sym (ap side_in is.1)
+side_same kinds.Close one is = sym (ap side_in is)
+side_same kinds.End one is = sym (ap side_in is)
 
 -- ---- a place
 

@@ -1,6 +1,7 @@
 -- Each visit adds its item to the message that is written with numbers.
 use Rattle.std.proofs.Common.{◌≡◌, ◌≢◌, ℕ, ◌<◌, ◌≤◌, ◌^◌, List, [], ◌∷◌, ◌++◌, length, length-append, append_assoc, append-nil, refl, sym, ap, ap₂, ◌∙◌, subst, arith, min, Result, Ok, Err, ◌⊎◌, inl, inr, ⊎_elim, Bool, true}
-use Rattle.std.specs.Prelude.{bytes_eq, OnErr, OnOk, ◌==◌}
+use Rattle.std.specs.Prelude.{bytes_eq, nat_eq, OnErr, OnOk, ◌==◌}
+use Rattle.std.specs.Bool.{Decides}
 use Rattle.std.specs.List.{flat_map}
 use Rattle.std.proofs.lemmas.Grind.{flat_map-append}
 use Rattle.std.proofs.lemmas.Bool.Decides.{Decides-eqb}
@@ -48,7 +49,7 @@ listed-append (x ∷ xs) items more = ap (λ (l : List Item). Rest [] x ∷ l) (
 
 pub behind-append : (before : Before) (items more : List Item) → behind before (items ++ more) ≡ behind before items ++ more
 behind-append before items more =
-    ap (λ (l : List Item). Word [] before.number ∷ Rest [] before.xids ∷ l)
+    ap (λ (l : List Item). Rest [] before.xids ∷ l)
     (ap (listed before.handles) (listed-append before.verifiers items more) ∙ listed-append before.handles (listed before.verifiers items) more)
 
 listed-same : (xs ys : List (List ℕ)) (items more : List Item) → listed xs items ≡ listed ys more → (xs ≡ ys) × (items ≡ more)
@@ -64,14 +65,13 @@ listed-same (x ∷ xs) (y ∷ ys) items more e =
 -- the items in front tell all
 pub behind-same : (a b : Before) (items more : List Item) → behind a items ≡ behind b more → (a ≡ b) × (items ≡ more)
 behind-same a b items more e =
-    let number : a.number ≡ b.number = cc in
     let xids : a.xids ≡ b.xids = cc in
     let rest : listed a.handles (listed a.verifiers items) ≡ listed b.handles (listed b.verifiers more) = cc in
     let h = listed-same a.handles b.handles _ _ rest in
     let v = listed-same a.verifiers b.verifiers items more h.1 in
     let handles : a.handles ≡ b.handles = h.0 in
     let verifiers : a.verifiers ≡ b.verifiers = v.0 in
-    let same : a ≡ b = λ i. record { number = number i; xids = xids i; handles = handles i; verifiers = verifiers i } in
+    let same : a ≡ b = λ i. record { handles = handles i; verifiers = verifiers i; xids = xids i } in
     (same, v.1)
 
 -- ---- one more item
@@ -91,46 +91,29 @@ IsLater (Word name x) [] = ⊥
 IsLater (Word name x) (_ ∷ _) = Unit {0}
 IsLater _ _ = Unit {0}
 
-spelled_more : (stage : Stage) (old new : List ℕ) (before : Before) (items : List Item) (i j : Item) → IsLater i items
+spelled_more : (stage : Stage) (table old new : List ℕ) (before : Before) (items : List Item) (i j : Item) → IsLater i items
     → (AreFew (before.handles ++ handles_in (items ++ i ∷ [])) (before.verifiers ++ verifiers_in (items ++ i ∷ []))
     → j ≡ numbered_item ((before.handles ++ handles_in items) ++ handle_in i) ((before.verifiers ++ verifiers_in items) ++ verifier_in i) i)
     → ((l : List Item) → Spells old l → Spells new (l ++ j ∷ []))
-    → IsSpelled stage old before items → IsSpelled stage new before (items ++ i ∷ [])
-spelled_more stage old new before [] (Word name x) j later is write s = absurd later
-spelled_more stage old new before [] _ j later is write s = tt
-spelled_more stage old new before (Word name x ∷ items) i j later is write s = (
-  s.0,
-  λ few. write (Word name before.number ∷ items_after before.handles before.verifiers items) (s.1 (few_before before.handles before.verifiers items i few))
-      ∙ ap (λ (l : List Item). zero_spelling (Word name before.number ∷ l)) (ap (λ k. items_after before.handles before.verifiers items ++ k ∷ []) (is few) ∙ sym (items_after-push items before.handles before.verifiers i)),
-)
-spelled_more stage old new before (_ ∷ items) i j later is write s = tt
-
--- the bytes grow by no more than the item's own
-grown : (old new : List ℕ) (i j : Item) → length (zero_spelling_of j) ≤ length (zero_spelling_of i) → ((l : List Item) → Spells old l → Spells new (l ++ j ∷ []))
-    → (items : List Item) → length old ≤ length (zero_spelling items) → length new ≤ length (zero_spelling (items ++ i ∷ []))
-grown old new i j smaller write items h =
-    let whole : new ≡ zero_spelling (Rest [] old ∷ j ∷ []) = write (Rest [] old ∷ []) (sym (append-nil old)) in
-    let sum : zero_spelling (items ++ i ∷ []) ≡ zero_spelling items ++ zero_spelling (i ∷ []) = flat_map-append zero_spelling_of items (i ∷ []) in
-    omega (
-      arith,
-      ap length whole,
-      length-append old (zero_spelling_of j ++ []),
-      length-append (zero_spelling_of j) [],
-      ap length sum,
-      length-append (zero_spelling items) (zero_spelling (i ∷ [])),
-      length-append (zero_spelling_of i) [],
-      smaller,
-      h,
+    → IsSpelled stage table old before items → IsSpelled stage table new before (items ++ i ∷ [])
+spelled_more stage table old new before [] (Word name x) j later is write s = absurd later
+spelled_more stage table old new before [] _ j later is write s = tt
+spelled_more stage table old new before (Word name x ∷ items) i j later is write s =
+    let number = rank nat_eq x (before.xids ++ x ∷ []) in (
+      s.0,
+      s.1,
+      λ few fewer. write (Word name number ∷ items_after before.handles before.verifiers items) (s.2 (few_before before.handles before.verifiers items i few) fewer)
+          ∙ ap (λ (l : List Item). zero_spelling (Word name number ∷ l)) (ap (λ k. items_after before.handles before.verifiers items ++ k ∷ []) (is few) ∙ sym (items_after-push items before.handles before.verifiers i)),
     )
+spelled_more stage table old new before (_ ∷ items) i j later is write s = tt
 
 module _ {S H : Type 0} (old new : Numbering S H) (i : Item) where
   -- what a visit keeps, besides its writing
   pub record Follows : Type 0 where
-    pub xids : new.xids ≡ old.xids
     pub handles : (hs : List (List ℕ)) → HoldsHandles old.handles hs → HoldsHandles new.handles (hs ++ handle_in i)
     pub verifiers : (vs : List (List ℕ)) → StandsFor bytes_eq old.verfs vs → StandsFor bytes_eq new.verfs (vs ++ verifier_in i)
 
-  behind_by : Follows → ((before : Before) (items : List Item) → IsUnderWay old before items → IsSpelled new.stage new.writer before (items ++ i ∷ [])) → (all : List Item) → IsBehind old all → IsBehind new (all ++ i ∷ [])
+  behind_by : Follows → ((before : Before) (items : List Item) → IsUnderWay old before items → IsSpelled new.stage new.xids new.writer before (items ++ i ∷ [])) → (all : List Item) → IsBehind old all → IsBehind new (all ++ i ∷ [])
   behind_by f spells all b = record {
     before = b.before;
     items = b.items ++ i ∷ [];
@@ -138,38 +121,40 @@ module _ {S H : Type 0} (old new : Numbering S H) (i : Item) where
     under_way = record {
       handles = subst (HoldsHandles new.handles) (sym (values-push handle_in b.before.handles b.items i)) (f.handles (b.before.handles ++ handles_in b.items) b.under_way.handles);
       verifiers = subst (StandsFor bytes_eq new.verfs) (sym (values-push verifier_in b.before.verifiers b.items i)) (f.verifiers (b.before.verifiers ++ verifiers_in b.items) b.under_way.verifiers);
-      xids = f.xids ∙ b.under_way.xids;
       spelled = spells b.before b.items b.under_way;
     };
   }
 
   -- where each message's writing goes on, so does what the visitor stands for
-  pub adds_by : (j : Item) → Follows → length (zero_spelling_of j) ≤ length (zero_spelling_of i) → (new.stage ≢ Failed → old.stage ≢ Failed)
-      → ((before : Before) (items : List Item) → new.stage ≢ Failed → IsUnderWay old before items → IsSpelled new.stage new.writer before (items ++ i ∷ []))
-      → Adds Spells old.writer new.writer (j ∷ []) → Adds Stands old new (i ∷ [])
+  pub adds_by : Follows → (new.stage ≢ Failed → old.stage ≢ Failed)
+      → ((before : Before) (items : List Item) → new.stage ≢ Failed → IsUnderWay old before items → IsSpelled new.stage new.xids new.writer before (items ++ i ∷ []))
+      → Adds Stands old new (i ∷ [])
   unfolding Adds
-  adds_by j f smaller went spells write all stands going =
-      ⊎_elim
-      (λ b. inl (behind_by f (λ before items. spells before items going) all b))
-      (λ l. inr (record { items = l.items ++ i ∷ []; are = ap (λ (k : List Item). k ++ i ∷ []) l.are; size = grown old.writer new.writer i j smaller write l.items l.size }))
-      (stands (went going))
+  adds_by f went spells all stands going = behind_by f (λ before items. spells before items going) all (stands (went going))
 
   -- the item with its number is written
-  pub adds : (j : Item) → Follows → length (zero_spelling_of j) ≤ length (zero_spelling_of i) → new.stage ≡ old.stage
-      → ((before : Before) (items : List Item) → old.stage ≢ Failed → IsSpelled old.stage old.writer before items → IsLater i items)
+  pub adds : (j : Item) → Follows → new.stage ≡ old.stage → new.xids ≡ old.xids
+      → ((before : Before) (items : List Item) → old.stage ≢ Failed → IsSpelled old.stage old.xids old.writer before items → IsLater i items)
       → ((hs vs : List (List ℕ)) → HoldsHandles old.handles hs → StandsFor bytes_eq old.verfs vs → AreFew (hs ++ handle_in i) (vs ++ verifier_in i) → j ≡ numbered_item (hs ++ handle_in i) (vs ++ verifier_in i) i)
       → Adds Spells old.writer new.writer (j ∷ []) → Adds Stands old new (i ∷ [])
   unfolding Adds
-  adds j f smaller stage later is write =
-      adds_by j f smaller (λ going e. going (stage ∙ e)) (λ before items going u.
+  adds j f stage xids later is write =
+      adds_by f (λ going e. going (stage ∙ e)) (λ before items going u.
       let hs = before.handles ++ handles_in items in
       let vs = before.verifiers ++ verifiers_in items in
-      subst (λ s. IsSpelled s new.writer before (items ++ i ∷ [])) (sym stage)
-      (spelled_more old.stage old.writer new.writer before items i j (later before items (λ e. going (stage ∙ e)) u.spelled)
+      subst (λ s. IsSpelled s new.xids new.writer before (items ++ i ∷ [])) (sym stage)
+      (subst (λ (t : List ℕ). IsSpelled old.stage t new.writer before (items ++ i ∷ [])) (sym xids)
+      (spelled_more old.stage old.xids old.writer new.writer before items i j (later before items (λ e. going (stage ∙ e)) u.spelled)
       (λ few. is hs vs u.handles u.verifiers
       (subst (λ (l : List (List ℕ)). AreFew l (vs ++ verifier_in i)) (values-push handle_in before.handles items i)
       (subst (λ (l : List (List ℕ)). AreFew (before.handles ++ handles_in (items ++ i ∷ [])) l) (values-push verifier_in before.verifiers items i) few)))
-      write u.spelled)) write
+      write u.spelled)))
+
+-- a number of a table that is not full
+uncapped : {K : Type 0} (same : K → K → Bool) → ((x y : K) → Decides (same x y) (x ≡ y)) → (l : List K) (x : K) (n : ℕ) → length (l ++ x ∷ []) < 2 ^ 32 → n ≡ min (rank same x (l ++ x ∷ [])) number_limit → n ≡ rank same x (l ++ x ∷ [])
+uncapped same decides l x n few e =
+    let within : rank same x (l ++ x ∷ []) ≤ length (l ++ x ∷ []) = rank-le-length same decides (member-append_right l here) in
+    omega arith
 
 -- ---- items as they are
 
@@ -177,28 +162,27 @@ module _ {S H : Type 0} (n : Numbering S H) (bytes : List ℕ) where
   abbrev pub with_writer : Numbering S H
   with_writer = record { handles = n.handles; verfs = n.verfs; xids = n.xids; writer = bytes; stage = n.stage }
 
-  follows_plain : (i : Item) (stage : Stage) → IsPlain i → Follows n (record { handles = n.handles; verfs = n.verfs; xids = n.xids; writer = bytes; stage = stage }) i
-  follows_plain i stage plain = record {
-    xids = refl;
+  follows_plain : (i : Item) (table : List ℕ) (stage : Stage) → IsPlain i → Follows n (record { handles = n.handles; verfs = n.verfs; xids = table; writer = bytes; stage = stage }) i
+  follows_plain i table stage plain = record {
     handles = λ hs h. subst (HoldsHandles n.handles) (ap (λ (l : List (List ℕ)). hs ++ l) (sym (plain_handle i plain))) (subst (HoldsHandles n.handles) (sym (append-nil hs)) h);
     verifiers = λ vs h. subst (StandsFor bytes_eq n.verfs) (ap (λ (l : List (List ℕ)). vs ++ l) (sym (plain_verifier i plain))) (subst (StandsFor bytes_eq n.verfs) (sym (append-nil vs)) h);
   }
 
-  pub adds_plain : (i : Item) → IsPlain i → ((before : Before) (items : List Item) → n.stage ≢ Failed → IsSpelled n.stage n.writer before items → IsLater i items)
+  pub adds_plain : (i : Item) → IsPlain i → ((before : Before) (items : List Item) → n.stage ≢ Failed → IsSpelled n.stage n.xids n.writer before items → IsLater i items)
       → Adds Spells n.writer bytes (i ∷ []) → Adds Stands n with_writer (i ∷ [])
   adds_plain i plain later =
-      adds n with_writer i i (follows_plain i n.stage plain) (omega arith) refl later (λ hs vs h g few. sym (plain_numbered (hs ++ handle_in i) (vs ++ verifier_in i) i plain))
+      adds n with_writer i i (follows_plain i n.xids n.stage plain) refl refl later (λ hs vs h g few. sym (plain_numbered (hs ++ handle_in i) (vs ++ verifier_in i) i plain))
 
-  pub behind_xid : (n.stage ≡ Goes) ⊎ (n.stage ≡ Failed) → (number : ℕ) → n.stage ≢ Begins number
-  behind_xid (inl e) number b = absurd cc
-  behind_xid (inr e) number b = absurd cc
+  pub behind_xid : (n.stage ≡ Goes) ⊎ (n.stage ≡ Failed) → n.stage ≢ Begins
+  behind_xid (inl e) b = absurd cc
+  behind_xid (inr e) b = absurd cc
 
   -- a word behind the xid
-  pub adds_word : (name : List ℕ) (x : ℕ) → ((number : ℕ) → n.stage ≢ Begins number) → Adds Spells n.writer bytes (Word name x ∷ []) → Adds Stands n with_writer (Word name x ∷ [])
+  pub adds_word : (name : List ℕ) (x : ℕ) → n.stage ≢ Begins → Adds Spells n.writer bytes (Word name x ∷ []) → Adds Stands n with_writer (Word name x ∷ [])
   adds_word name x goes = adds_plain (Word name x) tt (λ before items going spelled. is_later before items spelled)
     where
-      is_later : (before : Before) (items : List Item) → IsSpelled n.stage n.writer before items → IsLater (Word name x) items
-      is_later before [] s = absurd (goes before.number s.0)
+      is_later : (before : Before) (items : List Item) → IsSpelled n.stage n.xids n.writer before items → IsLater (Word name x) items
+      is_later before [] s = absurd (goes s.0)
       is_later before (i ∷ items) s = tt
 
   -- the empty handle stays
@@ -206,50 +190,46 @@ module _ {S H : Type 0} (n : Numbering S H) (bytes : List ℕ) where
   adds_empty_handle name [] none = adds_plain (Opaque Handle name []) tt (λ before items going spelled. tt)
   adds_empty_handle name (b ∷ bs) none = absurd cc
 
-  xid_spelled : (name : List ℕ) (x number : ℕ) (before : Before) (items : List Item) → n.stage ≡ Begins number → ((l : List Item) → Spells n.writer l → Spells bytes (l ++ Word name number ∷ []))
-      → IsSpelled n.stage n.writer before items → IsSpelled Goes bytes before (items ++ Word name x ∷ [])
-  xid_spelled name x number before [] begins write s =
-      let same : number ≡ before.number = cc in
-      (refl, λ few. write [] s.1 ∙ ap (λ k. zero_spelling (Word name k ∷ [])) same)
-  xid_spelled name x number before (Word other y ∷ items) begins write s =
+  xid_spelled : (table : List ℕ) (name : List ℕ) (x number : ℕ) (before : Before) (items : List Item) → n.stage ≡ Begins
+      → ((given : List ℕ) → StandsFor nat_eq n.xids given → number ≡ min (rank nat_eq x (given ++ x ∷ [])) number_limit)
+      → ((given : List ℕ) → StandsFor nat_eq n.xids given → StandsFor nat_eq table (given ++ x ∷ []))
+      → ((l : List Item) → Spells n.writer l → Spells bytes (l ++ Word name number ∷ []))
+      → IsSpelled n.stage n.xids n.writer before items → IsSpelled Goes table bytes before (items ++ Word name x ∷ [])
+  xid_spelled table name x number before [] begins is given write s = (
+    refl,
+    given before.xids s.1,
+    λ few fewer. write [] s.2 ∙ ap (λ k. zero_spelling (Word name k ∷ [])) (uncapped nat_eq Decides-eqb before.xids x number fewer (is before.xids s.1)),
+  )
+  xid_spelled table name x number before (Word other y ∷ items) begins is given write s =
       let stage : n.stage ≡ Goes = s.0 in
       absurd cc
-  xid_spelled name x number before (_ ∷ items) begins write s = tt
+  xid_spelled table name x number before (_ ∷ items) begins is given write s = tt
 
   -- the xid's number in place of the xid
-  pub adds_xid : (name : List ℕ) (x number : ℕ) → n.stage ≡ Begins number → Adds Spells n.writer bytes (Word name number ∷ [])
-      → Adds Stands n (record { handles = n.handles; verfs = n.verfs; xids = n.xids; writer = bytes; stage = Goes }) (Word name x ∷ [])
+  pub adds_xid : (table : List ℕ) (name : List ℕ) (x number : ℕ) → n.stage ≡ Begins
+      → ((given : List ℕ) → StandsFor nat_eq n.xids given → number ≡ min (rank nat_eq x (given ++ x ∷ [])) number_limit)
+      → ((given : List ℕ) → StandsFor nat_eq n.xids given → StandsFor nat_eq table (given ++ x ∷ []))
+      → Adds Spells n.writer bytes (Word name number ∷ [])
+      → Adds Stands n (record { handles = n.handles; verfs = n.verfs; xids = table; writer = bytes; stage = Goes }) (Word name x ∷ [])
   unfolding Adds
-  adds_xid name x number begins write =
-      adds_by n (record { handles = n.handles; verfs = n.verfs; xids = n.xids; writer = bytes; stage = Goes }) (Word name x) (Word name number) (follows_plain (Word name x) Goes tt) (omega (arith, length-bytes_high_first 4 number, length-bytes_high_first 4 x)) (λ going e. absurd cc) (λ before items going u. xid_spelled name x number before items begins write u.spelled) write
+  adds_xid table name x number begins is given write =
+      adds_by n (record { handles = n.handles; verfs = n.verfs; xids = table; writer = bytes; stage = Goes }) (Word name x) (follows_plain (Word name x) table Goes tt) (λ going e. absurd cc)
+      (λ before items going u. xid_spelled table name x number before items begins is given write u.spelled)
 
   -- the writer's bytes stay where it fails
   pub keeps_writer : Keeps Spells n.writer bytes → Keeps Stands n with_writer
   unfolding Keeps
   keeps_writer kept all stands going =
       let same : bytes ≡ n.writer = kept (Rest [] n.writer ∷ []) (sym (append-nil n.writer)) ∙ append-nil n.writer in
-      ⊎_elim
-      (λ b. inl (record {
+      let b = stands going in
+      record {
         before = b.before;
         items = b.items;
         are = b.are;
-        under_way = record { handles = b.under_way.handles; verifiers = b.under_way.verifiers; xids = b.under_way.xids; spelled = subst (λ k. IsSpelled n.stage k b.before b.items) (sym same) b.under_way.spelled };
-      }))
-      (λ l. inr (record { items = l.items; are = l.are; size = omega (arith, l.size, ap length same) }))
-      (stands going)
+        under_way = record { handles = b.under_way.handles; verifiers = b.under_way.verifiers; spelled = subst (λ (k : List ℕ). IsSpelled n.stage n.xids k b.before b.items) (sym same) b.under_way.spelled };
+      }
 
 -- ---- numbers in place of values
-
-uncapped : (l : List (List ℕ)) (x : List ℕ) (n : ℕ) → length (l ++ x ∷ []) < 2 ^ 32 → n ≡ min (rank bytes_eq x (l ++ x ∷ [])) number_limit → n ≡ rank bytes_eq x (l ++ x ∷ [])
-uncapped l x n few e =
-    let within : rank bytes_eq x (l ++ x ∷ []) ≤ length (l ++ x ∷ []) = rank-le-length bytes_eq bytes_eq-Decides (member-append_right l here) in
-    omega arith
-
-handle_smaller : (name handle written : List ℕ) (number : ℕ) → handle ≢ [] → written ≡ word_bytes number ++ [] → length (zero_spelling_of (Opaque Handle name written)) ≤ length (zero_spelling_of (Opaque Handle name handle))
-handle_smaller name [] written number some is = absurd (some refl)
-handle_smaller name (b ∷ bs) written number some is =
-    let four : length written ≡ 4 = ap length (is ∙ append-nil (word_bytes number)) ∙ length-bytes_high_first 4 number in
-    omega (arith, length_of_opaque (b ∷ bs), length_of_opaque written, four)
 
 module _ {S H : Type 0} (n : Numbering S H) (bytes : List ℕ) where
   pub adds_handle : (table : List declared.Handle) (name handle written : List ℕ) (number : ℕ) → handle ≢ [] → written ≡ word_bytes number ++ []
@@ -260,20 +240,18 @@ module _ {S H : Type 0} (n : Numbering S H) (bytes : List ℕ) where
   adds_handle table name [] written number some is_written is given = absurd (some refl)
   adds_handle table name (b ∷ bs) written number some is_written is given =
       adds n (record { handles = table; verfs = n.verfs; xids = n.xids; writer = bytes; stage = n.stage }) (Opaque Handle name (b ∷ bs)) (Opaque Handle name written)
-      (record { xids = refl; handles = given; verifiers = λ vs h. subst (StandsFor bytes_eq n.verfs) (sym (append-nil vs)) h })
-      (handle_smaller name (b ∷ bs) written number some is_written) refl (λ before items going spelled. tt)
-      (λ hs vs h g few. ap (Opaque Handle name) (is_written ∙ append-nil (word_bytes number) ∙ ap word_bytes (uncapped hs (b ∷ bs) number few.0 (is hs h))))
+      (record { handles = given; verifiers = λ vs h. subst (StandsFor bytes_eq n.verfs) (sym (append-nil vs)) h }) refl refl (λ before items going spelled. tt)
+      (λ hs vs h g few. ap (Opaque Handle name) (is_written ∙ append-nil (word_bytes number) ∙ ap word_bytes (uncapped bytes_eq bytes_eq-Decides hs (b ∷ bs) number few.0 (is hs h))))
 
-  pub adds_verifier : (table : List (List ℕ)) (name verifier written : List ℕ) (number : ℕ) → length verifier ≡ 8 → written ≡ big_bytes 8 number ++ []
+  pub adds_verifier : (table : List (List ℕ)) (name verifier written : List ℕ) (number : ℕ) → written ≡ big_bytes 8 number ++ []
       → ((vs : List (List ℕ)) → StandsFor bytes_eq n.verfs vs → number ≡ min (rank bytes_eq verifier (vs ++ verifier ∷ [])) number_limit)
       → ((vs : List (List ℕ)) → StandsFor bytes_eq n.verfs vs → StandsFor bytes_eq table (vs ++ verifier ∷ []))
       → Adds Spells n.writer bytes (WriteVerf name written ∷ [])
       → Adds Stands n (record { handles = n.handles; verfs = table; xids = n.xids; writer = bytes; stage = n.stage }) (WriteVerf name verifier ∷ [])
-  adds_verifier table name verifier written number eight is_written is given =
+  adds_verifier table name verifier written number is_written is given =
       adds n (record { handles = n.handles; verfs = table; xids = n.xids; writer = bytes; stage = n.stage }) (WriteVerf name verifier) (WriteVerf name written)
-      (record { xids = refl; handles = λ hs h. subst (HoldsHandles n.handles) (sym (append-nil hs)) h; verifiers = given })
-      (omega (arith, ap length (is_written ∙ append-nil (big_bytes 8 number)), length-bytes_high_first 8 number)) refl (λ before items going spelled. tt)
-      (λ hs vs h g few. ap (WriteVerf name) (is_written ∙ append-nil (big_bytes 8 number) ∙ ap (big_bytes 8) (uncapped vs verifier number few.1 (is vs g))))
+      (record { handles = λ hs h. subst (HoldsHandles n.handles) (sym (append-nil hs)) h; verifiers = given }) refl refl (λ before items going spelled. tt)
+      (λ hs vs h g few. ap (WriteVerf name) (is_written ∙ append-nil (big_bytes 8 number) ∙ ap (big_bytes 8) (uncapped bytes_eq bytes_eq-Decides vs verifier number few.1 (is vs g))))
 
 -- ---- after errors
 

@@ -3,6 +3,7 @@ use Rattle.std.specs.Prelude.{◌≡◌, ◌≢◌, ℕ, ◌+◌, ◌-◌, ◌^�
 use Rattle.std.specs.Io.KnownBytes.{Consumes}
 use Rattle.std.specs.declared.hash.BuildHasher as BuildHasher
 use Rattle.std.specs.declared.hash.Hasher as Hasher
+use Rattle.xdr3.specs.Item.{Item}
 use Rattle.capture3.specs.declared.entries.Entries.{Entries}
 use Rattle.capture3.specs.declared.fault.Error.{Error}
 use Rattle.capture3.specs.declared.fault.Error.TheVariants as errors
@@ -21,12 +22,10 @@ use Rattle.canon3.specs.declared.verdict.Which.{Which}
 use Rattle.canon3.specs.declared.verdict.Which.TheVariants.{First, Second}
 use Rattle.canon3.specs.Bytes.{bytes_of}
 use Rattle.canon3.specs.Canonical.{canonical}
-use Rattle.canon3.specs.Following.{open_xids}
-use Rattle.canon3.specs.Numbered.{Holds}
+use Rattle.canon3.specs.Numbered.{behind, Stands, values_of}
 use Rattle.canon3.specs.Parting.{IsPlaceOf, Parting}
 use Rattle.canon3.specs.Renaming.{Same}
 use Rattle.canon3.specs.Progress.{HasPassed}
-use Rattle.canon3.specs.Values.{handles, verifiers}
 
 -- The fault is the first of the first file, or of the second where the first is well formed. No other error says anything of them.
 abbrev pub Stops : (file other : List ℕ) → Error → Which → Type 0
@@ -69,12 +68,16 @@ pub record PartWith (a b : List Entry) (e f : Entry) (place : Place) : Type 0 wh
   pub differ : bytes_of (canonical (a ++ e ∷ [])) ≢ bytes_of (canonical (b ++ f ∷ []))
   pub place_is : IsPlaceOf a (Some e) (Some f) place
 
--- these were compared, and their values are held
-pub record IsCompared {S H : Type 0} (comparison : Comparison S H) (a b : List Entry) : Type 0 where
+-- these were compared, and the numberings stand for their values, and for these items of the next two messages
+pub record IsTold {S H : Type 0} (comparison : Comparison S H) (a b : List Entry) (items others : List Item) : Type 0 where
   pub agree : Agree a b
-  pub first : Holds comparison.first (handles a) (verifiers a) (open_xids [] a)
-  pub second : Holds comparison.second (handles b) (verifiers b) (open_xids [] b)
+  pub first : Stands comparison.first (behind (values_of a) items)
+  pub second : Stands comparison.second (behind (values_of b) others)
   pub progress : HasPassed comparison.progress a
+
+-- these were compared
+abbrev pub IsCompared : {S H : Type 0} → Comparison S H → (a b : List Entry) → Type 0
+IsCompared comparison a b = IsTold comparison a b [] []
 
 abbrev pub Compares : {S H : Type 0} → Comparison S H → (a b : List Entry) (e f : Entry) → Option Place → Type 0
 Compares comparison a b e f None = IsCompared comparison (a ++ e ∷ []) (b ++ f ∷ [])

@@ -17,5 +17,6 @@ pub mod Writing
 pub mod EntryWriter
 pub mod Rewriting
 pub mod Progress
+pub mod Passed
 pub mod Spelling
 pub mod Comparison

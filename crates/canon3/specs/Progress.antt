@@ -1,13 +1,13 @@
 -- How far the entries of a capture have come, and where the next ones differ.
 use Rattle.std.specs.Prelude.{◌≡◌, ℕ, ◌+◌, List, Option, None, Some}
-use Rattle.capture3.specs.declared.entry.Entry as kept
-use Rattle.capture3.specs.declared.entry.Entry.TheVariants as variants
 use Rattle.capture3.specs.declared.fault.Side.{Side}
 use Rattle.capture3.specs.declared.fault.Side.TheVariants.{Client, Server}
 use Rattle.capture3.specs.declared.fault.Place.{Place}
 use Rattle.capture3.specs.declared.fault.Place.TheVariants as places
 use Rattle.capture3.specs.Entry.{Entry, Call, Reply}
 use Rattle.canon3.specs.declared.progress.Progress.{Progress}
+use Rattle.capture3.specs.declared.entry.Kind.{Kind}
+use Rattle.capture3.specs.declared.entry.Kind.TheVariants as kinds
 use Rattle.canon3.specs.Parting.{connections, records_after}
 
 -- behind these entries
@@ -20,19 +20,19 @@ abbrev pub steps_of : Progress → ℕ
 steps_of progress = progress.connections + progress.records
 
 -- one entry more
-abbrev pub progress_after : Progress → kept.Entry → Progress
-progress_after progress variants.Begin = record { connections = progress.connections + 1; records = 0 }
-progress_after progress (variants.Call call) = record { connections = progress.connections; records = progress.records + 1 }
-progress_after progress variants.Turn = record { connections = progress.connections; records = 0 }
-progress_after progress (variants.Reply reply) = record { connections = progress.connections; records = progress.records + 1 }
-progress_after progress variants.Close = progress
-progress_after progress variants.End = progress
+abbrev pub progress_after : Progress → Kind → Progress
+progress_after progress kinds.Begin = record { connections = progress.connections + 1; records = 0 }
+progress_after progress (kinds.Call id) = record { connections = progress.connections; records = progress.records + 1 }
+progress_after progress kinds.Turn = record { connections = progress.connections; records = 0 }
+progress_after progress (kinds.Reply id) = record { connections = progress.connections; records = progress.records + 1 }
+progress_after progress kinds.Close = progress
+progress_after progress kinds.End = progress
 
 -- whose message it is
-abbrev pub keeps_side : kept.Entry → Option Side
-keeps_side (variants.Call call) = Some Client
-keeps_side (variants.Reply reply) = Some Server
-keeps_side _ = None
+abbrev pub side_of_kind : Kind → Option Side
+side_of_kind (kinds.Call id) = Some Client
+side_of_kind (kinds.Reply id) = Some Server
+side_of_kind _ = None
 
 abbrev pub side_in : Entry → Option Side
 side_in (Call items) = Some Client

@@ -1,17 +1,18 @@
 -- What is written of a capture's canonical form while it is read.
-use Rattle.std.specs.Prelude.{◌≡◌, ℕ, Bool, true, false, Option, List, [], ◌∷◌, Result}
+use Rattle.std.specs.Prelude.{ℕ, ◌==◌, Bool, true, false, if◌then◌else◌, Option, List, [], ◌∷◌, ◌++◌, Result, Ok, Err}
+use Rattle.std.specs.Io.KnownBytes.{Appends}
+use Rattle.xdr3.specs.Item.{Item}
 use Rattle.capture3.specs.declared.fault.Error.{Error}
 use Rattle.capture3.specs.Capture.{One, magic}
 use Rattle.capture3.specs.Entry.{Entry}
-use Rattle.canon3.specs.declared.rewriting.Rewriting.{Rewriting}
+use Rattle.canon3.specs.declared.numbered.Numbering.{Numbering}
 use Rattle.canon3.specs.declared.summary.Summary.{Summary}
 use Rattle.canon3.specs.Bytes.{bytes_of}
 use Rattle.canon3.specs.Canonical.{canonical}
 use Rattle.canon3.specs.EntryWriter.{WritesGiven}
-use Rattle.canon3.specs.Following.{open_xids}
-use Rattle.canon3.specs.Numbered.{Holds}
-use Rattle.canon3.specs.Summing.{AreCounted, total}
-use Rattle.canon3.specs.Values.{handles, verifiers}
+use Rattle.canon3.specs.Numbered.{behind, IsGoing, Stands, values_of}
+use Rattle.canon3.specs.Spelling.{bytes_behind}
+use Rattle.canon3.specs.Written.{AppendsFront}
 
 -- the bytes of the canonical form
 abbrev pub canonical_bytes : List Entry → List ℕ
@@ -23,6 +24,10 @@ RewritesGiven before left old new result = WritesGiven canonical_bytes before le
 
 -- ---- within the crate
 
+-- the values of the entries so far, in front of the next message
+abbrev pub values_before : List Entry → List Item
+values_before entries = behind (values_of entries) []
+
 abbrev pub are_some : List Entry → Bool
 are_some [] = false
 are_some (entry ∷ entries) = true
@@ -31,12 +36,11 @@ abbrev pub magic_unless : Bool → List ℕ
 magic_unless true = []
 magic_unless false = magic One
 
--- these entries were counted, their values are held, and the magic was written where there are some
-pub record IsRewriting {S H : Type 0} (rewriting : Rewriting S H) (entries : List Entry) : Type 0 where
-  pub counted : AreCounted rewriting.counts entries
-  pub holds : Holds rewriting.numbering (handles entries) (verifiers entries) (open_xids [] entries)
-  pub opened : rewriting.opened ≡ are_some entries
+-- the magic stands before the first connection, and before the end where there is none
+abbrev pub magic_before : (connections : ℕ) → List ℕ
+magic_before connections = if connections == 0 then magic One else []
 
--- no more than one for each entry
-abbrev pub rewriting_steps : {S H : Type 0} → Rewriting S H → ℕ
-rewriting_steps rewriting = total rewriting.counts
+-- the entry's values are held behind those before it, and its bytes in the canonical form are written, or a front of them
+abbrev pub Follows : {S H : Type 0} → Numbering S H → (old new : Option (List ℕ)) → List Entry → Entry → {X : Type 0} → Result X Error → Type 0
+Follows n old new entries one (Ok x) = IsGoing n × Stands n (values_before (entries ++ one ∷ [])) × Appends old new (bytes_behind entries (one ∷ []))
+Follows n old new entries one (Err error) = AppendsFront old new (bytes_behind entries (one ∷ []))

@@ -5,19 +5,19 @@ use Rattle.std.specs.List.{flat_map}
 use Rattle.std.specs.declared.hash.BuildHasher as BuildHasher
 use Rattle.std.specs.declared.hash.Hasher as Hasher
 use Rattle.xdr3.specs.Item.{Item}
-use Rattle.capture3.specs.declared.entry.Entry as kept
-use Rattle.capture3.specs.declared.entry.Entry.TheVariants as variants
 use Rattle.capture3.specs.declared.fault.Error.{Error}
 use Rattle.capture3.specs.declared.entries.Entries.{Entries}
 use Rattle.capture3.specs.Entries.{IsMetBy, StandsFor}
-use Rattle.capture3.specs.Entry.{Entry, Begin, Call, Reply}
+use Rattle.capture3.specs.Entry.{Entry, Begin, Call, Reply, items_of}
 use Rattle.capture3.specs.Typed.{Typed}
 use Rattle.canon3.specs.declared.summary.Counts.{Counts}
 use Rattle.canon3.specs.declared.summary.Summary.{Summary}
 use Rattle.canon3.specs.declared.summary.Tally.{Tally}
+use Rattle.capture3.specs.declared.entry.Kind.{Kind}
+use Rattle.capture3.specs.declared.entry.Kind.TheVariants as kinds
 use Rattle.canon3.specs.Gathering.{Gathers}
 use Rattle.canon3.specs.Rank.{distinct, number_limit}
-use Rattle.canon3.specs.Values.{handles, handles_in, items_of}
+use Rattle.canon3.specs.Values.{handles}
 
 abbrev pub is_begin : Entry → Bool
 is_begin Begin = true
@@ -46,17 +46,17 @@ pub record IsSummary (bytes : List ℕ) (summary : Summary) : Type 0 where
 abbrev pub all_items : List Entry → List Item
 all_items entries = flat_map items_of entries
 
-abbrev pub keeps_begin : kept.Entry → Bool
-keeps_begin variants.Begin = true
-keeps_begin _ = false
+abbrev pub begins : Kind → Bool
+begins kinds.Begin = true
+begins _ = false
 
-abbrev pub keeps_call : kept.Entry → Bool
-keeps_call (variants.Call call) = true
-keeps_call _ = false
+abbrev pub calls : Kind → Bool
+calls (kinds.Call id) = true
+calls _ = false
 
-abbrev pub keeps_reply : kept.Entry → Bool
-keeps_reply (variants.Reply reply) = true
-keeps_reply _ = false
+abbrev pub replies : Kind → Bool
+replies (kinds.Reply id) = true
+replies _ = false
 
 abbrev pub total : Counts → ℕ
 total counts = counts.connections + counts.calls + counts.replies
@@ -77,7 +77,7 @@ pub record Sums (summary : Summary) (entries : List Entry) : Type 0 where
   pub connections : summary.connections ≡ count_by is_begin entries
   pub calls : summary.calls ≡ count_by is_call entries
   pub replies : summary.replies ≡ count_by is_reply entries
-  pub handles : summary.handles ≡ min (length (distinct bytes_eq (handles_in (all_items entries)))) number_limit
+  pub handles : summary.handles ≡ min (length (distinct bytes_eq (handles entries))) number_limit
 
 -- the bytes met an error
 pub record HasFailed {R S H : Type 0} {builds : BuildHasher.Ghosts S H} {hashes : Hasher.Ghosts H} (left : R → Option (List ℕ)) (first : Option (List ℕ)) (reader : Entries R S H builds hashes) (error : Error) : Type 0 where

@@ -2,7 +2,7 @@
 use Rattle.std.specs.Prelude.{ℕ, List, [], ◌∷◌, ◌++◌}
 use Rattle.std.specs.List.{flat_map}
 use Rattle.xdr3.specs.Item.{Item, Word, Opaque, Handle, WriteVerf}
-use Rattle.capture3.specs.Entry.{Entry, Begin, Call, Turn, Reply, Close, End}
+use Rattle.capture3.specs.Entry.{Entry, Begin, Call, Turn, Reply, Close, End, items_of}
 
 -- the handle of an item, where it has one that is not empty (RFC 1813, section 2.5)
 abbrev pub handle_in : Item → List (List ℕ)
@@ -26,12 +26,6 @@ verifiers_in items = flat_map verifier_in items
 abbrev pub xid_of : List Item → List ℕ
 xid_of (Word name x ∷ items) = x ∷ []
 xid_of _ = []
-
--- the items of an entry that is a message
-abbrev pub items_of : Entry → List Item
-items_of (Call items) = items
-items_of (Reply id items) = items
-items_of _ = []
 
 -- all handles that are not empty, in order
 abbrev pub handles : List Entry → List (List ℕ)

@@ -3,17 +3,18 @@
 ghost use Rattle.std.specs.Prelude.{◌≡◌, ◌≢◌, ◌<◌, ◌≤◌, ◌+◌, ◌^◌, ◌++◌, ◌∷◌, ℕ, List, [], length, None, Some, IfErr, IfOk, IsTrue, OnOk};
 ghost use Rattle.capture3.specs.Entries.{CountsReading, entries_left, failure_of, StandsFor};
 ghost use Rattle.capture3.specs.Entry as spec;
-ghost use Rattle.capture3.specs.Kept.{IsKept};
 ghost use Rattle.capture3.specs.Position.{most_entries};
-ghost use Rattle.canon3.specs.Comparison.{Compares, CountsReadingOf, Decides, FindsOut, HasGiven, HasGivenOn, IsCompared, IsFound, IsReadAfter, IsReadOut, IsUnderWay, Meets, met_second, ReadsOn, refusal_in, StepsOn};
+ghost use Rattle.canon3.specs.Comparison.{Compares, CountsReadingOf, Decides, FindsOut, HasGiven, HasGivenOn, IsCompared, IsFound, IsReadAfter, IsReadOut, IsTold, IsUnderWay, Meets, met_second, ReadsOn, refusal_in, StepsOn};
 ghost use Rattle.canon3.specs.Laws.{AreFirst};
 ghost use Rattle.canon3.specs.Progress.{steps_of};
+ghost use Rattle.capture3.specs.Kept.{IsOfKind};
+ghost use Rattle.capture3.specs.Entry.{items_of};
 
 use crate::numbered::Numbering;
 use crate::progress::Progress;
-use crate::spelling::{are_alike, number_entry};
+use crate::spelling::{are_alike, spelling_of_entry};
 use crate::verdict::{SameError, Verdict, Which};
-use capture3::{Entries, Entry, Error, Fault, Hashers, Place, Source, new_block};
+use capture3::{Entries, Error, Fault, Hashers, Kind, Place, Silent, Source, new_block};
 use std::alloc::Global;
 use std::hash::BuildHasher;
 
@@ -208,7 +209,7 @@ fn read_next<R: Source, S: BuildHasher + Drop>(
     ensures write { IfErr result (λ error. error ≢ Error.Write) }
     ensures same_reference { entries.new.source.ghost_name ≡ entries.old.source.ghost_name }
 {
-    match entries.next() {
+    match entries.next(&mut Silent) {
         Ok(Some(_)) => Ok(true),
         Ok(None) => Ok(false),
         Err(error) => Err(error),
@@ -283,8 +284,8 @@ impl<S: BuildHasher + Drop> Comparison<S> {
         ensures same_first { first.new.source.ghost_name ≡ first.old.source.ghost_name }
         ensures same_second { second.new.source.ghost_name ≡ second.old.source.ghost_name }
     {
-        match first.next() {
-            Ok(Some(entry)) => self.meet(&entry, second),
+        match first.next(&mut self.first) {
+            Ok(Some(kind)) => self.meet(kind, second),
             Ok(None) => Ok(Some(Finding::Ended)),
             Err(error) => Err(SameError {
                 which: Which::First,
@@ -293,17 +294,17 @@ impl<S: BuildHasher + Drop> Comparison<S> {
         }
     }
 
-    /// Takes the second's entry beside the first's.
+    /// Takes the second's entry beside the first's, whose items were told.
     fn meet<B: Source>(
         &mut self,
-        entry: &Entry,
+        kind: Kind,
         second: &mut Entries<'_, B, S>,
     ) -> Result<Option<Finding>, SameError>
         requires going { failure_of second.old ≡ None }
         requires room { steps_of self.old.progress + 1 < 2 ^ 32 }
         ensures meets { (file other : List ℕ) (a b : List spec.Entry) (e : spec.Entry)
-            → IsKept entry.now e → AreFirst (a ++ e ∷ []) → length (a ++ e ∷ []) < 2 ^ 32
-            → IsCompared self.old a b → HasGiven B.left other second.old b
+            → IsOfKind kind e → AreFirst (a ++ e ∷ []) → length (a ++ e ∷ []) < 2 ^ 32
+            → IsTold self.old a b (items_of e) [] → HasGiven B.left other second.old b
             → Meets B.left file other second.new self.new a b e result }
         ensures going { IfOk result (λ next. failure_of second.new ≡ refusal_in next) }
         ensures few { steps_of self.new.progress ≤ steps_of self.old.progress + 1 }
@@ -313,8 +314,8 @@ impl<S: BuildHasher + Drop> Comparison<S> {
         ensures write { IfErr result (λ error. error.error ≢ Error.Write) }
         ensures same_reference { second.new.source.ghost_name ≡ second.old.source.ghost_name }
     {
-        match second.next() {
-            Ok(Some(other)) => match self.compare(entry, &other) {
+        match second.next(&mut self.second) {
+            Ok(Some(other)) => match self.compare(kind, other) {
                 Ok(None) => Ok(None),
                 Ok(Some(place)) => Ok(Some(Finding::Parted(place))),
                 Err(error) => Err(error),
@@ -324,30 +325,34 @@ impl<S: BuildHasher + Drop> Comparison<S> {
         }
     }
 
-    /// Numbers an entry of each, and compares what they are written as. None stands for a pair that is alike.
-    fn compare(&mut self, entry: &Entry, other: &Entry) -> Result<Option<Place>, SameError>
+    /// Compares what two entries are written as, whose items were told. None stands for a pair that is
+    /// alike.
+    fn compare(&mut self, kind: Kind, other: Kind) -> Result<Option<Place>, SameError>
         requires room { steps_of self.old.progress + 1 < 2 ^ 32 }
-        ensures compares { (a b : List spec.Entry) (e f : spec.Entry) → IsKept entry.now e
-            → IsKept other.now f → AreFirst (a ++ e ∷ []) → AreFirst (b ++ f ∷ [])
+        ensures compares { (a b : List spec.Entry) (e f : spec.Entry) → IsOfKind kind e
+            → IsOfKind other f → AreFirst (a ++ e ∷ []) → AreFirst (b ++ f ∷ [])
             → length (a ++ e ∷ []) < 2 ^ 32 → length (b ++ f ∷ []) < 2 ^ 32
-            → IsCompared self.old a b → IfOk result (Compares self.new a b e f) }
+            → IsTold self.old a b (items_of e) (items_of f)
+            → IfOk result (Compares self.new a b e f) }
         ensures few { steps_of self.new.progress ≤ steps_of self.old.progress + 1 }
         ensures memory { IfErr result (λ error. error.error ≡ Error.Memory) }
     {
-        let form = match number_entry(&mut self.first, entry) {
+        let form = match spelling_of_entry(&mut self.first, kind) {
             Ok(form) => form,
             Err(_) => return Err(wanting(Which::First)),
         };
-        let other_form = match number_entry(&mut self.second, other) {
+        let other_form = match spelling_of_entry(&mut self.second, other) {
             Ok(form) => form,
             Err(_) => return Err(wanting(Which::Second)),
         };
         let message = self.first.writer.bytes();
         if are_alike(form, message, other_form, self.second.writer.bytes()) {
-            self.progress.pass(entry);
+            self.first.begin_message();
+            self.second.begin_message();
+            self.progress.pass(kind);
             return Ok(None);
         }
-        Ok(Some(self.progress.place(entry, other)))
+        Ok(Some(self.progress.place(kind, other)))
     }
 }
 

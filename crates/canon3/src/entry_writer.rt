@@ -1,47 +1,53 @@
 // What is written of a capture while it is read, from a source to a sink.
 
-ghost use Rattle.std.specs.Prelude.{◌≡◌, ◌<◌, ◌≤◌, ◌+◌, ◌^◌, ◌++◌, ◌∷◌, ℕ, List, [], Option, None, IfErr, IfOk, IsTrue, OnOk};
+ghost use Rattle.std.specs.Prelude.{◌≡◌, ◌<◌, ◌≤◌, ◌+◌, ◌^◌, ◌++◌, ◌∷◌, ℕ, List, [], Option, None, bytes_eq, length, min, IfErr, IfOk, IsTrue, OnOk};
+ghost use Rattle.xdr3.specs.Item.{Item};
 ghost use Rattle.capture3.specs.Entries.{CountsReading, entries_left, failure_of, StandsFor};
 ghost use Rattle.capture3.specs.Entry as spec;
 ghost use Rattle.capture3.specs.Position.{most_entries};
-ghost use Rattle.canon3.specs.EntryWriter.{GoesOn, HasWritten, IsEnded, IsOver, IsUnderWay, KeepsPrefixes, WritesGiven, WritesOne};
-ghost use Rattle.canon3.specs.Summing.{Sums};
+ghost use Rattle.canon3.specs.EntryWriter.{GoesOn, HasWritten, IsEnded, IsOver, IsUnderWay, KeepsPrefixes, WritesGiven, WritesMore, WritesOne};
+ghost use Rattle.canon3.specs.Passed.{ArePassed, passed_steps};
+ghost use Rattle.canon3.specs.Rank.{distinct, number_limit};
+ghost use Rattle.canon3.specs.Values as values;
 ghost use Rattle.canon3.specs.Writing.{CountsWriting, IsOfWriting};
 
+use crate::passed::Passed;
 use crate::sink::Sink;
 use crate::summary::Summary;
-use capture3::{Entries, Entry, Error, Source, new_block};
+use capture3::{Entries, Error, Kind, Source, new_block};
 use std::alloc::Global;
 use std::hash::BuildHasher;
+use xdr3::Visit;
 
-/// A writer of a capture's entries, one after another, in some form.
-pub trait EntryWriter {
+/// A writer of a capture's entries, one after another, in some form. It is told the items of each entry
+/// while it is read, and then writes it.
+pub trait EntryWriter: Visit {
     /// The bytes that a list of entries is written as.
     ghost form: { List spec.Entry → List ℕ };
 
-    /// Holds of the entries that were written.
-    ghost stands: { Self → List spec.Entry → Type 0 };
+    /// The items that stand for the entries that were written, in front of those of the next one.
+    ghost before: { List spec.Entry → List Item };
 
-    /// A number that grows by at most one for each entry.
-    ghost steps: { Self → ℕ };
+    /// Holds of a writer that has not failed.
+    ghost going: { Self → Type 0 };
 
-    /// Writes what one entry more adds to the form.
+    /// Writes what the entry whose items were told adds to the form.
     ///
     /// # Errors
     ///
     /// `Write` where a write failed, and `Memory` where none was to be had: a front of the form is
     /// written, and nothing can follow.
-    fn write<W: Sink>(&mut self, sink: &mut W, entry: &Entry) -> Result<(), Error>
-        requires { steps self.old + 1 < 2 ^ 32 }
-        ensures few { steps self.new ≤ steps self.old + 1 }
-        ensures writes { WritesOne form stands self.old self.new (W.written sink.old)
-            (W.written sink.new) entry.now result }
+    fn write<W: Sink>(&mut self, passed: &Passed, sink: &mut W, kind: Kind) -> Result<(), Error>
+        requires { passed_steps passed.now + 1 < 2 ^ 32 }
+        ensures writes { WritesOne form before Self.stands going self.old self.new passed.now kind
+            (W.written sink.old) (W.written sink.new) result }
         ensures count { CountsWriting (W.failures sink.old) (W.failures sink.new) result }
         ensures error { IfErr result IsOfWriting };
 
-    /// What the entries were.
-    fn summary(&self) -> Summary
-        ensures { (entries : List spec.Entry) → stands self.now entries → Sums result entries };
+    /// How many distinct file handles that are not empty there were, at most 4,294,967,295.
+    fn handles(&self) -> u32
+        ensures { (entries : List spec.Entry) → going self.now → Self.stands self.now (before entries)
+            → result ≡ min (length (distinct bytes_eq (values.handles entries))) number_limit };
 }
 
 /// Reads a capture to its end, writes the form of its entries as they come, and flushes the sink. It
@@ -60,8 +66,8 @@ pub fn write_entries<R: Source, W: Sink, E: EntryWriter, S: BuildHasher + Drop>(
     sink: &mut W,
     writer: &mut E,
 ) -> Result<Summary, Error>
-    requires new { E.stands writer.old [] }
-    requires none { E.steps writer.old ≡ 0 }
+    requires new { E.stands writer.old (E.before []) }
+    requires well { E.going writer.old }
     requires empty { E.form [] ≡ [] }
     requires prefixes { KeepsPrefixes E.form }
     ensures writes { WritesGiven E.form (R.left source.old) (R.left source.new) (W.written sink.old)
@@ -85,8 +91,8 @@ fn write_new<R: Source, W: Sink, E: EntryWriter, S: BuildHasher + Drop>(
     sink: &mut W,
     writer: &mut E,
 ) -> Result<Summary, Error>
-    requires new { E.stands writer.old [] }
-    requires none { E.steps writer.old ≡ 0 }
+    requires new { E.stands writer.old (E.before []) }
+    requires well { E.going writer.old }
     requires empty { E.form [] ≡ [] }
     requires prefixes { KeepsPrefixes E.form }
     requires fresh { StandsFor R.left entries.old [] [] }
@@ -99,23 +105,28 @@ fn write_new<R: Source, W: Sink, E: EntryWriter, S: BuildHasher + Drop>(
     ensures write { CountsWriting (W.failures sink.old) (W.failures sink.new) result }
     ensures same_reference { entries.new.source.ghost_name ≡ entries.old.source.ghost_name }
 {
-    match write_rest(entries, sink, writer) {
-        Ok(()) => close(sink, writer),
+    let mut passed = Passed::new();
+    match write_rest(entries, &mut passed, sink, writer) {
+        Ok(()) => close(&passed, sink, writer),
         Err(error) => Err(error),
     }
 }
 
 /// Flushes the sink after the end.
-fn close<W: Sink, E: EntryWriter>(sink: &mut W, writer: &E) -> Result<Summary, Error>
+fn close<W: Sink, E: EntryWriter>(
+    passed: &Passed,
+    sink: &mut W,
+    writer: &E,
+) -> Result<Summary, Error>
     ensures writes { (first left old : Option (List ℕ)) (given : List ℕ) (entries : List spec.Entry)
         → IsEnded first left given entries
-        → HasWritten E.form E.stands writer.now old (W.written sink.old) entries
+        → HasWritten E.form E.before E.stands E.going writer.now passed.now old (W.written sink.old) entries
         → WritesGiven E.form first left old (W.written sink.new) result }
     ensures write { CountsWriting (W.failures sink.old) (W.failures sink.new) result }
     ensures error { IfErr result (λ error. error ≡ Error.Write) }
 {
     match sink.flush_all() {
-        Ok(()) => Ok(writer.summary()),
+        Ok(()) => Ok(passed.summary(writer.handles())),
         Err(_) => Err(Error::Write),
     }
 }
@@ -123,50 +134,55 @@ fn close<W: Sink, E: EntryWriter>(sink: &mut W, writer: &E) -> Result<Summary, E
 /// Writes all entries that are left.
 fn write_rest<R: Source, W: Sink, E: EntryWriter, S: BuildHasher + Drop>(
     entries: &mut Entries<'_, R, S>,
+    passed: &mut Passed,
     sink: &mut W,
     writer: &mut E,
 ) -> Result<(), Error>
     requires going { failure_of entries.old ≡ None }
     requires prefixes { KeepsPrefixes E.form }
-    requires room { E.steps writer.old + entries_left entries.old ≤ most_entries }
+    requires room { passed_steps passed.old + entries_left entries.old ≤ most_entries }
     ensures over { (first old : Option (List ℕ))
-        → IsUnderWay E.form E.stands R.left first old entries.old writer.old (W.written sink.old)
-        → IsOver E.form E.stands R.left first old entries.new writer.new (W.written sink.new)
-        result }
+        → IsUnderWay E.form E.before E.stands E.going R.left first old entries.old writer.old passed.old
+        (W.written sink.old)
+        → IsOver E.form E.before E.stands E.going R.left first old entries.new writer.new passed.new
+        (W.written sink.new) result }
     ensures read { CountsReading (R.failures entries.old.source.now)
         (R.failures entries.new.source.now) result }
     ensures write { CountsWriting (W.failures sink.old) (W.failures sink.new) result }
     ensures same_reference { entries.new.source.ghost_name ≡ entries.old.source.ghost_name }
 {
-    while write_next(entries, sink, writer)? {}
+    while write_next(entries, passed, sink, writer)? {}
     Ok(())
 }
 
 /// Writes the next entry. False stands for the end.
 fn write_next<R: Source, W: Sink, E: EntryWriter, S: BuildHasher + Drop>(
     entries: &mut Entries<'_, R, S>,
+    passed: &mut Passed,
     sink: &mut W,
     writer: &mut E,
 ) -> Result<bool, Error>
     requires going { failure_of entries.old ≡ None }
     requires prefixes { KeepsPrefixes E.form }
-    requires room { E.steps writer.old + entries_left entries.old ≤ most_entries }
+    requires room { passed_steps passed.old + entries_left entries.old ≤ most_entries }
     ensures goes_on { (first old : Option (List ℕ))
-        → IsUnderWay E.form E.stands R.left first old entries.old writer.old (W.written sink.old)
-        → GoesOn E.form E.stands R.left first old entries.new writer.new (W.written sink.new)
-        result }
+        → IsUnderWay E.form E.before E.stands E.going R.left first old entries.old writer.old passed.old
+        (W.written sink.old)
+        → GoesOn E.form E.before E.stands E.going R.left first old entries.new writer.new passed.new
+        (W.written sink.new) result }
     ensures fewer { IfOk result
         (λ more. IsTrue more → entries_left entries.new < entries_left entries.old) }
     ensures going { OnOk result (failure_of entries.new ≡ None) }
     ensures room { IfOk result
-        (λ more. IsTrue more → E.steps writer.new + entries_left entries.new ≤ most_entries) }
+        (λ more. IsTrue more
+        → passed_steps passed.new + entries_left entries.new ≤ most_entries) }
     ensures read { CountsReading (R.failures entries.old.source.now)
         (R.failures entries.new.source.now) result }
     ensures write { CountsWriting (W.failures sink.old) (W.failures sink.new) result }
     ensures same_reference { entries.new.source.ghost_name ≡ entries.old.source.ghost_name }
 {
-    match entries.next() {
-        Ok(Some(entry)) => write_one(sink, writer, &entry),
+    match entries.next(writer) {
+        Ok(Some(kind)) => write_one(passed, sink, writer, kind),
         Ok(None) => Ok(false),
         Err(error) => Err(error),
     }
@@ -174,18 +190,24 @@ fn write_next<R: Source, W: Sink, E: EntryWriter, S: BuildHasher + Drop>(
 
 /// Writes the entry, and says that it came.
 fn write_one<W: Sink, E: EntryWriter>(
+    passed: &mut Passed,
     sink: &mut W,
     writer: &mut E,
-    entry: &Entry,
+    kind: Kind,
 ) -> Result<bool, Error>
-    requires { E.steps writer.old + 1 < 2 ^ 32 }
+    requires { passed_steps passed.old + 1 < 2 ^ 32 }
     ensures more { IfOk result IsTrue }
-    ensures few { E.steps writer.new ≤ E.steps writer.old + 1 }
-    ensures writes { WritesOne E.form E.stands writer.old writer.new (W.written sink.old)
-        (W.written sink.new) entry.now result }
+    ensures few { passed_steps passed.new ≤ passed_steps passed.old + 1 }
+    ensures writes { WritesMore E.form E.before E.stands E.going writer.old writer.new passed.old passed.new
+        kind (W.written sink.old) (W.written sink.new) result }
     ensures count { CountsWriting (W.failures sink.old) (W.failures sink.new) result }
     ensures error { IfErr result IsOfWriting }
 {
-    writer.write(sink, entry)?;
-    Ok(true)
+    match writer.write(passed, sink, kind) {
+        Ok(()) => {
+            passed.add(kind);
+            Ok(true)
+        }
+        Err(error) => Err(error),
+    }
 }

@@ -2,16 +2,12 @@
 
 ghost use Rattle.std.specs.Prelude.{◌≡◌, ◌++◌, ◌∷◌, List, [], bytes_eq, length, min, OnErr, OnOk};
 ghost use Rattle.xdr3.specs.Item.{Item};
-ghost use Rattle.capture3.specs.Bodies.{IsCall, IsReply};
-ghost use Rattle.capture3.specs.Entry as spec;
-ghost use Rattle.capture3.specs.Kept.{IsKept};
 ghost use Rattle.nfs3_types.specs.declared.handle.Handle as handles;
 ghost use Rattle.canon3.specs.Gathering.{Gathers, same_handle};
 ghost use Rattle.canon3.specs.Rank.{distinct, number_limit, StandsFor};
-ghost use Rattle.canon3.specs.Values.{handles_in, items_of};
+ghost use Rattle.canon3.specs.Values.{handles_in};
 
 use crate::numbers::Numbers;
-use capture3::{Entry, KeptCall, KeptReply};
 use nfs3_types::Handle;
 use std::alloc::{AllocError, Global};
 use std::hash::BuildHasher;
@@ -31,29 +27,6 @@ impl<S: BuildHasher + Drop> HandleTable<S> {
         HandleTable {
             numbers: Numbers::new(alloc, hasher),
         }
-    }
-
-    /// Adds the handles of a kept entry's message.
-    pub(crate) fn gather(&mut self, entry: &Entry) -> Result<(), AllocError>
-        ensures { (one : spec.Entry) (before : List Item) → IsKept entry.now one → Gathers self.old.numbers before → OnOk result (Gathers self.new.numbers (before ++ items_of one)) }
-    {
-        match entry {
-            Entry::Call(call) => self.gather_call(call),
-            Entry::Reply(reply) => self.gather_reply(reply),
-            Entry::Begin | Entry::Turn | Entry::Close | Entry::End => Ok(()),
-        }
-    }
-
-    fn gather_call(&mut self, call: &KeptCall) -> Result<(), AllocError>
-        ensures { (items before : List Item) → IsCall call.now.body.items items → Gathers self.old.numbers before → OnOk result (Gathers self.new.numbers (before ++ items)) }
-    {
-        call.scan(self)
-    }
-
-    fn gather_reply(&mut self, reply: &KeptReply) -> Result<(), AllocError>
-        ensures { (items before : List Item) → IsReply reply.now.body.items (record { id = reply.now.id; items = items }) → Gathers self.old.numbers before → OnOk result (Gathers self.new.numbers (before ++ items)) }
-    {
-        reply.scan(self)
     }
 
     fn add(&mut self, handle: Handle) -> Result<(), AllocError>

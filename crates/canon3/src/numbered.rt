@@ -2,23 +2,13 @@
 
 ghost use Rattle.std.specs.Prelude.{◌≡◌, ◌≢◌, ◌≤◌, ◌++◌, ◌∷◌, ℕ, List, [], bytes_eq, length, min, IfOk, OnErr, OnOk};
 ghost use Rattle.xdr3.specs.Item.{Handle as HandleKind, Item, Opaque, Word, WriteVerf};
-ghost use Rattle.xdr3.specs.Visit.{Adds, Keeps, body_limit};
-ghost use Rattle.capture3.specs.Bodies.{IsCall, IsReply, xid_in};
-ghost use Rattle.std.specs.Io.KnownBytes.{Appends};
-ghost use Rattle.capture3.specs.Device.{Counts};
-ghost use Rattle.canon3.specs.Bytes.{chunk_bytes, record_bytes};
-ghost use Rattle.canon3.specs.Written.{AppendsFront};
+ghost use Rattle.xdr3.specs.Visit.{Adds};
 ghost use Rattle.canon3.specs.Gathering.{HoldsHandles};
-ghost use Rattle.canon3.specs.Numbered.{Before, Holds, HasWritten, IsBefore, IsUnderWay, Opens, Stands};
-ghost use Rattle.canon3.specs.Pairing.{Member};
-ghost use Rattle.canon3.specs.Rank.{number_limit, rank, StandsFor};
-ghost use Rattle.canon3.specs.Values.{handles_in, verifiers_in, xid_of};
+ghost use Rattle.canon3.specs.Numbered.{Before, behind, Holds, IsGoing, Stands, values_of};
+ghost use Rattle.canon3.specs.Rank.{number_limit, rank};
 
 use crate::numbers::Numbers;
-use crate::sink::Sink;
-use crate::writing::write_record;
 use byteorder::{BigEndian, ByteOrder};
-use capture3::{DeviceFailed, KeptCall, KeptReply};
 use nfs3_types::Handle;
 use std::alloc::{AllocError, Global};
 use std::hash::BuildHasher;
@@ -27,8 +17,8 @@ use xdr3::{Visit, Writer};
 /// How far a message is.
 #[derive(Clone, Copy)]
 pub(crate) enum Stage {
-    /// At its xid, which has this number.
-    Begins(u32),
+    /// At its xid.
+    Begins,
     /// Behind its xid.
     Goes,
     /// No memory was to be had, and the tables may have more than was written.
@@ -63,103 +53,56 @@ fn number_of_handle<S: BuildHasher + Drop>(
 impl<S: BuildHasher + Drop> Numbering<S> {
     /// Before a capture.
     pub(crate) fn new(alloc: Global, handles: S, verfs: S, xids: S) -> Numbering<S>
-        ensures holds { Holds result [] [] [] }
-        ensures empty { result.writer ≡ [] }
+        ensures stands { Stands result (behind (values_of []) []) }
+        ensures going { IsGoing result }
     {
         Numbering {
             handles: Numbers::new(alloc, handles),
             verfs: Numbers::new(alloc, verfs),
             xids: Numbers::new(alloc, xids),
             writer: Writer::new(alloc),
-            stage: Stage::Goes,
+            stage: Stage::Begins,
         }
     }
 
     /// Begins a connection, whose calls have xids of their own.
-    pub(crate) fn begin(&mut self)
-        ensures { (hs vs : List (List ℕ)) (xs : List ℕ) → Holds self.old hs vs xs → Holds self.new hs vs [] }
+    pub(crate) fn begin_connection(&mut self)
+        ensures { (before : Before) → Holds self.old before
+            → Holds self.new (record { xids = []; handles = before.handles; verifiers = before.verifiers }) }
     {
         self.xids.clear();
     }
 
-    /// Writes a call in place of the message before. After an error the tables may have more values than
-    /// were written, so nothing can follow.
-    pub(crate) fn call(&mut self, call: &KeptCall) -> Result<(), AllocError>
-        ensures short { OnOk result (length self.new.writer ≤ body_limit) }
-        ensures holds { (items : List Item) (hs vs : List (List ℕ)) (xs : List ℕ) → IsCall call.now.body.items items → Holds self.old hs vs xs → OnOk result (Holds self.new (hs ++ handles_in items) (vs ++ verifiers_in items) (xs ++ xid_of items)) }
-        ensures written { (items : List Item) (hs vs : List (List ℕ)) (xs : List ℕ) → IsCall call.now.body.items items → Holds self.old hs vs xs → OnOk result (HasWritten self.new hs vs (xs ++ xid_of items) items) }
-    {
-        self.open(call.xid())?;
-        call.scan(self)?;
-        self.unless_failed()
-    }
-
-    /// Writes a reply in place of the message before, likewise. A call of the connection has its xid.
-    pub(crate) fn reply(&mut self, reply: &KeptReply) -> Result<(), AllocError>
-        ensures short { OnOk result (length self.new.writer ≤ body_limit) }
-        ensures holds { (items : List Item) (hs vs : List (List ℕ)) (xs : List ℕ) → IsReply reply.now.body.items (record { id = reply.now.id; items = items }) → Holds self.old hs vs xs → Member (xid_in items) xs → OnOk result (Holds self.new (hs ++ handles_in items) (vs ++ verifiers_in items) xs) }
-        ensures written { (items : List Item) (hs vs : List (List ℕ)) (xs : List ℕ) → IsReply reply.now.body.items (record { id = reply.now.id; items = items }) → Holds self.old hs vs xs → Member (xid_in items) xs → OnOk result (HasWritten self.new hs vs xs items) }
-    {
-        self.open(reply.xid())?;
-        reply.scan(self)?;
-        self.unless_failed()
-    }
-
-    /// Hands the message to a sink, as one chunk. At most 16,777,216 bytes in it, as after `call` and
-    /// `reply`. After an error a front of the chunk was written.
-    pub(crate) fn hand_over<W: Sink>(&self, sink: &mut W) -> Result<(), DeviceFailed>
-        requires { length self.now.writer ≤ body_limit }
-        ensures ok { OnOk result (Appends (W.written sink.old) (W.written sink.new) (chunk_bytes (record_bytes self.now.writer))) }
-        ensures err { OnErr result (AppendsFront (W.written sink.old) (W.written sink.new) (chunk_bytes (record_bytes self.now.writer))) }
-        ensures count { Counts (W.failures sink.old) (W.failures sink.new) result }
-    {
-        write_record(sink, self.writer.bytes())
-    }
-
-    /// Opens a message with this xid, in place of the one before.
-    fn open(&mut self, xid: u32) -> Result<(), AllocError>
-        ensures empty { OnOk result (self.new.writer ≡ []) }
-        ensures opens { (hs vs : List (List ℕ)) (xs : List ℕ) → Holds self.old hs vs xs → OnOk result (Opens self.new hs vs (xs ++ xid ∷ []) xid []) }
-    {
-        let number = match self.xids.number_of(xid) {
-            Ok(number) => number,
-            Err(error) => return Err(error),
-        };
-        self.begin_with(number);
-        Ok(())
-    }
-
-    /// Leaves the message before.
-    fn begin_with(&mut self, number: u32)
-        ensures empty { self.new.writer ≡ [] }
-        ensures opens { (before : Before) → IsBefore before self.old number → IsUnderWay self.new before [] }
+    /// Begins a message in place of the one before.
+    pub(crate) fn begin_message(&mut self)
+        ensures stands { (before : Before) → Holds self.old before → Stands self.new (behind before []) }
+        ensures going { IsGoing self.new }
     {
         self.writer.clear();
-        self.stage = Stage::Begins(number);
+        self.stage = Stage::Begins;
     }
 
-    fn unless_failed(&self) -> Result<(), AllocError>
-        ensures { OnOk result (self.now.stage ≢ Stage.Failed) }
+    /// Fails where no memory was to be had for a value. Then nothing can follow.
+    pub(crate) fn unless_failed(&self) -> Result<(), AllocError>
+        ensures { OnOk result (IsGoing self.now) }
     {
         match self.stage {
             Stage::Failed => Err(AllocError),
-            Stage::Begins(_) | Stage::Goes => Ok(()),
+            Stage::Begins | Stage::Goes => Ok(()),
         }
     }
 
     /// Writes the xid's number in place of the xid `n`.
-    fn write_xid(&mut self, name: &'static str, n: u32, number: u32) -> Result<(), AllocError>
-        requires { self.old.stage ≡ Stage.Begins number }
+    fn write_xid(&mut self, name: &'static str, n: u32) -> Result<(), AllocError>
+        requires { self.old.stage ≡ Stage.Begins }
         ensures ok { OnOk result (Adds Stands self.old self.new (Word name.now n ∷ [])) }
-        ensures err { OnErr result (Keeps Stands self.old self.new) }
     {
-        match self.writer.word(name, number) {
-            Ok(()) => {
-                self.stage = Stage::Goes;
-                Ok(())
-            }
-            Err(error) => Err(error),
-        }
+        let number = match self.xids.number_of(n) {
+            Ok(number) => number,
+            Err(error) => return Err(error),
+        };
+        self.stage = Stage::Goes;
+        self.writer.word(name, number)
     }
 
     /// Writes the handle's number in place of the handle.
@@ -205,17 +148,16 @@ impl<S: BuildHasher + Drop> Numbering<S> {
 
 #[tactic(auto, unfolding(xdr3::specs::Visit::Adds, xdr3::specs::Visit::Keeps))]
 impl<S: BuildHasher + Drop> Visit for Numbering<S> {
-    ghost use Rattle.std.specs.Io.KnownBytes.{Appends};
-    ghost use Rattle.capture3.specs.Device.{Counts};
-    ghost use Rattle.canon3.specs.Bytes.{chunk_bytes, record_bytes};
-    ghost use Rattle.canon3.specs.Written.{AppendsFront};
     ghost use Rattle.canon3.specs.Numbered.{Stands};
 
     ghost stands = { Stands };
 
     fn word(&mut self, name: &'static str, n: u32) -> Result<(), AllocError> {
         match self.stage {
-            Stage::Begins(number) => self.write_xid(name, n, number),
+            Stage::Begins => {
+                let written = self.write_xid(name, n);
+                self.settle(written)
+            }
             Stage::Goes | Stage::Failed => self.writer.word(name, n),
         }
     }

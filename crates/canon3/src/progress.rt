@@ -1,9 +1,9 @@
 // How far the entries of a capture have come.
 
 ghost use Rattle.std.specs.Prelude.{◌≡◌, ◌<◌, ◌≤◌, ◌+◌, ◌^◌, [], None, Some};
-ghost use Rattle.canon3.specs.Progress.{HasPassed, keeps_side, place_from, progress_after, steps_of};
+ghost use Rattle.canon3.specs.Progress.{HasPassed, side_of_kind, place_from, progress_after, steps_of};
 
-use capture3::{Entry, Place, Side};
+use capture3::{Kind, Place, Side};
 
 /// How many connections began, and how many records the open stream has so far.
 #[derive(Clone, Copy)]
@@ -13,13 +13,13 @@ pub struct Progress {
 }
 
 /// Whose message an entry is.
-fn side_of(entry: &Entry) -> Option<Side>
-    ensures { result ≡ keeps_side entry.now }
+fn side_of(kind: Kind) -> Option<Side>
+    ensures { result ≡ side_of_kind kind }
 {
-    match entry {
-        Entry::Call(_) => Some(Side::Client),
-        Entry::Reply(_) => Some(Side::Server),
-        Entry::Begin | Entry::Turn | Entry::Close | Entry::End => None,
+    match kind {
+        Kind::Call(_) => Some(Side::Client),
+        Kind::Reply(_) => Some(Side::Server),
+        Kind::Begin | Kind::Turn | Kind::Close | Kind::End => None,
     }
 }
 
@@ -50,29 +50,29 @@ impl Progress {
     }
 
     /// One entry more.
-    pub fn pass(&mut self, entry: &Entry)
+    pub fn pass(&mut self, kind: Kind)
         requires { steps_of self.old + 1 < 2 ^ 32 }
         ensures few { steps_of self.new ≤ steps_of self.old + 1 }
-        ensures after { self.new ≡ progress_after self.old entry.now }
+        ensures after { self.new ≡ progress_after self.old kind }
     {
-        match entry {
-            Entry::Begin => {
+        match kind {
+            Kind::Begin => {
                 self.connections += 1;
                 self.records = 0;
             }
-            Entry::Call(_) | Entry::Reply(_) => self.records += 1,
-            Entry::Turn => self.records = 0,
-            Entry::Close | Entry::End => {}
+            Kind::Call(_) | Kind::Reply(_) => self.records += 1,
+            Kind::Turn => self.records = 0,
+            Kind::Close | Kind::End => {}
         }
     }
 
     /// Where the next two entries differ: at the next record where one of them is a message, and else
     /// before the records of the next connection.
-    pub(crate) fn place(&self, entry: &Entry, other: &Entry) -> Place
+    pub(crate) fn place(&self, kind: Kind, other: Kind) -> Place
         requires { steps_of self.now + 1 < 2 ^ 32 }
-        ensures { result ≡ place_from self.now (keeps_side entry.now) (keeps_side other.now) }
+        ensures { result ≡ place_from self.now (side_of_kind kind) (side_of_kind other) }
     {
-        match side_of(entry) {
+        match side_of(kind) {
             Some(side) => self.record(side),
             None => match side_of(other) {
                 Some(side) => self.record(side),

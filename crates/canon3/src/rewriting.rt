@@ -1,23 +1,26 @@
 // The canonical form of a capture, from a source to a sink.
 
-ghost use Rattle.std.specs.Prelude.{◌≡◌, ◌<◌, ◌≤◌, ◌+◌, ◌^◌, ◌++◌, ◌∷◌, ℕ, List, [], true, IfErr, OnErr, OnOk};
+ghost use Rattle.std.specs.Prelude.{◌≡◌, ◌<◌, ◌^◌, ◌++◌, ◌∷◌, List, [], length, IfErr, OnErr, OnOk};
 ghost use Rattle.std.specs.Io.KnownBytes.{Appends};
 ghost use Rattle.capture3.specs.Entries.{CountsReading};
 ghost use Rattle.capture3.specs.Entry as spec;
-ghost use Rattle.capture3.specs.Kept.{IsKept};
-ghost use Rattle.canon3.specs.Numbered.{Holds};
-ghost use Rattle.canon3.specs.Rewriting.{IsRewriting, magic_unless, rewriting_steps, RewritesGiven};
-ghost use Rattle.canon3.specs.Summing.{AreCounted};
-ghost use Rattle.canon3.specs.Writing.{CountsWriting, HasFollowed, IsCut, IsInTurn, IsOfWriting};
+ghost use Rattle.canon3.specs.Laws.{AreFirst};
+ghost use Rattle.canon3.specs.Numbered.{behind, Stands, values_of};
+ghost use Rattle.canon3.specs.Rewriting.{Follows, magic_before, RewritesGiven};
+ghost use Rattle.capture3.specs.Kept.{IsOfKind};
+ghost use Rattle.capture3.specs.Entry.{items_of};
+ghost use Rattle.canon3.specs.Writing.{CountsWriting, IsOfWriting};
 ghost use Rattle.canon3.specs.Written.{AppendsFront};
 
 use crate::entry_writer::{EntryWriter, write_entries};
-use crate::form::write_entry;
+use crate::form::write_spelling;
 use crate::numbered::Numbering;
+use crate::passed::Passed;
 use crate::sink::Sink;
-use crate::summary::{Counts, Summary};
+use crate::spelling::spelling_of_entry;
+use crate::summary::Summary;
 use crate::writing::write_all;
-use capture3::{Entry, Error, Hashers, Source};
+use capture3::{Error, Hashers, Kind, Source, pack_header};
 use std::alloc::Global;
 use std::hash::BuildHasher;
 
@@ -42,98 +45,74 @@ pub fn canon<R: Source, W: Sink, S: BuildHasher + Drop>(
     ensures read { CountsReading (R.failures source.old) (R.failures source.new) result }
     ensures write { CountsWriting (W.failures sink.old) (W.failures sink.new) result }
 {
-    let mut rewriting = Rewriting::new(alloc, hashers.handles, hashers.verfs, hashers.xids);
-    write_entries(alloc, hashers.calls, source, sink, &mut rewriting)
+    let mut numbering = Numbering::new(alloc, hashers.handles, hashers.verfs, hashers.xids);
+    write_entries(alloc, hashers.calls, source, sink, &mut numbering)
 }
 
-/// What was written so far.
-#[derive(Drop)]
-struct Rewriting<S: BuildHasher + Drop> {
-    counts: Counts,
-    numbering: Numbering<S>,
-    // The magic was written.
-    opened: bool,
-}
-
-impl<S: BuildHasher + Drop> Rewriting<S> {
-    /// Before a capture.
-    fn new(alloc: Global, handles: S, verfs: S, xids: S) -> Rewriting<S>
-        ensures rewrites { IsRewriting result [] }
-        ensures none { rewriting_steps result ≡ 0 }
-    {
-        Rewriting {
-            counts: Counts::new(),
-            numbering: Numbering::new(alloc, handles, verfs, xids),
-            opened: false,
-        }
+/// Writes the magic, where no connection began.
+fn open<W: Sink>(passed: &Passed, sink: &mut W) -> Result<(), Error>
+    ensures ok { OnOk result
+        (Appends (W.written sink.old) (W.written sink.new)
+        (magic_before passed.now.progress.connections)) }
+    ensures err { OnErr result
+        (AppendsFront (W.written sink.old) (W.written sink.new)
+        (magic_before passed.now.progress.connections)) }
+    ensures count { CountsWriting (W.failures sink.old) (W.failures sink.new) result }
+    ensures error { IfErr result (λ error. error ≡ Error.Write) }
+{
+    if passed.connections() > 0 {
+        return Ok(());
     }
-
-    /// Writes the magic before the first entry.
-    fn open<W: Sink>(&mut self, sink: &mut W) -> Result<(), Error>
-        ensures opened { self.new.opened ≡ true }
-        ensures counts { self.new.counts ≡ self.old.counts }
-        ensures numbering { self.new.numbering ≡ self.old.numbering }
-        ensures ok { OnOk result
-            (Appends (W.written sink.old) (W.written sink.new) (magic_unless self.old.opened)) }
-        ensures err { OnErr result
-            (AppendsFront (W.written sink.old) (W.written sink.new)
-            (magic_unless self.old.opened)) }
-        ensures count { CountsWriting (W.failures sink.old) (W.failures sink.new) result }
-        ensures error { IfErr result (λ error. error ≡ Error.Write) }
-    {
-        if self.opened {
-            return Ok(());
-        }
-        self.opened = true;
-        match write_all(sink, &capture3::pack_header()) {
-            Ok(()) => Ok(()),
-            Err(_) => Err(Error::Write),
-        }
-    }
-
-    /// Writes the entry after the magic.
-    fn follow<W: Sink>(&mut self, sink: &mut W, entry: &Entry) -> Result<(), Error>
-        requires { rewriting_steps self.old + 1 < 2 ^ 32 }
-        ensures few { rewriting_steps self.new ≤ rewriting_steps self.old + 1 }
-        ensures opened { self.new.opened ≡ self.old.opened }
-        ensures counted { (one : spec.Entry) (entries : List spec.Entry) → IsKept entry.now one
-            → AreCounted self.old.counts entries
-            → AreCounted self.new.counts (entries ++ one ∷ []) }
-        ensures follows { (one : spec.Entry) (hs vs : List (List ℕ)) (xs : List ℕ)
-            → IsKept entry.now one
-            → Holds self.old.numbering hs vs xs → IsInTurn xs one
-            → OnOk result
-            (HasFollowed self.new.numbering (W.written sink.old) (W.written sink.new) hs vs
-            xs one) }
-        ensures cut { (one : spec.Entry) (hs vs : List (List ℕ)) (xs : List ℕ)
-            → IsKept entry.now one
-            → Holds self.old.numbering hs vs xs → IsInTurn xs one
-            → OnErr result (IsCut (W.written sink.old) (W.written sink.new) hs vs xs one) }
-        ensures count { CountsWriting (W.failures sink.old) (W.failures sink.new) result }
-        ensures error { IfErr result IsOfWriting }
-    {
-        self.counts.add(entry);
-        write_entry(&mut self.numbering, sink, entry)
+    match write_all(sink, &pack_header()) {
+        Ok(()) => Ok(()),
+        Err(_) => Err(Error::Write),
     }
 }
 
-impl<S: BuildHasher + Drop> EntryWriter for Rewriting<S> {
-    ghost use Rattle.canon3.specs.Rewriting.{canonical_bytes, IsRewriting, rewriting_steps};
+/// Writes the entry after the magic, and begins the next message.
+fn follow<S: BuildHasher + Drop, W: Sink>(
+    numbering: &mut Numbering<S>,
+    sink: &mut W,
+    kind: Kind,
+) -> Result<(), Error>
+    ensures follows { (entries : List spec.Entry) (one : spec.Entry) → IsOfKind kind one
+        → AreFirst (entries ++ one ∷ []) → length (entries ++ one ∷ []) < 2 ^ 32
+        → Stands numbering.old (behind (values_of entries) (items_of one))
+        → Follows numbering.new (W.written sink.old) (W.written sink.new) entries one result }
+    ensures count { CountsWriting (W.failures sink.old) (W.failures sink.new) result }
+    ensures error { IfErr result IsOfWriting }
+{
+    let form = match spelling_of_entry(numbering, kind) {
+        Ok(form) => form,
+        Err(_) => return Err(Error::Memory),
+    };
+    match write_spelling(sink, form, numbering.writer.bytes()) {
+        Ok(()) => {
+            numbering.begin_message();
+            Ok(())
+        }
+        Err(error) => Err(error),
+    }
+}
+
+impl<S: BuildHasher + Drop> EntryWriter for Numbering<S> {
+    ghost use Rattle.canon3.specs.Numbered.{IsGoing};
+    ghost use Rattle.canon3.specs.Rewriting.{canonical_bytes, values_before};
 
     ghost form = { canonical_bytes };
 
-    ghost stands = { IsRewriting };
+    ghost before = { values_before };
 
-    ghost steps = { rewriting_steps };
+    ghost going = { IsGoing };
 
-    fn write<W: Sink>(&mut self, sink: &mut W, entry: &Entry) -> Result<(), Error> {
-        match self.open(sink) {
-            Ok(()) => self.follow(sink, entry),
+    fn write<W: Sink>(&mut self, passed: &Passed, sink: &mut W, kind: Kind) -> Result<(), Error> {
+        match open(passed, sink) {
+            Ok(()) => follow(self, sink, kind),
             Err(error) => Err(error),
         }
     }
 
-    fn summary(&self) -> Summary {
-        self.counts.summary(self.numbering.handles.len())
+    fn handles(&self) -> u32 {
+        self.handles.len()
     }
 }

@@ -1,14 +1,15 @@
 // What an entry is written as in the canonical form.
 
-ghost use Rattle.std.specs.Prelude.{◌≡◌, ◌≢◌, ℕ, List, IfOk, MatchBool};
+ghost use Rattle.std.specs.Prelude.{◌≡◌, ◌≢◌, ◌<◌, ◌^◌, ◌++◌, ◌∷◌, List, [], length, IfOk, MatchBool};
 ghost use Rattle.capture3.specs.Entry as spec;
-ghost use Rattle.capture3.specs.Kept.{IsKept};
-ghost use Rattle.canon3.specs.Numbered.{Holds};
+ghost use Rattle.canon3.specs.Laws.{AreFirst};
+ghost use Rattle.canon3.specs.Numbered.{behind, Stands, values_of};
 ghost use Rattle.canon3.specs.Spelling.{HasSpelled, spelling_of};
-ghost use Rattle.canon3.specs.Writing.{IsInTurn};
+ghost use Rattle.capture3.specs.Kept.{IsOfKind};
+ghost use Rattle.capture3.specs.Entry.{items_of};
 
 use crate::numbered::Numbering;
-use capture3::Entry;
+use capture3::Kind;
 use std::alloc::AllocError;
 use std::hash::BuildHasher;
 
@@ -23,29 +24,24 @@ pub(crate) enum Spelling {
     Message,
 }
 
-/// Numbers an entry's values, and spells its message. After an error nothing can follow.
-pub(crate) fn number_entry<S: BuildHasher + Drop>(
+/// What an entry is written as, whose items the numbering was told. After an error nothing can follow.
+pub(crate) fn spelling_of_entry<S: BuildHasher + Drop>(
     numbering: &mut Numbering<S>,
-    entry: &Entry,
+    kind: Kind,
 ) -> Result<Spelling, AllocError>
-    ensures { (one : spec.Entry) (hs vs : List (List ℕ)) (xs : List ℕ) → IsKept entry.now one
-        → Holds numbering.old hs vs xs → IsInTurn xs one
-        → IfOk result (λ form. HasSpelled numbering.new form hs vs xs one) }
+    ensures { (entries : List spec.Entry) (one : spec.Entry) → IsOfKind kind one
+        → AreFirst (entries ++ one ∷ []) → length (entries ++ one ∷ []) < 2 ^ 32
+        → Stands numbering.old (behind (values_of entries) (items_of one))
+        → IfOk result (λ form. HasSpelled numbering.new form entries one) }
 {
-    match entry {
-        Entry::Begin => {
-            numbering.begin();
+    numbering.unless_failed()?;
+    match kind {
+        Kind::Begin => {
+            numbering.begin_connection();
             Ok(Spelling::One)
         }
-        Entry::Call(call) => match numbering.call(call) {
-            Ok(()) => Ok(Spelling::Message),
-            Err(error) => Err(error),
-        },
-        Entry::Reply(reply) => match numbering.reply(reply) {
-            Ok(()) => Ok(Spelling::Message),
-            Err(error) => Err(error),
-        },
-        Entry::Turn | Entry::Close | Entry::End => Ok(Spelling::Zero),
+        Kind::Call(_) | Kind::Reply(_) => Ok(Spelling::Message),
+        Kind::Turn | Kind::Close | Kind::End => Ok(Spelling::Zero),
     }
 }
 

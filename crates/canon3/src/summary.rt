@@ -5,15 +5,15 @@ ghost use Rattle.capture3.specs.declared.fault.Fault.{Fault};
 ghost use Rattle.capture3.specs.Entries.{CountsReading, entries_left, failure_of, StandsFor};
 ghost use Rattle.capture3.specs.Entry as spec;
 ghost use Rattle.capture3.specs.FirstFault.{FirstFault};
-ghost use Rattle.capture3.specs.Kept.{IsKept};
 ghost use Rattle.capture3.specs.Position.{most_entries};
 ghost use Rattle.canon3.specs.Rank.{distinct, number_limit};
-ghost use Rattle.canon3.specs.Summing.{all_items, AreCounted, Concludes, GoesOn, IsOver, IsSummary, IsUnderWay, keeps_begin, keeps_call, keeps_reply, Sums, Tallies, total};
-ghost use Rattle.canon3.specs.Values.{handles_in};
+ghost use Rattle.canon3.specs.Summing.{AreCounted, begins, calls, Concludes, GoesOn, IsOver, IsSummary, IsUnderWay, replies, Sums, Tallies, total};
+ghost use Rattle.capture3.specs.Kept.{IsOfKind};
+ghost use Rattle.canon3.specs.Values as values;
 
 use crate::handles::HandleTable;
-use capture3::{Entries, Entry, Error, Hashers, Source, new_block};
-use std::alloc::{AllocError, Global};
+use capture3::{Entries, Error, Hashers, Kind, Source, new_block};
+use std::alloc::Global;
 use std::hash::BuildHasher;
 
 /// What a capture has of each kind.
@@ -71,7 +71,7 @@ fn summed<R: Source, S: BuildHasher + Drop>(
 
 /// How many connections, calls and replies came.
 #[derive(Drop)]
-pub struct Counts {
+pub(crate) struct Counts {
     connections: u32,
     calls: u32,
     replies: u32,
@@ -79,7 +79,7 @@ pub struct Counts {
 
 impl Counts {
     /// Before any entry.
-    pub fn new() -> Counts
+    pub(crate) fn new() -> Counts
         ensures counted { AreCounted result [] }
         ensures none { total result ≡ 0 }
     {
@@ -91,31 +91,31 @@ impl Counts {
     }
 
     /// One entry more.
-    pub fn add(&mut self, entry: &Entry)
+    pub(crate) fn add(&mut self, kind: Kind)
         requires { total self.old + 1 < 2 ^ 32 }
         ensures few { total self.new ≤ total self.old + 1 }
-        ensures counted { (one : spec.Entry) (entries : List spec.Entry) → IsKept entry.now one → AreCounted self.old entries → AreCounted self.new (entries ++ one ∷ []) }
+        ensures counted { (one : spec.Entry) (entries : List spec.Entry) → IsOfKind kind one → AreCounted self.old entries → AreCounted self.new (entries ++ one ∷ []) }
     {
-        self.count(entry);
+        self.count(kind);
     }
 
-    fn count(&mut self, entry: &Entry)
+    fn count(&mut self, kind: Kind)
         requires { total self.old + 1 < 2 ^ 32 }
-        ensures connections { self.new.connections ≡ self.old.connections + cond (keeps_begin entry.now) 1 0 }
-        ensures calls { self.new.calls ≡ self.old.calls + cond (keeps_call entry.now) 1 0 }
-        ensures replies { self.new.replies ≡ self.old.replies + cond (keeps_reply entry.now) 1 0 }
+        ensures connections { self.new.connections ≡ self.old.connections + cond (begins kind) 1 0 }
+        ensures calls { self.new.calls ≡ self.old.calls + cond (calls kind) 1 0 }
+        ensures replies { self.new.replies ≡ self.old.replies + cond (replies kind) 1 0 }
     {
-        match entry {
-            Entry::Begin => self.connections += 1,
-            Entry::Call(_) => self.calls += 1,
-            Entry::Reply(_) => self.replies += 1,
-            Entry::Turn | Entry::Close | Entry::End => {}
+        match kind {
+            Kind::Begin => self.connections += 1,
+            Kind::Call(_) => self.calls += 1,
+            Kind::Reply(_) => self.replies += 1,
+            Kind::Turn | Kind::Close | Kind::End => {}
         }
     }
 
     /// The summary with so many distinct handles.
-    pub fn summary(&self, handles: u32) -> Summary
-        ensures { (entries : List spec.Entry) → AreCounted self.now entries → handles ≡ min (length (distinct bytes_eq (handles_in (all_items entries)))) number_limit → Sums result entries }
+    pub(crate) fn summary(&self, handles: u32) -> Summary
+        ensures { (entries : List spec.Entry) → AreCounted self.now entries → handles ≡ min (length (distinct bytes_eq (values.handles entries))) number_limit → Sums result entries }
     {
         Summary {
             connections: self.connections,
@@ -169,32 +169,14 @@ impl<S: BuildHasher + Drop> Tally<S> {
         ensures write { IfErr result (λ error. error ≢ Error.Write) }
         ensures same_reference { entries.new.source.ghost_name ≡ entries.old.source.ghost_name }
     {
-        match entries.next() {
-            Ok(Some(entry)) => self.added(&entry),
+        match entries.next(&mut self.handles) {
+            Ok(Some(kind)) => {
+                self.counts.add(kind);
+                Ok(true)
+            }
             Ok(None) => Ok(false),
             Err(error) => Err(error),
         }
-    }
-
-    /// Adds the entry, and says that it came.
-    fn added(&mut self, entry: &Entry) -> Result<bool, Error>
-        requires { total self.old.counts + 1 < 2 ^ 32 }
-        ensures more { IfOk result IsTrue }
-        ensures few { total self.new.counts ≤ total self.old.counts + 1 }
-        ensures tallies { (one : spec.Entry) (entries : List spec.Entry) → IsKept entry.now one → Tallies self.old entries → OnOk result (Tallies self.new (entries ++ one ∷ [])) }
-        ensures memory { IfErr result (λ error. error ≡ Error.Memory) }
-    {
-        self.add(entry)?;
-        Ok(true)
-    }
-
-    fn add(&mut self, entry: &Entry) -> Result<(), AllocError>
-        requires { total self.old.counts + 1 < 2 ^ 32 }
-        ensures few { total self.new.counts ≤ total self.old.counts + 1 }
-        ensures tallies { (one : spec.Entry) (entries : List spec.Entry) → IsKept entry.now one → Tallies self.old entries → OnOk result (Tallies self.new (entries ++ one ∷ [])) }
-    {
-        self.counts.add(entry);
-        self.handles.gather(entry)
     }
 
     fn summary(&self) -> Summary

@@ -12,7 +12,7 @@ returns-in-Ok-clause-writes g c =
       handed = [];
       consumed = Consumes-nil before;
       reads = c.requires.fresh;
-      writes = record { stands_for = c.requires.new; written = subst (λ (l : List ℕ). Appends old old l) (sym c.requires.empty) (Appends-nil old) };
+      writes = record { goes = c.requires.well; stands_for = c.requires.new; came = c.new-passed.ensures.passed; written = subst (λ (l : List ℕ). Appends old old l) (sym c.requires.empty) (Appends-nil old) };
     }) in
     c.close.ensures.writes before (g.R.Source.left c.write_rest.new.entries.source.now) old done.given done.handed done.ended done.writes
 
@@ -25,6 +25,6 @@ returns-in-Err-clause-writes g c =
       handed = [];
       consumed = Consumes-nil before;
       reads = c.requires.fresh;
-      writes = record { stands_for = c.requires.new; written = subst (λ (l : List ℕ). Appends old old l) (sym c.requires.empty) (Appends-nil old) };
+      writes = record { goes = c.requires.well; stands_for = c.requires.new; came = c.new-passed.ensures.passed; written = subst (λ (l : List ℕ). Appends old old l) (sym c.requires.empty) (Appends-nil old) };
     }) in
     (s.given, s.consumed, s.stopped)

@@ -1,0 +1,12 @@
+use Rattle.std.proofs.Common.{List, ℕ, [], ap, ◌∙◌, length, min}
+use Rattle.std.specs.Prelude.{bytes_eq}
+use Rattle.canon3.specs.Numbered.{values_of}
+use Rattle.canon3.specs.Rank.{distinct, number_limit}
+use Rattle.canon3.proofs.Gathering.{distinct_held}
+use Rattle.canon3.proofs.Opening.{nothing_held}
+use Rattle.canon3.proofs.rewriting.NumberingEntryWriter.handles.Goals as goal
+
+pub returns : goal.returns
+returns g c entries going stands =
+    let (given, table, are) = (nothing_held c.args.self.now (values_of entries) going stands).handles in
+    c.len.ensures given table ∙ ap (λ n. min n number_limit) (distinct_held given are)
