@@ -1,146 +1,239 @@
 -- A line, and what is held after it.
-use Rattle.std.proofs.Common.{◌≡◌, ◌≤◌, ◌⊎◌, inl, inr, ℕ, ◌+◌, List, [], ◌∷◌, ◌++◌, drop, length, length-append, sym, ap, ◌∙◌, subst, append_assoc, arith, Result, Ok, Err}
-use Rattle.std.proofs.Math.Seq.{drop-append_seam}
-use Rattle.std.specs.Prelude.{Option, IfOk, OnErr, OnOk, codes, decimal}
+use Rattle.std.proofs.Common.{◌≡◌, ◌⊎◌, inl, inr, ℕ, suc, ◌+◌, List, [], ◌∷◌, ◌++◌, length, take, refl, sym, ap, ◌∙◌, subst, append_assoc, append-nil, arith, Result, Ok, Err}
+use Rattle.std.specs.Prelude.{Option, None, Some, codes, decimal, OnErr, OnOk}
 use Rattle.std.specs.Io.KnownBytes.{Appends}
 use Rattle.std.proofs.KnownBytes.{Appends-trans}
-use Rattle.xdr3.specs.Item.{Item, Word}
+use Rattle.std.proofs.Math.Seq.{take-append_seam}
+use Rattle.std.proofs.lemmas.Grind.{flat_map-append}
+use Rattle.xdr3.specs.Item.{Item, Word, Opaque, Handle}
+use Rattle.xdr3.specs.Visit.{Adds, Keeps}
 use Rattle.rpc_head.specs.declared.call.ProcId.{ProcId}
 use Rattle.rpc_head.specs.Messages.{procedure_in}
 use Rattle.rpc_head.specs.Names.{names}
-use Rattle.capture3.specs.declared.entry.Entry as kept
-use Rattle.capture3.specs.declared.entry.Entry.TheVariants as variants
-use Rattle.capture3.specs.declared.entry.KeptCall.{KeptCall}
-use Rattle.capture3.specs.declared.entry.KeptReply.{KeptReply}
+use Rattle.nfs3_types.specs.declared.handle.Handle as handles
+use Rattle.capture3.specs.declared.entry.Kind.{Kind}
+use Rattle.capture3.specs.declared.entry.Kind.TheVariants as kinds
 use Rattle.capture3.specs.declared.fault.Error.{Error}
-use Rattle.capture3.specs.Bodies.{IsCall, IsReply, xid_in}
-use Rattle.capture3.specs.Entry.{Entry, Begin, Call, Turn, Reply, Close, End}
-use Rattle.capture3.specs.Kept.{IsKept}
+use Rattle.capture3.specs.Entry.{Entry, Begin, Call, Turn, Reply, Close, End, items_of}
+use Rattle.capture3.specs.Kept.{IsOfKind}
 use Rattle.listing3.specs.declared.line_writer.LineWriter.{LineWriter}
 use Rattle.canon3.specs.declared.progress.Progress.{Progress}
 use Rattle.canon3.specs.EntryWriter.{HasWrittenOrCut}
 use Rattle.canon3.specs.Gathering.{Gathers}
-use Rattle.listing3.specs.LineWriter.{HasListed, pieces}
-use Rattle.listing3.specs.Listing.{client, entry_line, line, opening, prefix, procedure_name, server, shown, shown_items}
-use Rattle.canon3.specs.Progress.{HasPassed, progress_after}
-use Rattle.canon3.specs.Summing.{all_items, AreCounted}
-use Rattle.canon3.specs.Values.{items_of}
+use Rattle.canon3.specs.Laws.{AreFirst}
+use Rattle.canon3.specs.Progress.{HasPassed}
+use Rattle.canon3.specs.Values.{handles_in}
 use Rattle.canon3.specs.Written.{AppendsFront}
-use Rattle.listing3.proofs.ListingLemmas.{shown_push}
+use Rattle.canon3.proofs.Gathering.{gathers_none}
+use Rattle.canon3.proofs.Laid.{IsLaidOut, last_laid}
 use Rattle.canon3.proofs.Messages.{is_headed_call, is_headed_reply}
-use Rattle.canon3.proofs.Summing.{items_behind}
+use Rattle.canon3.proofs.Visiting.{still_err}
 use Rattle.canon3.proofs.Written.{front_of_second}
+use Rattle.listing3.proofs.ListingLemmas.{shown_push}
+use Rattle.listing3.specs.LineWriter.{always, behind, IsBehind, IsTextOf, items_before, Stands}
+use Rattle.listing3.specs.Listing.{entry_line, line, opening, prefix, procedure_name, shown, shown_item, shown_items}
 
 -- ---- pieces of a line
 
 abbrev xid_text : ℕ → List ℕ
 xid_text xid = opening (codes "xid") ++ decimal xid
 
-items_text : (xid : ℕ) (all rest : List Item) (text : List ℕ) → all ≡ Word names.xid xid ∷ rest → text ≡ shown_items all ++ 10 ∷ [] → text ≡ xid_text xid ++ (shown_items rest ++ 10 ∷ [])
+pub composed : (connection : ℕ) (side : List ℕ) (number xid : ℕ) (id : ProcId) (rest : List Item) (head text : List ℕ)
+    → head ≡ prefix connection side number ++ (xid_text xid ++ (32 ∷ procedure_name id)) → text ≡ shown_items rest ++ 10 ∷ []
+    → head ++ text ≡ line connection side number id (Word names.xid xid ∷ rest)
 unfolding names
-items_text xid all rest text are is =
-    is ∙ ap (λ (l : List Item). shown_items l ++ 10 ∷ []) are ∙ append_assoc (xid_text xid) (shown_items rest) (10 ∷ [])
-
-message_pieces : (xid : ℕ) (id : ProcId) (all rest : List Item) (p : List ℕ) → all ≡ Word names.xid xid ∷ rest
-    → (p ++ (xid_text xid ++ (32 ∷ procedure_name id))) ++ (shown_items rest ++ 10 ∷ []) ≡ p ++ (xid_text xid ++ (32 ∷ (procedure_name id ++ (shown_items rest ++ 10 ∷ []))))
-message_pieces xid id all rest p are =
-    append_assoc p (xid_text xid ++ (32 ∷ procedure_name id)) (shown_items rest ++ 10 ∷ [])
-    ∙ ap (λ (l : List ℕ). p ++ l) (append_assoc (xid_text xid) (32 ∷ procedure_name id) (shown_items rest ++ 10 ∷ []))
-
-line_text : (connection : ℕ) (side : List ℕ) (number xid : ℕ) (id : ProcId) (all rest : List Item) → all ≡ Word names.xid xid ∷ rest
-    → prefix connection side number ++ (xid_text xid ++ (32 ∷ (procedure_name id ++ (shown_items rest ++ 10 ∷ [])))) ≡ line connection side number id all
-unfolding names
-line_text connection side number xid id all rest are = ap (λ (l : List Item). line connection side number id l) (sym are)
-
-pub composed : (connection : ℕ) (side : List ℕ) (number xid : ℕ) (id : ProcId) (all rest : List Item) (head text : List ℕ) (skip : ℕ) → all ≡ Word names.xid xid ∷ rest → text ≡ shown_items all ++ 10 ∷ []
-    → head ≡ prefix connection side number ++ (xid_text xid ++ (32 ∷ procedure_name id)) → skip ≡ length (xid_text xid) → pieces head text skip ≡ line connection side number id all
-composed connection side number xid id all rest head text skip are text_is head_is skip_is =
+composed connection side number xid id rest head text head_is text_is =
     let p = prefix connection side number in
     let n : List ℕ = shown_items rest ++ 10 ∷ [] in
-    let cut : drop skip text ≡ n = ap (λ k. drop k text) skip_is ∙ (ap (drop (length (xid_text xid))) (items_text xid all rest text are text_is) ∙ drop-append_seam (xid_text xid) n) in
-    ap (λ (l : List ℕ). head ++ l) cut ∙ ap (λ (l : List ℕ). l ++ n) head_is ∙ message_pieces xid id all rest p are ∙ line_text connection side number xid id all rest are
+    ap (λ (l : List ℕ). head ++ l) text_is ∙ ap (λ (l : List ℕ). l ++ n) head_is ∙ append_assoc p (xid_text xid ++ (32 ∷ procedure_name id)) n
+    ∙ ap (λ (l : List ℕ). p ++ l) (append_assoc (xid_text xid) (32 ∷ procedure_name id) n)
 
-pub within : (xid : ℕ) (all rest : List Item) (text : List ℕ) (skip : ℕ) → all ≡ Word names.xid xid ∷ rest → text ≡ shown_items all ++ 10 ∷ [] → skip ≡ length (xid_text xid) → skip ≤ length text
-within xid all rest text skip are is skip_is =
-    omega (arith, skip_is, ap length (items_text xid all rest text are is), length-append (xid_text xid) (shown_items rest ++ 10 ∷ []))
+-- ---- items in front
 
-pub always_ok : {T E P : Type 0} (r : Result T E) → P → OnOk r P
-always_ok (Ok x) p = p
-always_ok (Err e) p = tt
+same_front : (a b items more : List Item) → length a ≡ length b → a ++ items ≡ b ++ more → (a ≡ b) × (items ≡ more)
+same_front [] [] items more n e = (refl, e)
+same_front [] (y ∷ b) items more n e = absurd (omega arith)
+same_front (x ∷ a) [] items more n e = absurd (omega arith)
+same_front (x ∷ a) (y ∷ b) items more n e =
+    let tails : a ++ items ≡ b ++ more = cc in
+    let r = same_front a b items more (omega arith) tails in
+    let head : x ≡ y = cc in
+    (ap (λ (l : List Item). x ∷ l) r.0 ∙ ap (λ i. i ∷ b) head, r.1)
 
--- the same of a result
-module _ {E : Type 0} (connection : ℕ) (side : List ℕ) (number xid : ℕ) (id : ProcId) (name : List ℕ) (all : List Item) (none head text : List ℕ) (begins : (rest : List Item) × (all ≡ Word names.xid xid ∷ rest)) (text_is : text ≡ shown_items all ++ 10 ∷ []) where
-  pub line_ok : (r : Result ℕ E) → none ≡ [] → name ≡ procedure_name id → OnOk r (head ≡ none ++ (prefix connection side number ++ (xid_text xid ++ (32 ∷ name)))) → IfOk r (λ skip. skip ≡ length (xid_text xid))
-      → IfOk r (λ skip. pieces head text skip ≡ line connection side number id all)
-  line_ok (Ok skip) empty is head_is skip_is =
-      composed connection side number xid id all begins.0 head text skip begins.1 text_is (head_is ∙ ap (λ (l : List ℕ). l ++ (prefix connection side number ++ (xid_text xid ++ (32 ∷ name)))) empty ∙ ap (λ (l : List ℕ). prefix connection side number ++ (xid_text xid ++ (32 ∷ l))) is) skip_is
-  line_ok (Err e) empty is head_is skip_is = tt
+module _ {S H : Type 0} (writer : LineWriter S H) where
+  pub is_behind : (front items : List Item) → Stands writer (behind front items) → IsBehind writer front items
+  is_behind front items (other, own, are, is) =
+      let many : length front ≡ length other = cc in
+      let all : front ++ items ≡ other ++ own = cc in
+      let same = same_front front other items own many all in
+      subst (λ (l : List Item). IsBehind writer l items) (sym same.0) (subst (IsBehind writer other) (sym same.1) is)
 
-  pub within_ok : (r : Result ℕ E) → IfOk r (λ skip. skip ≡ length (xid_text xid)) → IfOk r (λ skip. skip ≤ length text)
-  within_ok (Ok skip) skip_is = within xid all begins.0 text skip begins.1 text_is skip_is
-  within_ok (Err e) skip_is = tt
+  pub stands_behind : (front items : List Item) → IsBehind writer front items → Stands writer (behind front items)
+  stands_behind front items is = (front, items, refl, is)
 
--- ---- a message begins with its xid
+-- ---- one item more
 
-pub call_first : (body : List ℕ) (xid : ℕ) (items : List Item) → IsCall body items → xid ≡ xid_in items → (rest : List Item) × (items ≡ Word names.xid xid ∷ rest)
-call_first body xid items is same =
-    let h = is_headed_call items is.0 in
-    let rest = (h.start ++ h.head) ++ h.back in
-    (rest, subst (λ n. items ≡ Word names.xid n ∷ rest) (sym (same ∙ ap xid_in h.is)) h.is)
+abbrev pub TextOf : List ℕ → List Item → Type 0
+TextOf text items = text ≡ shown_items items
 
-pub reply_first : (id : ProcId) (body : List ℕ) (xid : ℕ) (items : List Item) → IsReply body (record { id = id; items = items }) → xid ≡ xid_in items → (rest : List Item) × (items ≡ Word names.xid xid ∷ rest)
-reply_first id body xid items is same =
-    let h = is_headed_reply id items is.0 in
-    let rest = (h.start ++ h.head) ++ h.back in
-    (rest, subst (λ n. items ≡ Word names.xid n ∷ rest) (sym (same ∙ ap xid_in h.is)) h.is)
+pub behind-append : (front items more : List Item) → behind front items ++ more ≡ behind front (items ++ more)
+behind-append front items more = ap (λ (l : List Item). Word [] (length front) ∷ l) (append_assoc front items more)
 
--- ---- a kept entry's line
+module _ {S H : Type 0} (old new : LineWriter S H) (i : Item) where
+  pub adds : ((front : List Item) → Gathers old.handles.numbers front → Gathers new.handles.numbers (front ++ i ∷ []))
+      → ((items : List Item) → IsTextOf old.xid old.items items → IsTextOf new.xid new.items (items ++ i ∷ []))
+      → Adds Stands old new (i ∷ [])
+  unfolding Adds
+  adds gathers text all (front, items, are, is) = (
+    front,
+    items ++ i ∷ [],
+    ap (λ (l : List Item). l ++ i ∷ []) are ∙ behind-append front items (i ∷ []),
+    record { gathered = subst (Gathers new.handles.numbers) (append_assoc front items (i ∷ [])) (gathers (front ++ items) is.gathered); text = text items is.text },
+  )
 
-module _ (P : Entry → Type 0) (entry : kept.Entry) (one : Entry) (keeps : IsKept entry one) where
-  pub listed_call : (call : KeptCall) → entry ≡ variants.Call call → ((items : List Item) → IsCall call.body.items items → call.id ≡ procedure_in items → P (Call items)) → P one
-  listed_call call is p =
-      let this : IsKept (variants.Call call) one = subst (λ e. IsKept e one) is keeps in
-      subst P (sym this.3) (p this.0 this.1 this.2)
+  pub keeps : ((items : List Item) → Gathers old.handles.numbers items → Gathers new.handles.numbers items)
+      → ((items : List Item) → IsTextOf old.xid old.items items → IsTextOf new.xid new.items items) → Keeps Stands old new
+  unfolding Keeps
+  keeps gathers text all (front, items, are, is) = (front, items, are, record { gathered = gathers (front ++ items) is.gathered; text = text items is.text })
 
-pub call_line : (s : Progress) (begun records : ℕ) (entry : kept.Entry) (call : KeptCall) (items : List Item) → entry ≡ variants.Call call → s ≡ progress_after (record { connections = begun; records = records }) entry → call.id ≡ procedure_in items
-    → line s.connections client s.records call.id items ≡ entry_line begun records (Call items)
-call_line s begun records entry call items is stands id =
-    let at : s ≡ record { connections = begun; records = records + 1 } = stands ∙ ap (progress_after (record { connections = begun; records = records })) is in
-    ap (λ (t : Progress). line t.connections client t.records call.id items) at ∙ ap (λ (i : ProcId). line begun client (records + 1) i items) id
+-- the text grows by the item, where the xid was told or the item is no word
+abbrev pub IsLater : Option ℕ → Item → Type 0
+IsLater None (Word name n) = ⊥
+IsLater _ _ = Unit {0}
 
-pub reply_line : (s : Progress) (begun records : ℕ) (entry : kept.Entry) (reply : KeptReply) (items : List Item) → entry ≡ variants.Reply reply → s ≡ progress_after (record { connections = begun; records = records }) entry
-    → line s.connections server s.records reply.id items ≡ entry_line begun records (Reply reply.id items)
-reply_line s begun records entry reply items is stands =
-    let at : s ≡ record { connections = begun; records = records + 1 } = stands ∙ ap (progress_after (record { connections = begun; records = records })) is in
-    ap (λ (t : Progress). line t.connections server t.records reply.id items) at
+abbrev pub IsNoWord : Item → Type 0
+IsNoWord (Word name n) = ⊥
+IsNoWord _ = Unit {0}
 
-module _ (P : Entry → Type 0) (entry : kept.Entry) (one : Entry) (keeps : IsKept entry one) where
+pub no_word : (xid : Option ℕ) (i : Item) → IsNoWord i → IsLater xid i
+no_word None (Word name n) f = absurd f
+no_word None _ f = tt
+no_word (Some x) i f = tt
+
+text_more : (xid : Option ℕ) (old new : List ℕ) (i : Item) → IsLater xid i → Adds TextOf old new (i ∷ []) → (items : List Item) → IsTextOf xid old items → IsTextOf xid new (items ++ i ∷ [])
+unfolding Adds
+text_more None old new (Word name n) later write [] t = absurd later
+text_more (Some x) old new (Word name n) later write [] t = let none : Some x ≡ None = t.0 in absurd cc
+text_more xid old new _ later write [] t = tt
+text_more xid old new i later write (Word name n ∷ items) t = (t.0, write items t.1)
+text_more xid old new i later write (_ ∷ items) t = tt
+
+text_still : (xid : Option ℕ) (old new : List ℕ) → Keeps TextOf old new → (items : List Item) → IsTextOf xid old items → IsTextOf xid new items
+unfolding Keeps
+text_still xid old new kept [] t = (t.0, kept [] t.1)
+text_still xid old new kept (Word name n ∷ items) t = (t.0, kept items t.1)
+text_still xid old new kept (_ ∷ items) t = tt
+
+module _ {S H : Type 0} (writer : LineWriter S H) (text : List ℕ) where
+  abbrev pub with_text : LineWriter S H
+  with_text = record { handles = writer.handles; xid = writer.xid; items = text; head = writer.head }
+
+  pub adds_plain : (i : Item) → handles_in (i ∷ []) ≡ [] → IsLater writer.xid i → Adds TextOf writer.items text (i ∷ []) → Adds Stands writer with_text (i ∷ [])
+  adds_plain i none later write =
+      adds writer with_text i (λ front h. gathers_none writer.handles.numbers front (i ∷ []) none h) (text_more writer.xid writer.items text i later write)
+
+  pub keeps_text : Keeps TextOf writer.items text → Keeps Stands writer with_text
+  keeps_text kept = keeps writer with_text (Word [] 0) (λ items h. h) (text_still writer.xid writer.items text kept)
+
+  -- the text and the table with the handle
+  pub adds_both : (table : List handles.Handle) (name bytes : List ℕ) → text ≡ writer.items ++ shown_item (Opaque Handle name bytes)
+      → Adds Gathers writer.handles.numbers table (Opaque Handle name bytes ∷ [])
+      → Adds Stands writer (record { handles = record { numbers = table }; xid = writer.xid; items = text; head = writer.head }) (Opaque Handle name bytes ∷ [])
+  unfolding Adds
+  adds_both table name bytes is gathers =
+      adds writer (record { handles = record { numbers = table }; xid = writer.xid; items = text; head = writer.head }) (Opaque Handle name bytes) gathers
+      (text_more writer.xid writer.items text (Opaque Handle name bytes) (no_word writer.xid (Opaque Handle name bytes) tt)
+      (λ items t. is ∙ ap (λ (l : List ℕ). l ++ shown_item (Opaque Handle name bytes)) t ∙ sym (flat_map-append shown_item items (Opaque Handle name bytes ∷ []) ∙ ap (λ (l : List ℕ). shown_items items ++ l) (append-nil (shown_item (Opaque Handle name bytes))))))
+
+-- the xid is told
+pub adds_xid : {S H : Type 0} (writer : LineWriter S H) (name : List ℕ) (n : ℕ) → writer.xid ≡ None
+    → Adds Stands writer (record { handles = writer.handles; xid = Some n; items = writer.items; head = writer.head }) (Word name n ∷ [])
+adds_xid writer name n none =
+    adds writer (record { handles = writer.handles; xid = Some n; items = writer.items; head = writer.head }) (Word name n) (λ front h. gathers_none writer.handles.numbers front (Word name n ∷ []) refl h) text
+  where
+    text : (items : List Item) → IsTextOf writer.xid writer.items items → IsTextOf (Some n) writer.items (items ++ Word name n ∷ [])
+    text [] t = (refl, t.1)
+    text (Word other m ∷ items) t = let some : writer.xid ≡ Some m = t.0 in absurd cc
+    text (_ ∷ items) t = tt
+
+-- ---- after an error
+
+pub keeps_same : (old new : List ℕ) → new ≡ old → Keeps TextOf old new
+unfolding Keeps
+keeps_same old new same items t = same ∙ t
+
+both_err : {T E : Type 0} (P Q : Type 0) (r : Result T E) → OnErr r P → OnErr r Q → OnErr r (P × Q)
+both_err P Q (Ok x) p q = tt
+both_err P Q (Err e) p q = (p, q)
+
+module _ {S H : Type 0} (writer : LineWriter S H) (table : List handles.Handle) (new : List ℕ) where
+  abbrev pub with_both : LineWriter S H
+  with_both = record { handles = record { numbers = table }; xid = writer.xid; items = new; head = writer.head }
+
+  kept_both : Keeps Gathers writer.handles.numbers table → new ≡ writer.items → Keeps Stands writer with_both
+  unfolding Keeps
+  kept_both gathers same = keeps writer with_both (Word [] 0) gathers (λ items t. subst (λ (l : List ℕ). IsTextOf writer.xid l items) (sym same) t)
+
+  -- the text is cut where the handle was not added
+  pub settled_err : {T E : Type 0} (written result : Result T E) (between more : List ℕ) (before : ℕ) → result ≡ written → OnErr written (new ≡ take before between) → before ≡ length writer.items → between ≡ writer.items ++ more
+      → OnErr written (Keeps Gathers writer.handles.numbers table) → OnErr result (Keeps Stands writer with_both)
+  settled_err {T = T} {E = E} written result between more before same cut size is kept =
+      subst (λ (r : Result T E). OnErr r (Keeps Stands writer with_both)) (sym same)
+      (still_err written (λ (c : Keeps Gathers writer.handles.numbers table × (new ≡ take before between)). kept_both c.0 (c.1 ∙ ap (λ n. take n between) size ∙ ap (take (length writer.items)) is ∙ take-append_seam writer.items more)) (both_err _ _ written kept cut))
+
+-- ---- an entry's line
+
+pub no_xid : {S H : Type 0} (writer : LineWriter S H) (front rest : List Item) (n : ℕ) → writer.xid ≡ None → Stands writer (behind front (Word names.xid n ∷ rest)) → ⊥
+no_xid writer front rest n none stands =
+    let some : writer.xid ≡ Some n = (is_behind writer front (Word names.xid n ∷ rest) stands).text.0 in
+    absurd cc
+
+pub is_line : {S H : Type 0} (writer : LineWriter S H) (connection : ℕ) (side : List ℕ) (number xid : ℕ) (id : ProcId) (front rest : List Item) (n : ℕ) (head text : List ℕ) → writer.xid ≡ Some xid → Stands writer (behind front (Word names.xid n ∷ rest))
+    → head ≡ prefix connection side number ++ (xid_text xid ++ (32 ∷ procedure_name id)) → text ≡ writer.items ++ 10 ∷ [] → head ++ text ≡ line connection side number id (Word names.xid n ∷ rest)
+is_line writer connection side number xid id front rest n head text told stands head_is text_is =
+    let b = (is_behind writer front (Word names.xid n ∷ rest) stands).text in
+    let some : writer.xid ≡ Some n = b.0 in
+    let same : xid ≡ n = cc in
+    composed connection side number n id rest head text (head_is ∙ ap (λ k. prefix connection side number ++ (xid_text k ++ (32 ∷ procedure_name id))) same) (text_is ∙ ap (λ (l : List ℕ). l ++ 10 ∷ []) b.1)
+
+module _ (P : Entry → Type 0) (entries : List Entry) (one : Entry) (kind : Kind) (of : IsOfKind kind one) (first : AreFirst (entries ++ one ∷ [])) where
+  pub listed_call : (id : ProcId) → kind ≡ kinds.Call id → ((n : ℕ) (rest : List Item) → id ≡ procedure_in (Word names.xid n ∷ rest) → P (Call (Word names.xid n ∷ rest))) → P one
+  listed_call id is p =
+      let (items, asks, this) = subst (λ k. IsOfKind k one) is of in
+      let h = is_headed_call items (subst IsLaidOut this (last_laid entries one first)) in
+      subst P (sym this) (subst (λ (l : List Item). P (Call l)) (sym h.is) (p h.number ((h.start ++ h.head) ++ h.back) (asks ∙ ap procedure_in h.is)))
+
+  pub listed_reply : (id : ProcId) → kind ≡ kinds.Reply id → ((n : ℕ) (rest : List Item) → P (Reply id (Word names.xid n ∷ rest))) → P one
+  listed_reply id is p =
+      let (items, this) = subst (λ k. IsOfKind k one) is of in
+      let h = is_headed_reply id items (subst IsLaidOut this (last_laid entries one first)) in
+      subst P (sym this) (subst (λ (l : List Item). P (Reply id l)) (sym h.is) (p h.number ((h.start ++ h.head) ++ h.back)))
+
   -- any other entry has none
-  pub no_line : (entry ≡ variants.Begin) ⊎ ((entry ≡ variants.Turn) ⊎ ((entry ≡ variants.Close) ⊎ (entry ≡ variants.End))) → P Begin → P Turn → P Close → P End → P one
+  pub no_line : (kind ≡ kinds.Begin) ⊎ ((kind ≡ kinds.Turn) ⊎ ((kind ≡ kinds.Close) ⊎ (kind ≡ kinds.End))) → P Begin → P Turn → P Close → P End → P one
   no_line (inl is) p q r s =
-      let this : one ≡ Begin = subst (λ e. IsKept e one) is keeps in
+      let this : one ≡ Begin = subst (λ k. IsOfKind k one) is of in
       subst P (sym this) p
   no_line (inr (inl is)) p q r s =
-      let this : one ≡ Turn = subst (λ e. IsKept e one) is keeps in
+      let this : one ≡ Turn = subst (λ k. IsOfKind k one) is of in
       subst P (sym this) q
   no_line (inr (inr (inl is))) p q r s =
-      let this : one ≡ Close = subst (λ e. IsKept e one) is keeps in
+      let this : one ≡ Close = subst (λ k. IsOfKind k one) is of in
       subst P (sym this) r
   no_line (inr (inr (inr is))) p q r s =
-      let this : one ≡ End = subst (λ e. IsKept e one) is keeps in
+      let this : one ≡ End = subst (λ k. IsOfKind k one) is of in
       subst P (sym this) s
 
--- ---- one entry more
-
-pub listed_more : {S H : Type 0} (was now : LineWriter S H) (old before after : Option (List ℕ)) (entries : List Entry) (one : Entry) (r : Result Unit Error) → HasListed was entries → Appends old before (shown entries)
-    → AreCounted now.counts (entries ++ one ∷ []) → HasPassed now.progress (entries ++ one ∷ []) → OnOk r (Gathers now.handles.numbers (all_items entries ++ items_of one))
-    → OnOk r (Appends before after (entry_line was.progress.connections was.progress.records one)) → OnErr r (AppendsFront before after (entry_line was.progress.connections was.progress.records one))
-    → HasWrittenOrCut shown HasListed now old after (entries ++ one ∷ []) r
-listed_more was now old before after entries one (Ok u) so_far written counted passed gathered appended cut = record {
-  stands_for = record { counted = counted; gathered = subst (λ (l : List Item). Gathers now.handles.numbers l) (sym (items_behind entries one)) gathered; passed = passed };
-  written = subst (Appends old after) (sym (shown_push entries one was.progress.connections was.progress.records so_far.passed.connections_are so_far.passed.records_are))
-      (Appends-trans old before after (shown entries) (entry_line was.progress.connections was.progress.records one) written appended);
-}
-listed_more was now old before after entries one (Err e) so_far written counted passed gathered appended cut =
-    front_of_second old before after (shown entries) (entry_line was.progress.connections was.progress.records one) (shown (entries ++ one ∷ []))
-    (shown_push entries one was.progress.connections was.progress.records so_far.passed.connections_are so_far.passed.records_are) written cut
+-- one entry more
+pub listed_more : {S H X : Type 0} (now : LineWriter S H) (old between after : Option (List ℕ)) (progress : Progress) (entries : List Entry) (one : Entry) (r : Result X Error) → HasPassed progress entries → Appends old between (shown entries)
+    → Stands now (items_before (entries ++ one ∷ [])) → OnOk r (Appends between after (entry_line progress.connections progress.records one)) → OnErr r (AppendsFront between after (entry_line progress.connections progress.records one))
+    → HasWrittenOrCut shown items_before Stands always now old after (entries ++ one ∷ []) r
+listed_more now old between after progress entries one (Ok x) came written stands appended cut = (
+  tt,
+  stands,
+  subst (Appends old after) (sym (shown_push entries one progress.connections progress.records came.connections_are came.records_are))
+      (Appends-trans old between after (shown entries) (entry_line progress.connections progress.records one) written appended),
+)
+listed_more now old between after progress entries one (Err e) came written stands appended cut =
+    front_of_second old between after (shown entries) (entry_line progress.connections progress.records one) (shown (entries ++ one ∷ []))
+    (shown_push entries one progress.connections progress.records came.connections_are came.records_are) written cut

@@ -1,28 +1,33 @@
 -- What a writer of lines holds.
-use Rattle.std.specs.Prelude.{◌≡◌, ℕ, List, ◌∷◌, ◌++◌, drop, max}
+use Rattle.std.specs.Prelude.{◌≡◌, ℕ, Option, None, Some, List, [], ◌∷◌, ◌++◌, length}
 use Rattle.xdr3.specs.Item.{Item, Word}
-use Rattle.rpc_head.specs.Names.{names}
 use Rattle.capture3.specs.Entry.{Entry}
 use Rattle.canon3.specs.Gathering.{Gathers}
-use Rattle.canon3.specs.Progress.{HasPassed, steps_of}
-use Rattle.canon3.specs.Summing.{all_items, AreCounted, total}
+use Rattle.canon3.specs.Summing.{all_items}
 use Rattle.listing3.specs.declared.line_writer.LineWriter.{LineWriter}
 use Rattle.listing3.specs.Listing.{shown_items}
 
--- these entries were counted and passed, and their handles gathered
-pub record HasListed {S H : Type 0} (writer : LineWriter S H) (entries : List Entry) : Type 0 where
-  pub counted : AreCounted writer.counts entries
-  pub gathered : Gathers writer.handles.numbers (all_items entries)
-  pub passed : HasPassed writer.progress entries
+-- the message up to here: its xid, and the text of the items behind it; nothing is said where it begins with another item
+abbrev pub IsTextOf : Option ℕ → List ℕ → List Item → Type 0
+IsTextOf xid text [] = (xid ≡ None) × (text ≡ [])
+IsTextOf xid text (Word name n ∷ items) = (xid ≡ Some n) × (text ≡ shown_items items)
+IsTextOf xid text _ = Unit {0}
 
--- no more than one for each entry
-abbrev pub listing_steps : {S H : Type 0} → LineWriter S H → ℕ
-listing_steps writer = max (total writer.counts) (steps_of writer.progress)
+-- The items of the messages before stand in front of the message's own, and how many these are in front of all.
+abbrev pub behind : (front items : List Item) → List Item
+behind front items = Word [] (length front) ∷ (front ++ items)
 
--- a line in two pieces: its head, and the text of the items without the first bytes
-abbrev pub pieces : (head text : List ℕ) → ℕ → List ℕ
-pieces head text skip = head ++ drop skip text
+-- a message under way, behind these items
+pub record IsBehind {S H : Type 0} (writer : LineWriter S H) (front items : List Item) : Type 0 where
+  pub gathered : Gathers writer.handles.numbers (front ++ items)
+  pub text : IsTextOf writer.xid writer.items items
 
--- the text of a message's items, of which the first is this xid
-abbrev pub IsTextOf : ℕ → List Item → List ℕ → Type 0
-IsTextOf xid items text = (text ≡ shown_items items) × ((rest : List Item) × (items ≡ Word names.xid xid ∷ rest))
+abbrev pub Stands : {S H : Type 0} → LineWriter S H → List Item → Type 0
+Stands writer all = (front : List Item) × (items : List Item) × (all ≡ behind front items) × IsBehind writer front items
+
+-- what stands for entries whose lines were written
+abbrev pub items_before : List Entry → List Item
+items_before entries = behind (all_items entries) []
+
+abbrev pub always : {S H : Type 0} → LineWriter S H → Type 0
+always writer = Unit {0}

@@ -34,7 +34,7 @@ impl ItemText {
         }
     }
 
-    pub(crate) fn text(&self) -> &[u8]
+    pub(crate) fn bytes(&self) -> &[u8]
         ensures { result.now ≡ self.now }
     {
         self.text.as_slice()
@@ -66,7 +66,7 @@ impl ItemText {
     }
 
     /// Forgets the name where its value was not appended.
-    fn settle(&mut self, before: usize, written: Result<(), AllocError>) -> Result<(), AllocError>
+    pub(crate) fn settle(&mut self, before: usize, written: Result<(), AllocError>) -> Result<(), AllocError>
         ensures result { result ≡ written }
         ensures ok { OnOk written (self.new ≡ self.old) }
         ensures err { OnErr written (self.new ≡ take before self.old) }
@@ -86,7 +86,7 @@ impl ItemText {
         self.settle(before, written)
     }
 
-    fn append_hex(&mut self, name: &'static str, bytes: &[u8]) -> Result<(), AllocError>
+    pub(crate) fn append_hex(&mut self, name: &'static str, bytes: &[u8]) -> Result<(), AllocError>
         requires { length bytes.now ≤ body_limit }
         ensures ok { OnOk result
             (self.new ≡ self.old ++ (opening name.now ++ encode_lower bytes.now)) }

@@ -1,38 +1,43 @@
 // The lines of messages, one after another.
 
-ghost use Rattle.std.specs.Prelude.{◌≡◌, ◌≤◌, ◌++◌, ◌∷◌, ℕ, List, [], codes, decimal, length, IfErr, IfOk, OnErr, OnOk};
+ghost use Rattle.std.specs.Prelude.{◌≡◌, ◌≤◌, ◌<◌, ◌+◌, ◌^◌, ◌++◌, ◌∷◌, ℕ, List, [], codes, decimal, length, IfErr, OnErr, OnOk};
 ghost use Rattle.std.specs.Io.KnownBytes.{Appends};
-ghost use Rattle.xdr3.specs.Item.{Item};
-ghost use Rattle.capture3.specs.Bodies.{IsCall, IsReply};
+ghost use Rattle.xdr3.specs.Item.{Handle as HandleKind, Item, Opaque, Word};
+ghost use Rattle.xdr3.specs.Visit.{Adds, Keeps};
+ghost use Rattle.rpc_head.specs.Names.{names};
 ghost use Rattle.capture3.specs.Device as devices;
 ghost use Rattle.capture3.specs.Entry as spec;
-ghost use Rattle.capture3.specs.Kept.{IsKept};
+ghost use Rattle.capture3.specs.Entry.{items_of};
+ghost use Rattle.capture3.specs.Kept.{IsOfKind};
 ghost use Rattle.canon3.specs.Gathering.{Gathers};
-ghost use Rattle.canon3.specs.Progress.{progress_after};
-ghost use Rattle.canon3.specs.Values.{items_of};
+ghost use Rattle.canon3.specs.Laws.{AreFirst};
+ghost use Rattle.canon3.specs.Passed.{passed_steps};
+ghost use Rattle.canon3.specs.Summing.{all_items};
 ghost use Rattle.canon3.specs.Writing.{CountsWriting, IsOfWriting};
 ghost use Rattle.canon3.specs.Written.{AppendsFront};
-ghost use Rattle.listing3.specs.LineWriter.{HasListed, IsTextOf, listing_steps, pieces};
-ghost use Rattle.listing3.specs.Listing.{client, entry_line, line, opening, prefix, procedure_name, server};
+ghost use Rattle.listing3.specs.LineWriter.{behind, Stands};
+ghost use Rattle.listing3.specs.Listing.{entry_line, line, opening, prefix, procedure_name};
 
 use crate::item_text::ItemText;
 use crate::text::{push_decimal, push_name};
-use canon3::{Counts, EntryWriter, HandleTable, Progress, Sink, Summary, write_all};
-use capture3::{DeviceFailed, Entry, Error, KeptCall, KeptReply};
+use canon3::{EntryWriter, HandleTable, Passed, Sink, write_all};
+use capture3::{DeviceFailed, Error, Kind};
 use procs3::proc_name;
 use rpc_head::ProcId;
 use std::alloc::{AllocError, Global};
 use std::hash::BuildHasher;
+use xdr3::Visit;
 
-/// A writer of one line for each message.
+/// A writer of one line for each message. It gathers the handles of the messages, and holds the text of
+/// one.
 #[derive(Drop)]
 pub(crate) struct LineWriter<S: BuildHasher + Drop> {
-    pub(crate) counts: Counts,
-    pub(crate) progress: Progress,
     pub(crate) handles: HandleTable<S>,
-    // A line up to the procedure's name, and the text of all its items.
-    head: Vec<u8>,
+    // The xid, once it was told, and the text of the items behind it.
+    xid: Option<u32>,
     items: ItemText,
+    // The line up to the procedure's name.
+    head: Vec<u8>,
 }
 
 /// The procedure's name, and `RAW` where it has none.
@@ -45,38 +50,40 @@ fn name_of_procedure(id: ProcId) -> &'static str
     }
 }
 
-/// Appends a line up to the procedure's name, and gives the length of the text of its xid.
+/// Appends a line up to the procedure's name.
 fn push_head(
     out: &mut Vec<u8>,
-    progress: Progress,
+    passed: &Passed,
     side: &'static str,
     xid: u32,
     name: &'static str,
-) -> Result<usize, AllocError>
-    ensures skip { IfOk result (λ skip. skip ≡ length (opening (codes "xid") ++ decimal xid)) }
+) -> Result<(), AllocError>
+    requires { passed_steps passed.now + 1 < 2 ^ 32 }
     ensures ok { OnOk result
         (out.new.items ≡ out.old.items ++
-        (prefix progress.connections side.now progress.records ++
+        (prefix passed.now.progress.connections side.now (passed.now.progress.records + 1) ++
         ((opening (codes "xid") ++ decimal xid) ++ (32 ∷ name.now)))) }
 {
-    push_prefix(out, progress, side)?;
-    let before = out.len();
+    push_prefix(out, passed.connections(), side, passed.records() + 1)?;
     push_xid(out, xid)?;
-    let skip = out.len() - before;
     out.extend_from_slice(b" ")?;
-    out.extend_from_slice(name.as_bytes())?;
-    Ok(skip)
+    out.extend_from_slice(name.as_bytes())
 }
 
-fn push_prefix(out: &mut Vec<u8>, progress: Progress, side: &'static str) -> Result<(), AllocError>
+fn push_prefix(
+    out: &mut Vec<u8>,
+    connection: u32,
+    side: &'static str,
+    number: u32,
+) -> Result<(), AllocError>
     ensures ok { OnOk result
-        (out.new.items ≡ out.old.items ++ prefix progress.connections side.now progress.records) }
+        (out.new.items ≡ out.old.items ++ prefix connection side.now number) }
 {
-    push_decimal(out, u64::from(progress.connections()))?;
+    push_decimal(out, u64::from(connection))?;
     out.extend_from_slice(b" ")?;
     out.extend_from_slice(side.as_bytes())?;
     out.extend_from_slice(b" ")?;
-    push_decimal(out, u64::from(progress.records()))
+    push_decimal(out, u64::from(number))
 }
 
 fn push_xid(out: &mut Vec<u8>, xid: u32) -> Result<(), AllocError>
@@ -102,196 +109,214 @@ fn write_two<W: Sink>(sink: &mut W, first: &[u8], second: &[u8]) -> Result<(), D
 impl<S: BuildHasher + Drop> LineWriter<S> {
     /// Before a capture.
     pub(crate) fn new(alloc: Global, hasher: S) -> LineWriter<S>
-        ensures listed { HasListed result [] }
-        ensures none { listing_steps result ≡ 0 }
+        ensures { Stands result (behind [] []) }
     {
         LineWriter {
-            counts: Counts::new(),
-            progress: Progress::new(),
             handles: HandleTable::new(alloc, hasher),
-            head: Vec::new(alloc),
+            xid: None,
             items: ItemText::new(alloc),
+            head: Vec::new(alloc),
         }
     }
 
-    /// Composes the line of the message whose items' text is there, and gives how many bytes of this text
-    /// are left out.
-    fn compose(&mut self, side: &'static str, xid: u32, id: ProcId) -> Result<usize, AllocError>
-        ensures kept { (self.new.counts ≡ self.old.counts) ×
-            (self.new.progress ≡ self.old.progress) × (self.new.handles ≡ self.old.handles) }
-        ensures within { (items : List Item) → IsTextOf xid items self.old.items
-            → IfOk result (λ skip. skip ≤ length self.new.items) }
-        ensures line { (items : List Item) → IsTextOf xid items self.old.items
-            → IfOk result
-            (λ skip. pieces self.new.head.items self.new.items skip ≡ line
-            self.old.progress.connections side.now self.old.progress.records id
-            items) }
+    /// Begins a message in place of the one before.
+    fn begin_message(&mut self)
+        ensures { (items : List Item) → Gathers self.old.handles.numbers items
+            → Stands self.new (behind items []) }
     {
-        self.items.end_line()?;
+        self.xid = None;
+        self.items.forget();
+    }
+
+    /// Adds the text of a handle, and then the handle.
+    fn add_handle(&mut self, name: &'static str, bytes: &[u8]) -> Result<(), AllocError>
+        requires { length bytes.now ≤ 64 }
+        ensures ok { OnOk result
+            (Adds Stands self.old self.new (Opaque HandleKind name.now bytes.now ∷ [])) }
+        ensures err { OnErr result (Keeps Stands self.old self.new) }
+    {
+        let before = self.items.bytes().len();
+        match self.items.append_hex(name, bytes) {
+            Ok(()) => {
+                let gathered = self.handles.handle(name, bytes);
+                self.items.settle(before, gathered)
+            }
+            Err(error) => Err(error),
+        }
+    }
+
+    /// Composes the line of the message whose items were told.
+    fn compose(
+        &mut self,
+        passed: &Passed,
+        side: &'static str,
+        xid: u32,
+        id: ProcId,
+    ) -> Result<(), AllocError>
+        requires { passed_steps passed.now + 1 < 2 ^ 32 }
+        ensures handles { self.new.handles ≡ self.old.handles }
+        ensures head { OnOk result
+            (self.new.head.items ≡
+            prefix passed.now.progress.connections side.now (passed.now.progress.records + 1)
+            ++ ((opening (codes "xid") ++ decimal xid) ++ (32 ∷ procedure_name id))) }
+        ensures items { OnOk result (self.new.items ≡ self.old.items ++ 10 ∷ []) }
+    {
         self.head.clear();
         push_head(
             &mut self.head,
-            self.progress,
+            passed,
             side,
             xid,
             name_of_procedure(id),
-        )
-    }
-
-    fn compose_call(&mut self, call: &KeptCall) -> Result<usize, AllocError>
-        ensures kept { (self.new.counts ≡ self.old.counts) ×
-            (self.new.progress ≡ self.old.progress) }
-        ensures within { IfOk result (λ skip. skip ≤ length self.new.items) }
-        ensures gathers { (items before : List Item) → IsCall call.now.body.items items
-            → Gathers self.old.handles.numbers before
-            → OnOk result (Gathers self.new.handles.numbers (before ++ items)) }
-        ensures line { (items : List Item) → IsCall call.now.body.items items
-            → IfOk result
-            (λ skip. pieces self.new.head.items self.new.items skip ≡ line
-            self.old.progress.connections client self.old.progress.records call.now.id
-            items) }
-    {
-        call.scan(&mut self.handles)?;
-        self.items.forget();
-        call.scan(&mut self.items)?;
-        self.compose("client", call.xid(), call.id)
-    }
-
-    fn compose_reply(&mut self, reply: &KeptReply) -> Result<usize, AllocError>
-        ensures kept { (self.new.counts ≡ self.old.counts) ×
-            (self.new.progress ≡ self.old.progress) }
-        ensures within { IfOk result (λ skip. skip ≤ length self.new.items) }
-        ensures gathers { (items before : List Item)
-            → IsReply reply.now.body.items (record { id = reply.now.id; items = items })
-            → Gathers self.old.handles.numbers before
-            → OnOk result (Gathers self.new.handles.numbers (before ++ items)) }
-        ensures line { (items : List Item)
-            → IsReply reply.now.body.items (record { id = reply.now.id; items = items })
-            → IfOk result
-            (λ skip. pieces self.new.head.items self.new.items skip ≡ line
-            self.old.progress.connections server self.old.progress.records reply.now.id
-            items) }
-    {
-        reply.scan(&mut self.handles)?;
-        self.items.forget();
-        reply.scan(&mut self.items)?;
-        self.compose("server", reply.xid(), reply.id)
+        )?;
+        self.items.end_line()
     }
 
     /// Hands the composed line to a sink.
-    fn hand_over<W: Sink>(&self, sink: &mut W, skip: usize) -> Result<(), Error>
-        requires { skip ≤ length self.now.items }
+    fn hand_over<W: Sink>(&self, sink: &mut W) -> Result<(), Error>
         ensures ok { OnOk result
             (Appends (W.written sink.old) (W.written sink.new)
-            (pieces self.now.head.items self.now.items skip)) }
+            (self.now.head.items ++ self.now.items)) }
         ensures err { OnErr result
             (AppendsFront (W.written sink.old) (W.written sink.new)
-            (pieces self.now.head.items self.now.items skip)) }
+            (self.now.head.items ++ self.now.items)) }
         ensures count { CountsWriting (W.failures sink.old) (W.failures sink.new) result }
         ensures error { IfErr result (λ error. error ≡ Error.Write) }
     {
-        match write_two(sink, &self.head, &self.items.text()[skip..]) {
+        match write_two(sink, &self.head, self.items.bytes()) {
             Ok(()) => Ok(()),
             Err(_) => Err(Error::Write),
         }
     }
 
-    fn write_call<W: Sink>(&mut self, sink: &mut W, call: &KeptCall) -> Result<(), Error>
-        ensures kept { (self.new.counts ≡ self.old.counts) ×
-            (self.new.progress ≡ self.old.progress) }
-        ensures gathers { (items before : List Item) → IsCall call.now.body.items items
-            → Gathers self.old.handles.numbers before
-            → OnOk result (Gathers self.new.handles.numbers (before ++ items)) }
-        ensures ok { (items : List Item) → IsCall call.now.body.items items
+    /// Writes the line of the message whose items were told. Each message has an xid.
+    fn write_line<W: Sink>(
+        &mut self,
+        passed: &Passed,
+        sink: &mut W,
+        side: &'static str,
+        id: ProcId,
+    ) -> Result<(), Error>
+        requires { passed_steps passed.now + 1 < 2 ^ 32 }
+        ensures handles { self.new.handles ≡ self.old.handles }
+        ensures ok { (front rest : List Item) (n : ℕ)
+            → Stands self.old (behind front (Word names.xid n ∷ rest))
             → OnOk result
             (Appends (W.written sink.old) (W.written sink.new)
-            (line self.old.progress.connections client self.old.progress.records
-            call.now.id items)) }
-        ensures err { (items : List Item) → IsCall call.now.body.items items
+            (line passed.now.progress.connections side.now (passed.now.progress.records + 1) id
+            (Word names.xid n ∷ rest))) }
+        ensures err { (front rest : List Item) (n : ℕ)
+            → Stands self.old (behind front (Word names.xid n ∷ rest))
             → OnErr result
             (AppendsFront (W.written sink.old) (W.written sink.new)
-            (line self.old.progress.connections client self.old.progress.records
-            call.now.id items)) }
+            (line passed.now.progress.connections side.now (passed.now.progress.records + 1) id
+            (Word names.xid n ∷ rest))) }
         ensures count { CountsWriting (W.failures sink.old) (W.failures sink.new) result }
         ensures error { IfErr result IsOfWriting }
     {
-        let skip = self.compose_call(call)?;
-        self.hand_over(sink, skip)
+        let Some(xid) = self.xid else {
+            return Ok(());
+        };
+        match self.compose(passed, side, xid, id) {
+            Ok(()) => self.hand_over(sink),
+            Err(_) => Err(Error::Memory),
+        }
     }
 
-    fn write_reply<W: Sink>(&mut self, sink: &mut W, reply: &KeptReply) -> Result<(), Error>
-        ensures kept { (self.new.counts ≡ self.old.counts) ×
-            (self.new.progress ≡ self.old.progress) }
-        ensures gathers { (items before : List Item)
-            → IsReply reply.now.body.items (record { id = reply.now.id; items = items })
-            → Gathers self.old.handles.numbers before
-            → OnOk result (Gathers self.new.handles.numbers (before ++ items)) }
-        ensures ok { (items : List Item)
-            → IsReply reply.now.body.items (record { id = reply.now.id; items = items })
+    /// Writes the line of an entry that is a message, and whose items were told.
+    fn write_entry<W: Sink>(
+        &mut self,
+        passed: &Passed,
+        sink: &mut W,
+        kind: Kind,
+    ) -> Result<(), Error>
+        requires { passed_steps passed.now + 1 < 2 ^ 32 }
+        ensures handles { self.new.handles ≡ self.old.handles }
+        ensures ok { (entries : List spec.Entry) (one : spec.Entry) → IsOfKind kind one
+            → AreFirst (entries ++ one ∷ [])
+            → Stands self.old (behind (all_items entries) (items_of one))
             → OnOk result
             (Appends (W.written sink.old) (W.written sink.new)
-            (line self.old.progress.connections server self.old.progress.records
-            reply.now.id items)) }
-        ensures err { (items : List Item)
-            → IsReply reply.now.body.items (record { id = reply.now.id; items = items })
+            (entry_line passed.now.progress.connections passed.now.progress.records one)) }
+        ensures err { (entries : List spec.Entry) (one : spec.Entry) → IsOfKind kind one
+            → AreFirst (entries ++ one ∷ [])
+            → Stands self.old (behind (all_items entries) (items_of one))
             → OnErr result
             (AppendsFront (W.written sink.old) (W.written sink.new)
-            (line self.old.progress.connections server self.old.progress.records
-            reply.now.id items)) }
+            (entry_line passed.now.progress.connections passed.now.progress.records one)) }
         ensures count { CountsWriting (W.failures sink.old) (W.failures sink.new) result }
         ensures error { IfErr result IsOfWriting }
     {
-        let skip = self.compose_reply(reply)?;
-        self.hand_over(sink, skip)
-    }
-
-    /// Writes the line of an entry that is a message.
-    fn write_line<W: Sink>(&mut self, sink: &mut W, entry: &Entry) -> Result<(), Error>
-        ensures kept { (self.new.counts ≡ self.old.counts) ×
-            (self.new.progress ≡ self.old.progress) }
-        ensures gathers { (one : spec.Entry) (before : List Item) → IsKept entry.now one
-            → Gathers self.old.handles.numbers before
-            → OnOk result (Gathers self.new.handles.numbers (before ++ items_of one)) }
-        ensures ok { (begun records : ℕ) (one : spec.Entry) → IsKept entry.now one
-            → self.old.progress ≡ progress_after
-            (record { connections = begun; records = records }) entry.now
-            → OnOk result
-            (Appends (W.written sink.old) (W.written sink.new)
-            (entry_line begun records one)) }
-        ensures err { (begun records : ℕ) (one : spec.Entry) → IsKept entry.now one
-            → self.old.progress ≡ progress_after
-            (record { connections = begun; records = records }) entry.now
-            → OnErr result
-            (AppendsFront (W.written sink.old) (W.written sink.new)
-            (entry_line begun records one)) }
-        ensures count { CountsWriting (W.failures sink.old) (W.failures sink.new) result }
-        ensures error { IfErr result IsOfWriting }
-    {
-        match entry {
-            Entry::Call(call) => self.write_call(sink, call),
-            Entry::Reply(reply) => self.write_reply(sink, reply),
-            Entry::Begin | Entry::Turn | Entry::Close | Entry::End => Ok(()),
+        match kind {
+            Kind::Call(id) => self.write_line(passed, sink, "client", id),
+            Kind::Reply(id) => self.write_line(passed, sink, "server", id),
+            Kind::Begin | Kind::Turn | Kind::Close | Kind::End => Ok(()),
         }
     }
 }
 
+#[tactic(auto, unfolding(xdr3::specs::Visit::Adds, xdr3::specs::Visit::Keeps))]
+impl<S: BuildHasher + Drop> Visit for LineWriter<S> {
+    ghost use Rattle.listing3.specs.LineWriter.{Stands};
+
+    ghost stands = { Stands };
+
+    fn word(&mut self, name: &'static str, n: u32) -> Result<(), AllocError> {
+        match self.xid {
+            Some(_) => self.items.word(name, n),
+            None => {
+                self.xid = Some(n);
+                Ok(())
+            }
+        }
+    }
+
+    fn hyper(&mut self, name: &'static str, n: u64) -> Result<(), AllocError> {
+        self.items.hyper(name, n)
+    }
+
+    fn fixed(&mut self, name: &'static str, bytes: &[u8; 8]) -> Result<(), AllocError> {
+        self.items.fixed(name, bytes)
+    }
+
+    fn write_verf(&mut self, name: &'static str, bytes: &[u8; 8]) -> Result<(), AllocError> {
+        self.items.write_verf(name, bytes)
+    }
+
+    fn var(&mut self, name: &'static str, bytes: &[u8]) -> Result<(), AllocError> {
+        self.items.var(name, bytes)
+    }
+
+    fn text(&mut self, name: &'static str, bytes: &[u8]) -> Result<(), AllocError> {
+        self.items.text(name, bytes)
+    }
+
+    fn handle(&mut self, name: &'static str, bytes: &[u8]) -> Result<(), AllocError> {
+        self.add_handle(name, bytes)
+    }
+
+    fn rest(&mut self, name: &'static str, bytes: &[u8]) -> Result<(), AllocError> {
+        self.items.rest(name, bytes)
+    }
+}
+
 impl<S: BuildHasher + Drop> EntryWriter for LineWriter<S> {
-    ghost use Rattle.listing3.specs.LineWriter.{HasListed, listing_steps};
+    ghost use Rattle.listing3.specs.LineWriter.{always, items_before};
     ghost use Rattle.listing3.specs.Listing.{shown};
 
     ghost form = { shown };
 
-    ghost stands = { HasListed };
+    ghost before = { items_before };
 
-    ghost steps = { listing_steps };
+    ghost going = { always };
 
-    fn write<W: Sink>(&mut self, sink: &mut W, entry: &Entry) -> Result<(), Error> {
-        self.counts.add(entry);
-        self.progress.pass(entry);
-        self.write_line(sink, entry)
+    fn write<W: Sink>(&mut self, passed: &Passed, sink: &mut W, kind: Kind) -> Result<(), Error> {
+        let written = self.write_entry(passed, sink, kind);
+        self.begin_message();
+        written
     }
 
-    fn summary(&self) -> Summary {
-        self.counts.summary(self.handles.len())
+    fn handles(&self) -> u32 {
+        self.handles.len()
     }
 }

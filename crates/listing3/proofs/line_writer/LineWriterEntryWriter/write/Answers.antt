@@ -1,16 +1,17 @@
-use Rattle.std.proofs.Common.{[], ◌∷◌, ◌++◌, subst, sym, ◌∙◌}
-use Rattle.canon3.specs.Progress.{HasPassed}
-use Rattle.canon3.specs.Summing.{all_items, AreCounted}
-use Rattle.listing3.proofs.LineLemmas.{listed_more}
-use Rattle.canon3.proofs.ProgressLemmas.{behind_more}
+use Rattle.std.proofs.Common.{List, [], ◌∷◌, ◌++◌, subst, sym}
+use Rattle.xdr3.specs.Item.{Item}
+use Rattle.capture3.specs.Entry.{items_of}
+use Rattle.canon3.specs.Gathering.{Gathers}
+use Rattle.canon3.specs.Summing.{all_items}
+use Rattle.canon3.proofs.Summing.{items_behind}
+use Rattle.listing3.specs.LineWriter.{behind, Stands}
+use Rattle.listing3.proofs.LineLemmas.{behind-append, is_behind, listed_more}
 use Rattle.listing3.proofs.line_writer.LineWriterEntryWriter.write.Goals as goal
 
 pub returns-clause-writes : goal.returns-clause-writes
-returns-clause-writes g c old entries one kept first few so_far =
-    let standing = c.args.self.now.progress in
-    listed_more c.args.self.now c.write_line.new.self old (g.W.Sink.written c.args.sink.now) (g.W.Sink.written c.write_line.new.sink) entries one c.write_line.result so_far.stands_for so_far.written
-    (subst (λ counts. AreCounted counts (entries ++ one ∷ [])) (sym c.write_line.ensures.kept.0) (c.add.ensures.counted one entries kept so_far.stands_for.counted))
-    (subst (λ s. HasPassed s (entries ++ one ∷ [])) (sym (c.write_line.ensures.kept.1 ∙ c.pass.ensures.after)) (behind_more standing entries so_far.stands_for.passed c.args.entry.now one kept))
-    (c.write_line.ensures.gathers one (all_items entries) kept so_far.stands_for.gathered)
-    (c.write_line.ensures.ok standing.connections standing.records one kept c.pass.ensures.after)
-    (c.write_line.ensures.err standing.connections standing.records one kept c.pass.ensures.after)
+returns-clause-writes g c old entries one of first few came told written =
+    let stands = subst (Stands c.args.self.now) (behind-append (all_items entries) [] (items_of one)) told in
+    let gathered = subst (λ t. Gathers t.numbers (all_items entries ++ items_of one)) (sym c.write_entry-written.ensures.handles) (is_behind c.args.self.now (all_items entries) (items_of one) stands).gathered in
+    listed_more c.begin_message.new.self old (g.W.Sink.written c.args.sink.now) (g.W.Sink.written c.write_entry-written.new.sink) c.args.passed.now.progress entries one c.write_entry-written.result came.progress written
+    (subst (λ (l : List Item). Stands c.begin_message.new.self (behind l [])) (sym (items_behind entries one)) (c.begin_message.ensures (all_items entries ++ items_of one) gathered))
+    (c.write_entry-written.ensures.ok entries one of first stands) (c.write_entry-written.ensures.err entries one of first stands)
