@@ -1,10 +1,8 @@
--- Shapes with their parts in a row.
+-- Shapes with their parts in a row, whatever parts of parts they are.
 use Rattle.std.proofs.Common.{◌≡◌, ℕ, List, [], ◌∷◌, ◌++◌, Result, Ok, Err, refl, sym, ap, ◌∙◌, append_assoc}
 use Rattle.std.proofs.lemmas.List.{append-nil}
-use Rattle.xdr3.specs.declared.plain.PlainField.{PlainField}
 use Rattle.xdr3.specs.declared.reason.GetError.{GetError}
 use Rattle.xdr3.specs.Item.{Item}
-use Rattle.xdr3.specs.Plain.{run_shape}
 use Rattle.xdr3.specs.Reading.{Outcome, ◌>>=◌, reading}
 use Rattle.xdr3.specs.Scan.{Scans, Stops}
 use Rattle.xdr3.specs.Shape.{Shape, both, choose, counted, fixed, hyper, linked, nothing, opaque, sized, write_verf}
@@ -82,13 +80,16 @@ pub flat_reads : (shape : Shape) (body : List ℕ) (at : ℕ) → reading (flat 
 unfolding reading
 flat_reads shape body at = sym (flat_then_reads shape nothing body at) ∙ glue_last (reading shape body at)
 
--- ---- scans of a shape whose parts are plain fields
+-- ---- scans of a shape by that of its parts in a row
 
-pub run_scans_shape : {V : Type 0} (stands : V → List Item → Type 0) (shape : Shape) (all : List PlainField) (v0 v1 : View) (s0 s1 : V) → flat shape ≡ run_shape all → Scans stands (run_shape all) v0 v1 s0 s1 → Scans stands shape v0 v1 s0 s1
+pub flat_scans : {V : Type 0} (stands : V → List Item → Type 0) (shape row : Shape) (v0 v1 : View) (s0 s1 : V) → Scans stands row v0 v1 s0 s1 → flat shape ≡ row → Scans stands shape v0 v1 s0 s1
 unfolding Scans
-run_scans_shape stands shape all v0 v1 s0 s1 same h =
+flat_scans stands shape row v0 v1 s0 s1 h same =
     (h.0, sym (flat_reads shape v0.body v0.at) ∙ ap (λ (s : Shape). reading s v0.body v0.at) same ∙ h.1, h.2, h.3)
 
-pub run_stops_shape : (shape : Shape) (all : List PlainField) (v0 : View) (error : GetError) → flat shape ≡ run_shape all → Stops (run_shape all) v0 error → Stops shape v0 error
+pub flat_stops : (shape row : Shape) (v0 : View) (error : GetError) → Stops row v0 error → flat shape ≡ row → Stops shape v0 error
 unfolding Stops
-run_stops_shape shape all v0 error same h = λ stop is. sym (flat_reads shape v0.body v0.at) ∙ ap (λ (s : Shape). reading s v0.body v0.at) same ∙ h stop is
+flat_stops shape row v0 error h same = λ stop is. sym (flat_reads shape v0.body v0.at) ∙ ap (λ (s : Shape). reading s v0.body v0.at) same ∙ h stop is
+
+-- how a scan follows from that of the shape's parts in a row
+pub ruleset flats = (flat_scans, flat_stops)
