@@ -76,7 +76,7 @@ impl Scan for PostOpFh {
 /// A time, an nfstime3 (RFC 1813, section 2.5). Its words are named after the time that it is.
 #[inline]
 #[tactic(auto, using(xdr3::proofs::ScanLemmas::scans), unfolding(crate::specs::Shapes::time))]
-pub fn scan_time<V: Visit>(
+fn scan_time<V: Visit>(
     sec: &'static str,
     nsec: &'static str,
     input: &mut Input,
