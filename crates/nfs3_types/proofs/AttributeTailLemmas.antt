@@ -4,16 +4,16 @@ use Rattle.xdr3.specs.declared.reason.GetError.{GetError}
 use Rattle.xdr3.specs.Item.{Item}
 use Rattle.xdr3.specs.Scan.{Scans, Stops}
 use Rattle.xdr3.specs.View.{View}
-use Rattle.nfs3_types.specs.AttributeTails.{attributes_from_fsid, attributes_from_size, attributes_from_type, attributes_from_uid, settable_times}
-use Rattle.nfs3_types.specs.Shapes.{attributes, ◌then◌, time_how}
+use Rattle.nfs3_types.specs.AttributeTails.{behind_type, settable_times}
+use Rattle.nfs3_types.specs.Shapes.{attributes, file_kind, ◌then◌, time_how}
 use Rattle.nfs3_types.specs.Names.{names}
 
-pub attributes_scanned : {V : Type 0} (stands : V → List Item → Type 0) (v0 v1 : View) (s0 s1 : V) → Scans stands attributes_from_type v0 v1 s0 s1 → Scans stands attributes v0 v1 s0 s1
-unfolding attributes_from_type attributes_from_uid attributes_from_size attributes_from_fsid attributes
+pub attributes_scanned : {V : Type 0} (stands : V → List Item → Type 0) (v0 v1 : View) (s0 s1 : V) → Scans stands (file_kind then behind_type) v0 v1 s0 s1 → Scans stands attributes v0 v1 s0 s1
+unfolding behind_type attributes
 attributes_scanned stands v0 v1 s0 s1 h = h
 
-pub attributes_stop : (v0 : View) (error : GetError) → Stops attributes_from_type v0 error → Stops attributes v0 error
-unfolding attributes_from_type attributes_from_uid attributes_from_size attributes_from_fsid attributes
+pub attributes_stop : (v0 : View) (error : GetError) → Stops (file_kind then behind_type) v0 error → Stops attributes v0 error
+unfolding behind_type attributes
 attributes_stop v0 error h = h
 
 pub ruleset whole_attributes = (attributes_scanned, attributes_stop)

@@ -19,7 +19,7 @@ pub use attributes::{Fattr, PostOpAttr, Wcc, WccAttr};
 pub use directory::{DirOp, PostOpFh};
 pub use handle::Handle;
 pub use kind::FileKind;
-pub use scan::{scan_path, scan_time};
+pub use scan::scan_path;
 pub use settable::{Guard, Sattr};
 pub use stable::Stable;
 pub use status::{Failure, Res, Status};

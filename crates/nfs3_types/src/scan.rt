@@ -1,7 +1,7 @@
 // Parts that a visitor is told as they are read (RFC 1813, sections 2.5, 2.6 and 5).
 
 ghost use Rattle.std.specs.Prelude.{IfErr, OnOk};
-ghost use Rattle.nfs3_types.specs.AttributeTails.{attributes_from_fsid, attributes_from_size, attributes_from_type, attributes_from_uid, settable_times};
+ghost use Rattle.nfs3_types.specs.AttributeTails.{behind_type, settable_times};
 ghost use Rattle.nfs3_types.specs.Shapes as shapes;
 ghost use Rattle.xdr3.specs.Item.{Text};
 ghost use Rattle.xdr3.specs.Scan.{Scans, Stops};
@@ -15,8 +15,8 @@ use crate::settable::{Guard, Sattr};
 use crate::status::Res;
 use crate::void::Void;
 use xdr3::{
-    GetError, Input, Scan, Visit, scan_boolean, scan_counted, scan_handle, scan_hyper, scan_linked,
-    scan_listed, scan_optional, scan_text, scan_word,
+    GetError, Input, PlainField, Scan, Visit, scan_boolean, scan_counted, scan_handle, scan_hyper,
+    scan_linked, scan_listed, scan_optional, scan_plain, scan_text, scan_word,
 };
 
 impl Scan for Void {
@@ -76,7 +76,7 @@ impl Scan for PostOpFh {
 /// A time, an nfstime3 (RFC 1813, section 2.5). Its words are named after the time that it is.
 #[inline]
 #[tactic(auto, using(xdr3::proofs::ScanLemmas::scans), unfolding(crate::specs::Shapes::time))]
-pub fn scan_time<V: Visit>(
+fn scan_time<V: Visit>(
     sec: &'static str,
     nsec: &'static str,
     input: &mut Input,
@@ -91,80 +91,47 @@ pub fn scan_time<V: Visit>(
     Ok(())
 }
 
-/// The three times of a file's attributes (RFC 1813, section 2.5).
-#[inline]
-#[tactic(auto, using(xdr3::proofs::ScanLemmas::scans), unfolding(crate::specs::Shapes::times, crate::specs::Names::names))]
-fn scan_times<V: Visit>(input: &mut Input, visitor: &mut V) -> Result<(), GetError>
-    ensures ok { OnOk result
-        (Scans V.stands shapes.times input.old input.new visitor.old visitor.new) }
-    ensures err { IfErr result (λ error. Stops shapes.times input.old error) }
-{
-    scan_time("atime_sec", "atime_nsec", input, visitor)?;
-    scan_time("mtime_sec", "mtime_nsec", input, visitor)?;
-    scan_time("ctime_sec", "ctime_nsec", input, visitor)
-}
+/// The attributes behind a file's type (RFC 1813, section 2.5).
+const ATTRIBUTES: [PlainField; 16] = [
+    PlainField::Word("mode"),
+    PlainField::Word("nlink"),
+    PlainField::Word("uid"),
+    PlainField::Word("gid"),
+    PlainField::Hyper("size"),
+    PlainField::Hyper("used"),
+    PlainField::Word("rdev1"),
+    PlainField::Word("rdev2"),
+    PlainField::Hyper("fsid"),
+    PlainField::Hyper("fileid"),
+    PlainField::Word("atime_sec"),
+    PlainField::Word("atime_nsec"),
+    PlainField::Word("mtime_sec"),
+    PlainField::Word("mtime_nsec"),
+    PlainField::Word("ctime_sec"),
+    PlainField::Word("ctime_nsec"),
+];
 
 impl Scan for Fattr {
     ghost use Rattle.nfs3_types.specs.Shapes.{attributes};
 
     ghost shape = { attributes };
 
-    #[tactic(auto, using(crate::proofs::AttributeTailLemmas::whole_attributes))]
+    #[tactic(auto, using(xdr3::proofs::ScanLemmas::scans, crate::proofs::AttributeTailLemmas::whole_attributes), unfolding(crate::specs::Shapes::file_kind, crate::specs::Names::names))]
     fn scan<V: Visit>(input: &mut Input, visitor: &mut V) -> Result<(), GetError> {
-        scan_from_type(input, visitor)
+        scan_listed("type", &[1, 2, 3, 4, 5, 6, 7], input, visitor)?;
+        scan_behind_type(input, visitor)
     }
 }
 
-/// All of a file's attributes. Four functions share them, since the prover follows five items in a row.
 #[inline]
-#[tactic(auto, using(xdr3::proofs::ScanLemmas::scans), unfolding(crate::specs::AttributeTails::attributes_from_type, crate::specs::Shapes::file_kind, crate::specs::Names::names))]
-fn scan_from_type<V: Visit>(input: &mut Input, visitor: &mut V) -> Result<(), GetError>
-    ensures ok { OnOk result (Scans V.stands attributes_from_type input.old input.new
-        visitor.old visitor.new) }
-    ensures err { IfErr result (λ error. Stops attributes_from_type input.old error) }
+#[tactic(auto, using(xdr3::proofs::FlatLemmas::flats), unfolding(crate::specs::AttributeTails::behind_type, crate::specs::Shapes::times, crate::specs::Shapes::time, crate::specs::Names::names))]
+fn scan_behind_type<V: Visit>(input: &mut Input, visitor: &mut V) -> Result<(), GetError>
+    ensures ok { OnOk result
+        (Scans V.stands behind_type input.old input.new visitor.old visitor.new) }
+    ensures err { IfErr result (λ error. Stops behind_type input.old error) }
 {
-    scan_listed("type", &[1, 2, 3, 4, 5, 6, 7], input, visitor)?;
-    scan_word("mode", input, visitor)?;
-    scan_word("nlink", input, visitor)?;
-    scan_from_uid(input, visitor)
-}
-
-#[inline]
-#[tactic(auto, using(xdr3::proofs::ScanLemmas::scans), unfolding(crate::specs::AttributeTails::attributes_from_uid, crate::specs::Names::names))]
-fn scan_from_uid<V: Visit>(input: &mut Input, visitor: &mut V) -> Result<(), GetError>
-    ensures ok { OnOk result (Scans V.stands attributes_from_uid input.old input.new
-        visitor.old visitor.new) }
-    ensures err { IfErr result (λ error. Stops attributes_from_uid input.old error) }
-{
-    scan_word("uid", input, visitor)?;
-    scan_word("gid", input, visitor)?;
-    scan_from_size(input, visitor)
-}
-
-#[inline]
-#[tactic(auto, using(xdr3::proofs::ScanLemmas::scans), unfolding(crate::specs::AttributeTails::attributes_from_size, crate::specs::Names::names))]
-fn scan_from_size<V: Visit>(input: &mut Input, visitor: &mut V) -> Result<(), GetError>
-    ensures ok { OnOk result (Scans V.stands attributes_from_size input.old input.new
-        visitor.old visitor.new) }
-    ensures err { IfErr result (λ error. Stops attributes_from_size input.old error) }
-{
-    scan_hyper("size", input, visitor)?;
-    scan_hyper("used", input, visitor)?;
-    scan_word("rdev1", input, visitor)?;
-    scan_word("rdev2", input, visitor)?;
-    scan_from_fsid(input, visitor)
-}
-
-#[inline]
-#[tactic(auto, using(xdr3::proofs::ScanLemmas::scans), unfolding(crate::specs::AttributeTails::attributes_from_fsid, crate::specs::Names::names))]
-fn scan_from_fsid<V: Visit>(input: &mut Input, visitor: &mut V) -> Result<(), GetError>
-    ensures ok { OnOk result (Scans V.stands attributes_from_fsid input.old input.new
-        visitor.old visitor.new) }
-    ensures err { IfErr result (λ error. Stops attributes_from_fsid input.old error) }
-{
-    scan_hyper("fsid", input, visitor)?;
-    scan_hyper("fileid", input, visitor)?;
-    scan_times(input, visitor)
+    scan_plain(&ATTRIBUTES, 80, input, visitor)?;
+    Ok(())
 }
 
 impl Scan for PostOpAttr {
@@ -178,16 +145,23 @@ impl Scan for PostOpAttr {
     }
 }
 
+/// A file's attributes before a change (RFC 1813, section 2.6).
+const ATTRIBUTES_BEFORE: [PlainField; 5] = [
+    PlainField::Hyper("size"),
+    PlainField::Word("mtime_sec"),
+    PlainField::Word("mtime_nsec"),
+    PlainField::Word("ctime_sec"),
+    PlainField::Word("ctime_nsec"),
+];
+
 impl Scan for WccAttr {
     ghost use Rattle.nfs3_types.specs.Shapes.{wcc_attr};
 
     ghost shape = { wcc_attr };
 
-    #[tactic(auto, using(xdr3::proofs::ScanLemmas::scans), unfolding(crate::specs::Shapes::wcc_attr, crate::specs::Names::names))]
     fn scan<V: Visit>(input: &mut Input, visitor: &mut V) -> Result<(), GetError> {
-        scan_hyper("size", input, visitor)?;
-        scan_time("mtime_sec", "mtime_nsec", input, visitor)?;
-        scan_time("ctime_sec", "ctime_nsec", input, visitor)
+        scan_plain(&ATTRIBUTES_BEFORE, 24, input, visitor)?;
+        Ok(())
     }
 }
 

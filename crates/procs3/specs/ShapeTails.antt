@@ -14,26 +14,27 @@ write_parts = handle then hyper names.offset then word names.count then written
 unfoldable pub directory_counts : Shape
 directory_counts = word names.dircount then word names.maxcount
 
-unfoldable pub fsstat_files : Shape
-fsstat_files = hyper names.tfiles then hyper names.ffiles then hyper names.afiles then word names.invarsec
+unfoldable pub range : Shape
+range = hyper names.offset then word names.count
 
-unfoldable pub fsstat_bytes : Shape
-fsstat_bytes = hyper names.tbytes then hyper names.fbytes then hyper names.abytes then fsstat_files
+unfoldable pub range_parts : Shape
+range_parts = handle then range
+
+unfoldable pub fsstat_numbers : Shape
+fsstat_numbers =
+    hyper names.tbytes then hyper names.fbytes then hyper names.abytes
+    then hyper names.tfiles then hyper names.ffiles then hyper names.afiles then word names.invarsec
 
 unfoldable pub fsstat_parts : Shape
-fsstat_parts = post_op_attr then fsstat_bytes
+fsstat_parts = post_op_attr then fsstat_numbers
 
-unfoldable pub fsinfo_limits : Shape
-fsinfo_limits = word names.dtpref then hyper names.maxfilesize then time names.delta_sec names.delta_nsec then word names.properties
-
-unfoldable pub fsinfo_writes : Shape
-fsinfo_writes = word names.wtmax then word names.wtpref then word names.wtmult then fsinfo_limits
-
-unfoldable pub fsinfo_reads : Shape
-fsinfo_reads = word names.rtmax then word names.rtpref then word names.rtmult then fsinfo_writes
+unfoldable pub fsinfo_numbers : Shape
+fsinfo_numbers =
+    word names.rtmax then word names.rtpref then word names.rtmult then word names.wtmax then word names.wtpref then word names.wtmult
+    then word names.dtpref then hyper names.maxfilesize then time names.delta_sec names.delta_nsec then word names.properties
 
 unfoldable pub fsinfo_parts : Shape
-fsinfo_parts = post_op_attr then fsinfo_reads
+fsinfo_parts = post_op_attr then fsinfo_numbers
 
 unfoldable pub pathconf_names : Shape
 pathconf_names = boolean names.no_trunc then boolean names.chown_restricted then boolean names.case_insensitive then boolean names.case_preserving

@@ -1,7 +1,7 @@
 // Arguments and results that a visitor is told as they are read (RFC 1813, sections 3.3 and 5.2).
 
 ghost use Rattle.std.specs.Prelude.{IfErr, OnOk};
-ghost use Rattle.procs3.specs.ShapeTails.{directory_counts, fsinfo_limits, fsinfo_parts, fsinfo_reads, fsinfo_writes, fsstat_bytes, fsstat_files, fsstat_parts, pathconf_limits, pathconf_names, pathconf_parts, write_parts, written};
+ghost use Rattle.procs3.specs.ShapeTails.{directory_counts, fsinfo_numbers, fsinfo_parts, fsstat_numbers, fsstat_parts, pathconf_limits, pathconf_names, pathconf_parts, range, range_parts, write_parts, written};
 ghost use Rattle.xdr3.specs.Scan.{Scans, Stops};
 
 use crate::creation::{
@@ -18,14 +18,13 @@ use crate::files::{
 use crate::mounts::{DirPath, MountRes};
 use crate::scan_items::{
     scan_case_insensitive, scan_case_preserving, scan_chown_restricted, scan_committed,
-    scan_cookieverf, scan_createverf, scan_delta, scan_invarsec, scan_maxfilesize, scan_name_max,
-    scan_properties,
+    scan_cookieverf, scan_createverf, scan_name_max,
 };
 use nfs3_types::mount3::MountOk;
 use nfs3_types::{DirOp, Guard, Handle, PostOpAttr, PostOpFh, Sattr, Wcc, scan_path};
 use xdr3::{
-    GetError, Input, Scan, Visit, scan_boolean, scan_hyper, scan_linked, scan_listed, scan_text,
-    scan_var, scan_word, scan_write_verf,
+    GetError, Input, PlainField, Scan, Visit, scan_boolean, scan_hyper, scan_linked, scan_listed,
+    scan_plain, scan_text, scan_var, scan_word, scan_write_verf,
 };
 
 // ---- files (RFC 1813, sections 3.3.2 to 3.3.7 and 3.3.21)
@@ -90,13 +89,34 @@ impl Scan for FileRange {
 
     ghost shape = { file_range };
 
-    #[tactic(auto, using(xdr3::proofs::ScanLemmas::scans), unfolding(crate::specs::Shapes::file_range, nfs3_types::specs::Names::names))]
+    #[tactic(auto, using(crate::proofs::ShapeTailLemmas::ranges))]
     fn scan<V: Visit>(input: &mut Input, visitor: &mut V) -> Result<(), GetError> {
-        Handle::scan(input, visitor)?;
-        scan_hyper("offset", input, visitor)?;
-        scan_word("count", input, visitor)?;
-        Ok(())
+        scan_range_parts(input, visitor)
     }
+}
+
+#[inline]
+#[tactic(auto, using(xdr3::proofs::ScanLemmas::scans), unfolding(crate::specs::ShapeTails::range_parts))]
+fn scan_range_parts<V: Visit>(input: &mut Input, visitor: &mut V) -> Result<(), GetError>
+    ensures ok { OnOk result
+        (Scans V.stands range_parts input.old input.new visitor.old visitor.new) }
+    ensures err { IfErr result (λ error. Stops range_parts input.old error) }
+{
+    Handle::scan(input, visitor)?;
+    scan_range(input, visitor)
+}
+
+/// A range of a file (RFC 1813, sections 3.3.6, 3.3.7 and 3.3.21).
+const RANGE: [PlainField; 2] = [PlainField::Hyper("offset"), PlainField::Word("count")];
+
+#[inline]
+#[tactic(auto, using(xdr3::proofs::FlatLemmas::flats), unfolding(crate::specs::ShapeTails::range, nfs3_types::specs::Names::names))]
+fn scan_range<V: Visit>(input: &mut Input, visitor: &mut V) -> Result<(), GetError>
+    ensures ok { OnOk result (Scans V.stands range input.old input.new visitor.old visitor.new) }
+    ensures err { IfErr result (λ error. Stops range input.old error) }
+{
+    scan_plain(&RANGE, 12, input, visitor)?;
+    Ok(())
 }
 
 impl<'a> Scan for ReadOk<'a> {
@@ -505,40 +525,36 @@ impl Scan for FsStatOk {
 }
 
 #[inline]
-#[tactic(auto, using(xdr3::proofs::ScanLemmas::scans), unfolding(crate::specs::ShapeTails::fsstat_parts, nfs3_types::specs::Names::names))]
+#[tactic(auto, using(xdr3::proofs::ScanLemmas::scans), unfolding(crate::specs::ShapeTails::fsstat_parts))]
 fn scan_fsstat_parts<V: Visit>(input: &mut Input, visitor: &mut V) -> Result<(), GetError>
     ensures ok { OnOk result
         (Scans V.stands fsstat_parts input.old input.new visitor.old visitor.new) }
     ensures err { IfErr result (λ error. Stops fsstat_parts input.old error) }
 {
     PostOpAttr::scan(input, visitor)?;
-    scan_fsstat_bytes(input, visitor)
+    scan_fsstat_numbers(input, visitor)
 }
 
-#[inline]
-#[tactic(auto, using(xdr3::proofs::ScanLemmas::scans), unfolding(crate::specs::ShapeTails::fsstat_bytes, nfs3_types::specs::Names::names))]
-fn scan_fsstat_bytes<V: Visit>(input: &mut Input, visitor: &mut V) -> Result<(), GetError>
-    ensures ok { OnOk result
-        (Scans V.stands fsstat_bytes input.old input.new visitor.old visitor.new) }
-    ensures err { IfErr result (λ error. Stops fsstat_bytes input.old error) }
-{
-    scan_hyper("tbytes", input, visitor)?;
-    scan_hyper("fbytes", input, visitor)?;
-    scan_hyper("abytes", input, visitor)?;
-    scan_fsstat_files(input, visitor)
-}
+/// The numbers of an FSSTAT3resok (RFC 1813, section 3.3.18).
+const FSSTAT: [PlainField; 7] = [
+    PlainField::Hyper("tbytes"),
+    PlainField::Hyper("fbytes"),
+    PlainField::Hyper("abytes"),
+    PlainField::Hyper("tfiles"),
+    PlainField::Hyper("ffiles"),
+    PlainField::Hyper("afiles"),
+    PlainField::Word("invarsec"),
+];
 
 #[inline]
-#[tactic(auto, using(xdr3::proofs::ScanLemmas::scans), unfolding(crate::specs::ShapeTails::fsstat_files, nfs3_types::specs::Names::names))]
-fn scan_fsstat_files<V: Visit>(input: &mut Input, visitor: &mut V) -> Result<(), GetError>
+#[tactic(auto, using(xdr3::proofs::FlatLemmas::flats), unfolding(crate::specs::ShapeTails::fsstat_numbers, nfs3_types::specs::Names::names))]
+fn scan_fsstat_numbers<V: Visit>(input: &mut Input, visitor: &mut V) -> Result<(), GetError>
     ensures ok { OnOk result
-        (Scans V.stands fsstat_files input.old input.new visitor.old visitor.new) }
-    ensures err { IfErr result (λ error. Stops fsstat_files input.old error) }
+        (Scans V.stands fsstat_numbers input.old input.new visitor.old visitor.new) }
+    ensures err { IfErr result (λ error. Stops fsstat_numbers input.old error) }
 {
-    scan_hyper("tfiles", input, visitor)?;
-    scan_hyper("ffiles", input, visitor)?;
-    scan_hyper("afiles", input, visitor)?;
-    scan_invarsec(input, visitor)
+    scan_plain(&FSSTAT, 52, input, visitor)?;
+    Ok(())
 }
 
 impl Scan for FsInfoOk {
@@ -553,53 +569,40 @@ impl Scan for FsInfoOk {
 }
 
 #[inline]
-#[tactic(auto, using(xdr3::proofs::ScanLemmas::scans), unfolding(crate::specs::ShapeTails::fsinfo_parts, nfs3_types::specs::Names::names))]
+#[tactic(auto, using(xdr3::proofs::ScanLemmas::scans), unfolding(crate::specs::ShapeTails::fsinfo_parts))]
 fn scan_fsinfo_parts<V: Visit>(input: &mut Input, visitor: &mut V) -> Result<(), GetError>
     ensures ok { OnOk result
         (Scans V.stands fsinfo_parts input.old input.new visitor.old visitor.new) }
     ensures err { IfErr result (λ error. Stops fsinfo_parts input.old error) }
 {
     PostOpAttr::scan(input, visitor)?;
-    scan_fsinfo_reads(input, visitor)
+    scan_fsinfo_numbers(input, visitor)
 }
 
-#[inline]
-#[tactic(auto, using(xdr3::proofs::ScanLemmas::scans), unfolding(crate::specs::ShapeTails::fsinfo_reads, nfs3_types::specs::Names::names))]
-fn scan_fsinfo_reads<V: Visit>(input: &mut Input, visitor: &mut V) -> Result<(), GetError>
-    ensures ok { OnOk result
-        (Scans V.stands fsinfo_reads input.old input.new visitor.old visitor.new) }
-    ensures err { IfErr result (λ error. Stops fsinfo_reads input.old error) }
-{
-    scan_word("rtmax", input, visitor)?;
-    scan_word("rtpref", input, visitor)?;
-    scan_word("rtmult", input, visitor)?;
-    scan_fsinfo_writes(input, visitor)
-}
+/// The numbers of an FSINFO3resok (RFC 1813, section 3.3.19).
+const FSINFO: [PlainField; 11] = [
+    PlainField::Word("rtmax"),
+    PlainField::Word("rtpref"),
+    PlainField::Word("rtmult"),
+    PlainField::Word("wtmax"),
+    PlainField::Word("wtpref"),
+    PlainField::Word("wtmult"),
+    PlainField::Word("dtpref"),
+    PlainField::Hyper("maxfilesize"),
+    PlainField::Word("delta_sec"),
+    PlainField::Word("delta_nsec"),
+    PlainField::Word("properties"),
+];
 
 #[inline]
-#[tactic(auto, using(xdr3::proofs::ScanLemmas::scans), unfolding(crate::specs::ShapeTails::fsinfo_writes, nfs3_types::specs::Names::names))]
-fn scan_fsinfo_writes<V: Visit>(input: &mut Input, visitor: &mut V) -> Result<(), GetError>
+#[tactic(auto, using(xdr3::proofs::FlatLemmas::flats), unfolding(crate::specs::ShapeTails::fsinfo_numbers, nfs3_types::specs::Shapes::time, nfs3_types::specs::Names::names))]
+fn scan_fsinfo_numbers<V: Visit>(input: &mut Input, visitor: &mut V) -> Result<(), GetError>
     ensures ok { OnOk result
-        (Scans V.stands fsinfo_writes input.old input.new visitor.old visitor.new) }
-    ensures err { IfErr result (λ error. Stops fsinfo_writes input.old error) }
+        (Scans V.stands fsinfo_numbers input.old input.new visitor.old visitor.new) }
+    ensures err { IfErr result (λ error. Stops fsinfo_numbers input.old error) }
 {
-    scan_word("wtmax", input, visitor)?;
-    scan_word("wtpref", input, visitor)?;
-    scan_word("wtmult", input, visitor)?;
-    scan_fsinfo_limits(input, visitor)
-}
-
-#[inline]
-#[tactic(auto, using(xdr3::proofs::ScanLemmas::scans), unfolding(crate::specs::ShapeTails::fsinfo_limits, nfs3_types::specs::Names::names))]
-fn scan_fsinfo_limits<V: Visit>(input: &mut Input, visitor: &mut V) -> Result<(), GetError>
-    ensures ok { OnOk result
-        (Scans V.stands fsinfo_limits input.old input.new visitor.old visitor.new) }
-    ensures err { IfErr result (λ error. Stops fsinfo_limits input.old error) }
-{
-    scan_word("dtpref", input, visitor)?;
-    scan_maxfilesize(input, visitor)?;
-    scan_delta(input, visitor)?;
-    scan_properties(input, visitor)
+    scan_plain(&FSINFO, 48, input, visitor)?;
+    Ok(())
 }
 
 impl Scan for PathConfOk {

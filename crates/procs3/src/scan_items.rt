@@ -3,15 +3,11 @@
 
 ghost use Rattle.std.specs.Prelude.{IfErr, IfOk, OnOk};
 ghost use Rattle.nfs3_types.specs.Names.{names};
-ghost use Rattle.nfs3_types.specs.Shapes.{time};
 ghost use Rattle.nfs3_types.specs.Stable.{stable_words};
 ghost use Rattle.xdr3.specs.Scan.{Scans, ScansWord, Stops, StopsWord};
-ghost use Rattle.xdr3.specs.Shape.{boolean, fixed, hyper, is_listed, word};
+ghost use Rattle.xdr3.specs.Shape.{boolean, fixed, is_listed, word};
 
-use nfs3_types::scan_time;
-use xdr3::{
-    GetError, Input, Reason, Visit, scan_boolean, scan_fixed, scan_hyper, scan_listed, scan_word,
-};
+use xdr3::{GetError, Input, Reason, Visit, scan_boolean, scan_fixed, scan_listed, scan_word};
 
 #[inline]
 #[tactic(auto, using(xdr3::proofs::ScanLemmas::scans), unfolding(nfs3_types::specs::Names::names))]
@@ -35,56 +31,12 @@ pub(crate) fn scan_cookieverf<V: Visit>(input: &mut Input, visitor: &mut V) -> R
 
 #[inline]
 #[tactic(auto, using(xdr3::proofs::ScanLemmas::scans), unfolding(nfs3_types::specs::Names::names))]
-pub(crate) fn scan_maxfilesize<V: Visit>(input: &mut Input, visitor: &mut V) -> Result<(), GetError>
-    ensures ok { OnOk result
-        (Scans V.stands (hyper names.maxfilesize) input.old input.new visitor.old visitor.new) }
-    ensures err { IfErr result (λ error. Stops (hyper names.maxfilesize) input.old error) }
-{
-    scan_hyper("maxfilesize", input, visitor)
-}
-
-#[inline]
-#[tactic(auto, using(xdr3::proofs::ScanLemmas::scans), unfolding(nfs3_types::specs::Names::names))]
-pub(crate) fn scan_delta<V: Visit>(input: &mut Input, visitor: &mut V) -> Result<(), GetError>
-    ensures ok { OnOk result
-        (Scans V.stands (time names.delta_sec names.delta_nsec) input.old input.new visitor.old
-        visitor.new) }
-    ensures err { IfErr result
-        (λ error. Stops (time names.delta_sec names.delta_nsec) input.old error) }
-{
-    scan_time("delta_sec", "delta_nsec", input, visitor)
-}
-
-#[inline]
-#[tactic(auto, using(xdr3::proofs::ScanLemmas::scans), unfolding(nfs3_types::specs::Names::names))]
-pub(crate) fn scan_invarsec<V: Visit>(input: &mut Input, visitor: &mut V) -> Result<(), GetError>
-    ensures ok { OnOk result
-        (Scans V.stands (word names.invarsec) input.old input.new visitor.old visitor.new) }
-    ensures err { IfErr result (λ error. Stops (word names.invarsec) input.old error) }
-{
-    scan_word("invarsec", input, visitor)?;
-    Ok(())
-}
-
-#[inline]
-#[tactic(auto, using(xdr3::proofs::ScanLemmas::scans), unfolding(nfs3_types::specs::Names::names))]
 pub(crate) fn scan_name_max<V: Visit>(input: &mut Input, visitor: &mut V) -> Result<(), GetError>
     ensures ok { OnOk result
         (Scans V.stands (word names.name_max) input.old input.new visitor.old visitor.new) }
     ensures err { IfErr result (λ error. Stops (word names.name_max) input.old error) }
 {
     scan_word("name_max", input, visitor)?;
-    Ok(())
-}
-
-#[inline]
-#[tactic(auto, using(xdr3::proofs::ScanLemmas::scans), unfolding(nfs3_types::specs::Names::names))]
-pub(crate) fn scan_properties<V: Visit>(input: &mut Input, visitor: &mut V) -> Result<(), GetError>
-    ensures ok { OnOk result
-        (Scans V.stands (word names.properties) input.old input.new visitor.old visitor.new) }
-    ensures err { IfErr result (λ error. Stops (word names.properties) input.old error) }
-{
-    scan_word("properties", input, visitor)?;
     Ok(())
 }
 

@@ -3,8 +3,9 @@ ghost use Rattle.xdr3.specs.Item.{Hyper, Opaque, Text, Word};
 ghost use Rattle.xdr3.specs.Shape.{both, hyper, opaque, word};
 
 use super::{
-    Field, GetError, Input, Reason, Stop, Visit, Walk, Writer, Xdr, get_counted, get_linked,
-    get_optional, get_sized, read, walk_counted, walk_fields, walk_linked, walk_optional,
+    Field, GetError, Input, PlainField, Reason, Stop, Visit, Walk, Writer, Xdr, get_counted,
+    get_linked, get_optional, get_sized, read, scan_plain, walk_counted, walk_fields, walk_linked,
+    walk_optional,
 };
 use std::alloc::{AllocError, Global};
 use std::test::Fail;
@@ -257,4 +258,114 @@ fn faults_of_a_told_length(rt: HostRuntime) {
             "at {len}"
         );
     }
+}
+
+/// A visitor that keeps the last number that it was told, and how many words and numbers of eight bytes
+/// there were.
+#[derive(Drop)]
+struct Last {
+    words: u8,
+    hypers: u8,
+    number: u64,
+}
+
+#[tactic(auto, unfolding(crate::specs::Visit::Adds, crate::specs::Visit::Keeps))]
+impl Visit for Last {
+    ghost stands = { λ last items. Unit {0} };
+
+    fn word(&mut self, _name: &'static str, n: u32) -> Result<(), AllocError> {
+        self.words = self.words.wrapping_add(1);
+        self.number = u64::from(n);
+        Ok(())
+    }
+
+    fn hyper(&mut self, _name: &'static str, n: u64) -> Result<(), AllocError> {
+        self.hypers = self.hypers.wrapping_add(1);
+        self.number = n;
+        Ok(())
+    }
+
+    fn fixed(&mut self, _name: &'static str, _bytes: &[u8; 8]) -> Result<(), AllocError> {
+        Ok(())
+    }
+
+    fn write_verf(&mut self, _name: &'static str, _bytes: &[u8; 8]) -> Result<(), AllocError> {
+        Ok(())
+    }
+
+    fn var(&mut self, _name: &'static str, _bytes: &[u8]) -> Result<(), AllocError> {
+        Ok(())
+    }
+
+    fn text(&mut self, _name: &'static str, _bytes: &[u8]) -> Result<(), AllocError> {
+        Ok(())
+    }
+
+    fn handle(&mut self, _name: &'static str, _bytes: &[u8]) -> Result<(), AllocError> {
+        Ok(())
+    }
+
+    fn rest(&mut self, _name: &'static str, _bytes: &[u8]) -> Result<(), AllocError> {
+        Ok(())
+    }
+}
+
+const PLAIN: [PlainField; 3] = [
+    PlainField::Word("count"),
+    PlainField::Hyper("offset"),
+    PlainField::Word("access"),
+];
+
+#[test]
+fn plain_fields_told_at_once(rt: HostRuntime) -> Result<(), Fail> {
+    let body = [0, 0, 0, 7, 0, 0, 0, 0, 0, 0, 1, 0, 0, 0, 0, 9, 170];
+    let mut input = Input::new(&body);
+    let mut writer = Writer::new(rt.alloc());
+    scan_plain(&PLAIN, 16, &mut input, &mut writer)?;
+    assert_eq!(rt; input.at(), 16);
+    assert_eq!(rt; writer.bytes(), &body[..16]);
+    assert_eq!(rt; input.run(1), Some([170].as_slice()));
+    assert_eq!(rt; input.run(1), None);
+    assert_eq!(rt; input.run(0), Some([].as_slice()));
+    Ok(())
+}
+
+#[test]
+fn plain_fields_told_one_by_one(rt: HostRuntime) -> Result<(), Fail> {
+    let body = [0, 0, 0, 7, 0, 0, 0, 0, 0, 0, 1, 0, 0, 0, 0, 9];
+    let mut last = Last {
+        words: 0,
+        hypers: 0,
+        number: 0,
+    };
+    last.plain(&PLAIN[..2], &body[..12])?;
+    assert_eq!(rt; last.number, 256);
+    last.plain(&PLAIN, &body)?;
+    assert_eq!(rt; last.number, 9);
+    assert_eq!(rt; last.words, 3);
+    assert_eq!(rt; last.hypers, 2);
+    Ok(())
+}
+
+#[test]
+fn plain_fields_cut_short(rt: HostRuntime) {
+    let body = [0, 0, 0, 7, 0, 0, 0, 0, 0, 0, 1, 0, 0, 0, 0];
+    let mut last = Last {
+        words: 0,
+        hypers: 0,
+        number: 0,
+    };
+    for (len, at) in [(15, 12), (11, 4), (4, 4), (3, 0)] {
+        let mut input = Input::new(&body[..len]);
+        assert_eq!(rt;
+            scan_plain(&PLAIN, 16, &mut input, &mut last),
+            Err(GetError::Stop(Stop {
+                at,
+                reason: Reason::Short
+            })),
+            "at {len}"
+        );
+        assert_eq!(rt; input.at(), 0);
+    }
+    assert_eq!(rt; last.words, 0);
 }
