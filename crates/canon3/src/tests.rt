@@ -1,10 +1,8 @@
 mod comparisons;
 
-use super::form::write_entry;
-use super::numbered::Numbering;
 use super::writing::{write_all, write_record};
 use super::{MemSink, Numbers, Sink, Summary, ToWrite, canon};
-use capture3::{DeviceFailed, Error, Fault, Hashers, MemSource, Place, parse};
+use capture3::{DeviceFailed, Error, Fault, Hashers, MemSource, Place};
 use std::alloc::{AllocError, Global};
 use std::hash::{BuildHasherDefault, FoldHasher, Hash};
 use std::test::Fail;
@@ -137,20 +135,6 @@ fn commits(alloc: Global) -> Result<(Vec<u8>, Vec<u8>), AllocError> {
         [0, 0, 0, 0, 0, 0, 0, 1],
     )?;
     Ok((bytes, numbered))
-}
-
-#[test]
-fn entries_with_numbers(rt: HostRuntime) -> Result<(), Fail> {
-    let (bytes, numbered) = commits(rt.alloc())?;
-    let hashers = hashers();
-    let mut numbering = Numbering::new(rt.alloc(), hashers.handles, hashers.verfs, hashers.xids);
-    let mut sink = MemSink::new(rt.alloc(), 999, 9, 0)?;
-    assert_eq!(rt; write_all(&mut sink, b"NFS3CAP1"), Ok(()));
-    for entry in parse(rt.alloc(), &bytes)?.iter() {
-        write_entry(&mut numbering, &mut sink, entry)?;
-    }
-    assert_eq!(rt; sink.bytes(), numbered.as_slice());
-    Ok(())
 }
 
 // In blocks of 7 bytes, where the read with this number fails.

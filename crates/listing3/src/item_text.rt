@@ -66,7 +66,11 @@ impl ItemText {
     }
 
     /// Forgets the name where its value was not appended.
-    pub(crate) fn settle(&mut self, before: usize, written: Result<(), AllocError>) -> Result<(), AllocError>
+    pub(crate) fn settle(
+        &mut self,
+        before: usize,
+        written: Result<(), AllocError>,
+    ) -> Result<(), AllocError>
         ensures result { result ≡ written }
         ensures ok { OnOk written (self.new ≡ self.old) }
         ensures err { OnErr written (self.new ≡ take before self.old) }

@@ -162,13 +162,7 @@ impl<S: BuildHasher + Drop> LineWriter<S> {
         ensures items { OnOk result (self.new.items ≡ self.old.items ++ 10 ∷ []) }
     {
         self.head.clear();
-        push_head(
-            &mut self.head,
-            passed,
-            side,
-            xid,
-            name_of_procedure(id),
-        )?;
+        push_head(&mut self.head, passed, side, xid, name_of_procedure(id))?;
         self.items.end_line()
     }
 
