@@ -1,9 +1,12 @@
 -- Tables that gather the handles of items.
-use Rattle.std.proofs.Common.{◌≡◌, ◌≢◌, ℕ, ◌+◌, Bool, true, false, List, [], ◌∷◌, ◌++◌, length, map, refl, sym, ap, ◌∙◌, append-nil, ◌≤◌, Result, Ok, Err, arith}
+use Rattle.std.proofs.Common.{◌≡◌, ◌≢◌, ℕ, ◌+◌, Bool, true, false, List, [], ◌∷◌, ◌++◌, drop, length, map, refl, sym, ap, ◌∙◌, append-nil, ◌≤◌, Result, Ok, Err, arith}
 use Rattle.std.specs.Prelude.{bytes_eq, if◌then◌else◌, ◌||◌, OnOk}
 use Rattle.std.specs.List.{list_any}
 use Rattle.std.proofs.lemmas.List.{length-map, map-append}
 use Rattle.std.proofs.lemmas.Grind.{flat_map-append}
+use Rattle.xdr3.specs.declared.plain.PlainField.{PlainField}
+use Rattle.xdr3.specs.declared.plain.PlainField.TheVariants as fields
+use Rattle.xdr3.specs.Plain.{run_items}
 use Rattle.xdr3.specs.Item.{Item, Opaque, Handle, Spells}
 use Rattle.xdr3.specs.Visit.{AreWithinLimit}
 use Rattle.xdr3.proofs.Items.{length_of_spelling}
@@ -56,6 +59,12 @@ module _ {K L : Type 0} (same : L → L → Bool) (f : K → L) where
 pub gathers_none : (table : List handles.Handle) (items more : List Item) → handles_in more ≡ [] → Gathers table items → Gathers table (items ++ more)
 gathers_none table items more none (given, stands, are) =
     (given, stands, are ∙ sym (flat_map-append handle_in items more ∙ ap (λ (l : List (List ℕ)). handles_in items ++ l) none ∙ append-nil (handles_in items)))
+
+-- plain fields hold no handle
+pub none_in_run : (all : List PlainField) (run : List ℕ) → handles_in (run_items all run) ≡ []
+none_in_run [] run = refl
+none_in_run (fields.Word name ∷ all) run = none_in_run all (drop 4 run)
+none_in_run (fields.Hyper name ∷ all) run = none_in_run all (drop 8 run)
 
 pub gathers_one : (old new : List handles.Handle) (handle : handles.Handle) (name bytes : List ℕ) (items : List Item) → bytes_of handle ≡ bytes → bytes ≢ []
     → ((given : List handles.Handle) → StandsFor same_handle old given → StandsFor same_handle new (given ++ handle ∷ []))

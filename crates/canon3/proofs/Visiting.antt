@@ -1,14 +1,18 @@
 -- Each visit adds its item to the message that is written with numbers.
-use Rattle.std.proofs.Common.{◌≡◌, ◌≢◌, ℕ, ◌<◌, ◌≤◌, ◌^◌, List, [], ◌∷◌, ◌++◌, length, length-append, append_assoc, append-nil, refl, sym, ap, ap₂, ◌∙◌, subst, arith, min, Result, Ok, Err, ◌⊎◌, inl, inr, ⊎_elim, Bool, true}
+use Rattle.std.proofs.Common.{◌≡◌, ◌≢◌, ℕ, ◌<◌, ◌≤◌, ◌^◌, List, [], ◌∷◌, ◌++◌, drop, length, length-append, append_assoc, append-nil, refl, sym, ap, ap₂, ◌∙◌, subst, arith, min, Result, Ok, Err, ◌⊎◌, inl, inr, ⊎_elim, Bool, true}
 use Rattle.std.specs.Prelude.{bytes_eq, nat_eq, OnErr, OnOk, ◌==◌}
 use Rattle.std.specs.Bool.{Decides}
 use Rattle.std.specs.List.{flat_map}
 use Rattle.std.proofs.lemmas.Grind.{flat_map-append}
 use Rattle.std.proofs.lemmas.Bool.Decides.{Decides-eqb}
 use Rattle.std.proofs.lemmas.Slice.Eq.{bytes_eq-Decides}
-use Rattle.byteorder.specs.Endian.{big_bytes}
+use Rattle.byteorder.specs.Endian.{big_bytes, big_number}
 use Rattle.byteorder.specs.Numbers.{length-bytes_high_first}
-use Rattle.xdr3.specs.Item.{Item, Word, WriteVerf, Opaque, Rest, Handle, word_bytes, zero_spelling_of, zero_spelling}
+use Rattle.xdr3.specs.declared.plain.PlainField.{PlainField}
+use Rattle.xdr3.specs.declared.plain.PlainField.TheVariants as fields
+use Rattle.xdr3.specs.Plain.{plain_item, run_items, width}
+use Rattle.xdr3.proofs.Walks.{adds_both}
+use Rattle.xdr3.specs.Item.{Item, Hyper, Word, WriteVerf, Opaque, Rest, Handle, word_bytes, zero_spelling_of, zero_spelling}
 use Rattle.xdr3.specs.Visit.{Adds, Keeps}
 use Rattle.nfs3_types.specs.declared.handle.Handle as declared
 use Rattle.canon3.specs.declared.numbered.Numbering.{Numbering}
@@ -228,6 +232,36 @@ module _ {S H : Type 0} (n : Numbering S H) (bytes : List ℕ) where
         are = b.are;
         under_way = record { handles = b.under_way.handles; verifiers = b.under_way.verifiers; spelled = subst (λ (k : List ℕ). IsSpelled n.stage n.xids k b.before b.items) (sym same) b.under_way.spelled };
       }
+
+-- ---- runs of plain fields
+
+spells_on : (bytes : List ℕ) (items : List Item) → Adds Spells bytes (bytes ++ zero_spelling items) items
+unfolding Adds
+spells_on bytes items = λ before is. ap (λ (l : List ℕ). l ++ zero_spelling items) is ∙ sym (flat_map-append zero_spelling_of before items)
+
+module _ {S H : Type 0} where
+  adds_field : (n : Numbering S H) (bytes : List ℕ) (field : PlainField) (run : List ℕ) → n.stage ≢ Begins → Adds Spells n.writer bytes (plain_item field run ∷ []) → Adds Stands n (with_writer n bytes) (plain_item field run ∷ [])
+  adds_field n bytes (fields.Word name) run goes write = adds_word n bytes name.now (big_number 4 run) goes write
+  adds_field n bytes (fields.Hyper name) run goes write = adds_plain n bytes (Hyper name.now (big_number 8 run)) tt (λ before items going spelled. tt) write
+
+  adds_fields : (n : Numbering S H) (all : List PlainField) (run : List ℕ) → n.stage ≢ Begins → Adds Stands n (with_writer n (n.writer ++ zero_spelling (run_items all run))) (run_items all run)
+  unfolding Adds
+  adds_fields n [] run goes = λ before stands. subst (λ (b : List ℕ). Stands (with_writer n b) (before ++ [])) (sym (append-nil n.writer)) (subst (Stands n) (sym (append-nil before)) stands)
+  adds_fields n (field ∷ all) run goes =
+      let item : Item = plain_item field run in
+      let mid : List ℕ = n.writer ++ zero_spelling (item ∷ []) in
+      let rest : List Item = run_items all (drop (width field) run) in
+      let spelled : mid ++ zero_spelling rest ≡ n.writer ++ zero_spelling (item ∷ rest) =
+      append_assoc n.writer (zero_spelling (item ∷ [])) (zero_spelling rest) ∙ ap (λ (l : List ℕ). n.writer ++ l) (sym (flat_map-append zero_spelling_of (item ∷ []) rest)) in
+      adds_both Stands n (with_writer n mid) (with_writer n (n.writer ++ zero_spelling (item ∷ rest))) (item ∷ []) rest (adds_field n mid field run goes (spells_on n.writer (item ∷ [])))
+      (subst (λ (b : List ℕ). Adds Stands (with_writer n mid) (with_writer n b) rest) spelled (adds_fields (with_writer n mid) all (drop (width field) run) goes))
+
+  -- a run behind the xid is written as it is
+  pub adds_run : (n : Numbering S H) (bytes : List ℕ) (all : List PlainField) (run : List ℕ) → n.stage ≢ Begins → Adds Spells n.writer bytes (run_items all run) → Adds Stands n (with_writer n bytes) (run_items all run)
+  unfolding Adds
+  adds_run n bytes all run goes write =
+      let is : bytes ≡ n.writer ++ zero_spelling (run_items all run) = write (Rest [] n.writer ∷ []) (sym (append-nil n.writer)) in
+      subst (λ (b : List ℕ). Adds Stands n (with_writer n b) (run_items all run)) (sym is) (adds_fields n all run goes)
 
 -- ---- numbers in place of values
 

@@ -11,7 +11,7 @@ use crate::numbers::Numbers;
 use nfs3_types::Handle;
 use std::alloc::{AllocError, Global};
 use std::hash::BuildHasher;
-use xdr3::Visit;
+use xdr3::{PlainField, Visit};
 
 /// A visitor that gathers the distinct file handles that are not empty (RFC 1813, section 2.5).
 #[derive(Drop)]
@@ -86,6 +86,10 @@ impl<S: BuildHasher + Drop> Visit for HandleTable<S> {
     }
 
     fn rest(&mut self, _name: &'static str, _bytes: &[u8]) -> Result<(), AllocError> {
+        Ok(())
+    }
+
+    fn plain(&mut self, _fields: &[PlainField], _bytes: &[u8]) -> Result<(), AllocError> {
         Ok(())
     }
 }

@@ -2,6 +2,7 @@
 
 ghost use Rattle.std.specs.Prelude.{◌≡◌, ◌≢◌, ◌≤◌, ◌++◌, ◌∷◌, ℕ, List, [], bytes_eq, length, min, IfOk, OnErr, OnOk};
 ghost use Rattle.xdr3.specs.Item.{Handle as HandleKind, Item, Opaque, Word, WriteVerf};
+ghost use Rattle.xdr3.specs.Plain.{run_items, run_size};
 ghost use Rattle.xdr3.specs.Visit.{Adds};
 ghost use Rattle.canon3.specs.Gathering.{HoldsHandles};
 ghost use Rattle.canon3.specs.Numbered.{Before, behind, Holds, IsGoing, Stands, values_of};
@@ -12,7 +13,7 @@ use byteorder::{BigEndian, ByteOrder};
 use nfs3_types::Handle;
 use std::alloc::{AllocError, Global};
 use std::hash::BuildHasher;
-use xdr3::{Visit, Writer};
+use xdr3::{PlainField, Visit, Writer};
 
 /// How far a message is.
 #[derive(Clone, Copy)]
@@ -133,6 +134,27 @@ impl<S: BuildHasher + Drop> Numbering<S> {
         self.writer.write_verf(name, &hyper)
     }
 
+    /// Takes the fields one by one, of which the first may be the xid.
+    fn tell_each(&mut self, fields: &[PlainField], bytes: &[u8]) -> Result<(), AllocError>
+        requires { length bytes.now ≡ run_size fields.now }
+        ensures ok { OnOk result (Adds Stands self.old self.new (run_items fields.now bytes.now)) }
+    {
+        let mut rest = bytes;
+        for field in fields {
+            match *field {
+                PlainField::Word(name) => {
+                    self.word(name, BigEndian::read_u32(rest))?;
+                    rest = &rest[4..];
+                }
+                PlainField::Hyper(name) => {
+                    self.hyper(name, BigEndian::read_u64(rest))?;
+                    rest = &rest[8..];
+                }
+            }
+        }
+        Ok(())
+    }
+
     /// Says nothing more of the tables after an error.
     fn settle(&mut self, written: Result<(), AllocError>) -> Result<(), AllocError>
         ensures result { result ≡ written }
@@ -193,5 +215,12 @@ impl<S: BuildHasher + Drop> Visit for Numbering<S> {
 
     fn rest(&mut self, name: &'static str, bytes: &[u8]) -> Result<(), AllocError> {
         self.writer.rest(name, bytes)
+    }
+
+    fn plain(&mut self, fields: &[PlainField], bytes: &[u8]) -> Result<(), AllocError> {
+        match self.stage {
+            Stage::Begins => self.tell_each(fields, bytes),
+            Stage::Goes | Stage::Failed => self.writer.plain(fields, bytes),
+        }
     }
 }

@@ -1,7 +1,7 @@
 // A visitor that keeps nothing.
 
 use std::alloc::AllocError;
-use xdr3::Visit;
+use xdr3::{PlainField, Visit};
 
 /// A visitor that keeps nothing, with which a message is judged alone.
 #[derive(Drop)]
@@ -40,6 +40,10 @@ impl Visit for Silent {
     }
 
     fn rest(&mut self, _name: &'static str, _bytes: &[u8]) -> Result<(), AllocError> {
+        Ok(())
+    }
+
+    fn plain(&mut self, _fields: &[PlainField], _bytes: &[u8]) -> Result<(), AllocError> {
         Ok(())
     }
 }
