@@ -1,0 +1,186 @@
+#!/usr/bin/env python3
+"""Tests of the scripts in tools/, and of the README's lines.
+
+    python3 tests/tools.py [PROGRAM] [--only TEXT] [-v]
+
+PROGRAM is crates/nfs3canon/out/nfs3canon where none is named. What needs tshark is skipped, with a word, where it is not
+there. The last line is 'N passed, M failed', and the status is 1 where any failed.
+"""
+import argparse
+import concurrent.futures
+import os
+import pathlib
+import random
+import shutil
+import sys
+import tempfile
+
+from captures import Runs
+from recordings import ACK, CLIENT, RST, SERVER, Talk, pcap, pcapng
+from traffic import NFS, call, messages, success
+
+HERE = pathlib.Path(__file__).resolve().parent
+TOP = HERE.parent
+CALLS = [call(number, NFS, 3, 0) for number in range(1, 40)]
+REPLIES = [success(number) for number in range(1, 40)]
+
+
+def stream(bodies):
+    return b''.join(messages.record(body)[4:] for body in bodies)
+
+
+def packed(*connections):
+    """What `pack` writes of connections with short streams."""
+    sides = [side for connection in connections for side in connection]
+    sides = [messages.word(len(side)) + side + messages.word(0) if side else messages.word(0) for side in sides]
+    parts = (messages.word(1) + client + server for client, server in zip(sides[::2], sides[1::2]))
+    return messages.MAGIC + b''.join(parts) + messages.word(0)
+
+
+class Tools(Runs):
+    """A folder, and runs of the scripts there."""
+
+    def tool(self, name, *words, stdin=None):
+        kept, self.program = self.program, str(TOP / 'tools' / name)
+        try:
+            return self.run(*words, stdin=stdin)
+        finally:
+            self.program = kept
+
+    def from_pcap(self, recording, *options):
+        """What is told, line by line, of a recording that is taken to `out`."""
+        self.write('recording', recording)
+        status, out, error = self.tool('from_pcap', 'recording', 'out', '--program', self.program, *options)
+        return status, out.splitlines() + error.splitlines()
+
+    def taken(self, what, recording, wanted, *options):
+        """The recording gives just these connections."""
+        if os.path.exists(os.path.join(self.folder, 'out')):
+            os.remove(os.path.join(self.folder, 'out'))
+        status, lines = self.from_pcap(recording, *options)
+        self.want(what, (status, self.read('out')), (0, packed(*wanted)))
+        return lines
+
+
+def exchange(talk, pieces=1, calls=CALLS, replies=REPLIES):
+    """The segments of some calls and their replies, each side's stream in pieces."""
+    frames = []
+    for side, bodies in enumerate((calls, replies)):
+        content = stream(bodies)
+        size = -(-len(content) // pieces)
+        frames += [talk.sent(side, content[at:at + size]) for at in range(0, len(content), size)]
+    return frames
+
+
+def whole(**options):
+    talk = Talk(**options)
+    return [*talk.opened(), *exchange(talk, 5), *talk.closed()]
+
+
+ALL = (stream(CALLS), stream(REPLIES))
+
+
+def recordings_of_all_kinds(tools):
+    """pcap and pcapng, IPv6, VLAN tags, sequence numbers that wrap, a filter, and connections that overlap."""
+    tools.taken('pcap', pcap(whole()), [ALL])
+    tools.taken('pcapng', pcapng(whole()), [ALL])
+    tools.taken('IPv6', pcap(whole(hosts=('2001:db8::7', '2001:db8::1'))), [ALL])
+    tools.taken('VLAN', pcap(whole(vlan=7)), [ALL])
+    tools.taken('wrapping', pcap(whole(first=((1 << 32) - 50, (1 << 32) - 1))), [ALL])
+    one, two = whole(port=700), whole(port=701, service=111)
+    tools.taken('two', pcap([frame for pair in zip(one, two) for frame in pair]), [ALL, ALL])
+    tools.taken('filter', pcap(one + two), [ALL], '--filter', 'tcp.port == 111')
+    tools.taken('a port used again', pcap(whole() + whole(first=(900_000, 800_000))), [ALL, ALL])
+
+
+def segments_in_any_order(tools):
+    """Segments out of order, again, overlapping, and before the end was known."""
+    chance = random.Random(7)
+    for _ in range(5):
+        talk = Talk()
+        opened, frames = talk.opened(), exchange(talk, 9)
+        frames += chance.choices(frames, k=9)
+        chance.shuffle(frames)
+        tools.taken('shuffled', pcap(opened + frames), [ALL])
+    talk, content = Talk(), stream(CALLS)
+    frames = talk.opened() + [talk.frame(0, ACK, content[at:at + 100], at) for at in (0, 150, 60, 240, 200, 30)]
+    talk.next[0] += 340
+    frames += [talk.frame(0, ACK, b'\0', -1), talk.sent(0, content[340:]), *talk.closed()]
+    tools.taken('overlapping', pcap(frames), [(content, b'')])
+
+
+def who_is_the_client(tools):
+    def told(recording, *options):
+        return tools.taken('client', recording, [ALL], *options)[0].partition(': client ')[2]
+    client, server = CLIENT + ':700 ', SERVER + ':2049 '
+    sizes = ', %d and %d bytes' % (len(stream(CALLS)), len(stream(REPLIES)))
+    tools.want('SYN', told(pcap(whole())), client + 'by the SYN' + sizes)
+    tools.want('the answer to a SYN', told(pcap(whole()[1:])), client + 'by the SYN' + sizes)
+    tools.want('a SYN without its answer', told(pcap([whole()[0], *whole()[2:]])), client + 'by the SYN' + sizes)
+    replies_first = whole()[8:] + whole()[3:8]
+    tools.want('ports', told(pcap(replies_first), '--midstream'), client + 'by the ports' + sizes)
+    other = [*Talk(service=900).opened(), *exchange(Talk(service=900))]
+    tools.want('first payload', told(pcap(other[3:]), '--midstream'), client + 'by the first payload' + sizes)
+    swapped = whole(port=2049, service=700, hosts=(SERVER, CLIENT))
+    tools.want('SYN before ports', told(pcap(swapped)), server + 'by the SYN' + sizes)
+
+
+def what_is_left_out(tools):
+    """Connections without a SYN or without payload, and what stands after bytes that are missing."""
+    status, lines = tools.from_pcap(pcap(whole()[3:]))
+    tools.want('no SYN', (status, 'no SYN in the recording' in lines[0]), (1, True))
+    status, lines = tools.from_pcap(pcap(Talk().opened()))
+    tools.want('no payload', (status, lines[0].endswith(': no payload')), (1, True))
+    frames, calls, replies = whole(), stream(CALLS), stream(REPLIES)
+    fifth = -(-len(calls) // 5)
+    told = 'connection 1 client: bytes are missing from the recording after the first %d; the stream ends there'
+    lines = tools.taken('a gap', pcap(frames[:4] + frames[5:]), [(calls[:fifth], replies)])
+    tools.want('a gap', lines[1:], [told % fifth])
+    lines = tools.taken('the last segment is lost', pcap(frames[:7] + frames[8:]), [(calls[:4 * fifth], replies)])
+    tools.want('the last segment is lost', lines[1:], [told % (4 * fifth)])
+    lines = tools.taken('the first segment is lost', pcap(frames[:3] + frames[4:]), [(b'', replies)])
+    tools.want('the first segment is lost', lines[1:], [told % 0])
+    whole_calls = fifth // 44 * 44
+    lines = tools.taken('a gap', pcap(frames[:4] + frames[5:]), [(calls[:whole_calls], replies)], '--whole-records')
+    tools.want('whole records', lines[2:], ['connection 1 client: the last %d bytes are no whole record, and are dropped'
+                                            % (fifth - whole_calls)])
+    tools.taken('frames cut to 154 bytes', pcap(frames, 154), [(calls[:100], replies[:100])])
+    tools.taken('reset', pcap([*frames[:8], Talk(first=(1_001 + len(calls), 5_001)).frame(0, RST)]), [(calls, b'')])
+
+
+OF_TSHARK = [recordings_of_all_kinds, segments_in_any_order, who_is_the_client, what_is_left_out]
+TESTS = [*OF_TSHARK]
+
+
+def tried(program, test):
+    with tempfile.TemporaryDirectory(prefix='nfs3canon') as folder:
+        tools = Tools(program, folder)
+        test(tools)
+        return tools.wrong
+
+
+def main():
+    parser = argparse.ArgumentParser(description=__doc__, formatter_class=argparse.RawDescriptionHelpFormatter)
+    parser.add_argument('program', nargs='?', default=str(TOP / 'crates/nfs3canon/out/nfs3canon'))
+    parser.add_argument('--only', default='')
+    parser.add_argument('-v', action='store_true')
+    words = parser.parse_args()
+    program, failed = os.path.abspath(words.program), 0
+    tests = [test for test in TESTS if words.only in test.__name__]
+    if not shutil.which('tshark'):
+        skipped = [test for test in tests if test in OF_TSHARK]
+        print('skipped, since tshark is not there:', *(test.__name__ for test in skipped))
+        tests = [test for test in tests if test not in skipped]
+    with concurrent.futures.ThreadPoolExecutor(os.cpu_count()) as pool:
+        for test, wrong in zip(tests, pool.map(lambda test: tried(program, test), tests)):
+            failed += bool(wrong)
+            if wrong:
+                print('FAILED %s: %s' % (test.__name__, '; '.join(wrong)), flush=True)
+            elif words.v:
+                print('ok %s' % test.__name__, flush=True)
+    print('%d passed, %d failed' % (len(tests) - failed, failed))
+    sys.exit(1 if failed or not tests else 0)
+
+
+if __name__ == '__main__':
+    main()
