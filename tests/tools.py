@@ -11,13 +11,18 @@ import concurrent.futures
 import os
 import pathlib
 import random
+import re
 import shutil
 import sys
 import tempfile
 
-from captures import Runs
+from captures import Runs, rows_of
 from recordings import ACK, CLIENT, RST, SERVER, Talk, pcap, pcapng
-from traffic import NFS, call, messages, success
+from texts import bytes_of, capture_of
+from traffic import NFS, Names, Traffic, call, messages, success
+
+sys.path.insert(0, str(pathlib.Path(__file__).resolve().parent.parent / 'tools'))
+from layouts import Message, procedure_of  # noqa: E402
 
 HERE = pathlib.Path(__file__).resolve().parent
 TOP = HERE.parent
@@ -148,8 +153,67 @@ def what_is_left_out(tools):
     tools.taken('reset', pcap([*frames[:8], Talk(first=(1_001 + len(calls), 5_001)).frame(0, RST)]), [(calls, b'')])
 
 
+def explained(tools):
+    """Each example that is refused, and for each reason the first row of captures.rows, by the line of `check`."""
+    lines = {}
+    for _, row in rows_of('captures.rows'):
+        reason = row['line'].rpartition(' ')[2]
+        if not row['line'].startswith('ok ') and 'x' not in row.get('file', '') and reason not in lines:
+            lines[reason] = row['line']
+            tools.write(reason, capture_of(row['capture']) if 'capture' in row else bytes_of(row['file']))
+    tools.want('reasons', len(lines) >= 17, True)
+    for reason, line in lines.items():
+        status, out, error = tools.tool('explain', reason, stdin=('first: %s\n' % line).encode())
+        told = (status, '\n%s: ' % reason in out, 'no reason of' in out, error)
+        tools.want('explain ' + line, told, (0, True, False, ''))
+        if ' byte ' in line and reason not in ('Trailing', 'AuthLength', 'RecordCut', 'RecordTooLong'):
+            tools.want('the item of ' + line, 'after the last item' in out or 'allowed: ' not in out, False)
+
+
+def explained_as_documented(tools):
+    """The words of docs/FORMATS.md."""
+    tools.write('a', (TOP / 'examples/bad_status.nfs3cap').read_bytes())
+    status, out, _ = tools.tool('explain', 'a', 'connection 1 server record 1 byte 24')
+    tools.want('bad_status', (status, out.splitlines()[:3]), (0, [
+        'connection 1 server record 1: reply NFSPROC3_GETATTR of program 100003, version 3, procedure 1',
+        'xid 7, a body of 28 bytes, to call record 1', 'byte 24: status = 3']))
+    for place, status in (('connection 1 server record 2 byte 0', 1), ('file 9999', 1), ('nothing', 2)):
+        tools.want(place, tools.tool('explain', 'a', place)[0], status)
+
+
+def layouts_agree_with_the_listing(tools):
+    """The items that tools/layouts.py reads are those that `show` lists, on random captures."""
+    chance = random.Random(3)
+    for seed in range(60):
+        connections = Traffic(seed, Names.drawn(chance)).connections
+        tools.write('a', messages.capture(*connections))
+        wanted = [line for calls, replies in connections for line in items_of(calls, replies)]
+        listing = tools.run('show', 'a')[1].splitlines()
+        found = [(line.split()[4], re.findall(r' (\w+)=("[^"]*"|\w*)', line.partition(' xid=')[2])) for line in listing]
+        tools.want('seed %d' % seed, [(name, [(item, value.strip('"')) for item, value in items]) for name, items in found], wanted)
+
+
+def items_of(calls, replies):
+    """The procedure of each message of a connection, and its items after the xid as the listing has them."""
+    procedures = {}
+    for body in calls:
+        procedures[body[:4]] = procedure_of(*(int.from_bytes(body[at:at + 4], 'big') for at in (12, 16, 20)))
+    for body, is_call in [(body, True) for body in calls] + [(body, False) for body in replies]:
+        message = Message(body)
+        message.read(is_call, procedures[body[:4]])
+        items = [item for item in message.items[1:] if not item.name.endswith(')')]
+        yield procedures[body[:4]].name, [(item.name, listed(body[item.begin:item.end], item)) for item in items]
+
+
+def listed(piece, item):
+    if item.name in STRINGS:
+        return ''.join(chr(byte) if 32 <= byte < 127 and byte not in b'"\\' else '\\x%02x' % byte for byte in piece)
+    return item.value
+
+
+STRINGS = ('name', 'path', 'machinename', 'dirpath', 'hostname', 'directory')
 OF_TSHARK = [recordings_of_all_kinds, segments_in_any_order, who_is_the_client, what_is_left_out]
-TESTS = [*OF_TSHARK]
+TESTS = [*OF_TSHARK, explained, explained_as_documented, layouts_agree_with_the_listing]
 
 
 def tried(program, test):
