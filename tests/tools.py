@@ -13,6 +13,7 @@ import pathlib
 import random
 import re
 import shutil
+import subprocess
 import sys
 import tempfile
 
@@ -44,6 +45,8 @@ def packed(*connections):
 
 class Tools(Runs):
     """A folder, and runs of the scripts there."""
+
+    tried = 0  # lines of the README
 
     def tool(self, name, *words, stdin=None):
         kept, self.program = self.program, str(TOP / 'tools' / name)
@@ -211,9 +214,48 @@ def listed(piece, item):
     return item.value
 
 
+def lines_of_the_readme(tools, chosen):
+    """Its command lines, each with what its first line of output begins with and, where it is not 0, its status."""
+    for line in (TOP / 'README.md').read_text().splitlines():
+        command, _, wanted = line.partition('  # ')
+        if not line.startswith('    ') or not wanted or ('knfsd' in command or '/tmp/a' in command) != chosen:
+            continue
+        wanted, _, status = wanted.partition(', status ')
+        words = command.replace('/tmp/', tools.folder + '/').replace('./nfs3canon', tools.program)
+        words = words.replace('from_pcap', 'from_pcap --program ' + tools.program)
+        done = subprocess.run(['sh', '-c', words], cwd=TOP, stdout=subprocess.PIPE, stderr=subprocess.STDOUT, text=True)
+        told = done.stdout.partition('\n')[0]
+        found = told[:len(wanted) - 2] + '..' if wanted.endswith('..') else told
+        tools.want(command.strip(), (found, done.returncode), (wanted, int(status or 0)))
+        tools.tried += 1
+
+
+def commands_of_the_readme(tools):
+    lines_of_the_readme(tools, False)
+    tools.want('lines', tools.tried, 7)
+
+
+def recordings_of_the_readme(tools):
+    lines_of_the_readme(tools, True)
+    tools.want('lines', tools.tried, 3)
+    for name in ('a', 'b'):
+        answer = tools.run('check', name + '.nfs3cap')
+        tools.want('check', answer, (0, 'ok connections=18 calls=276 replies=276 handles=53\n', ''))
+
+
+def answers_of_the_examples(tools):
+    """Each file of examples/ stands in its README with what `check` prints, and no other does."""
+    rows = re.findall(r'^\| `(\w+\.nfs3cap)` \| .* \| `([^`]*)` \| (\d) \|$', (TOP / 'examples/README.md').read_text(), re.M)
+    tools.want('files', sorted(name for name, _, _ in rows), sorted(path.name for path in (TOP / 'examples').glob('*.nfs3cap')))
+    for name, line, status in rows:
+        found, out, error = tools.run('check', str(TOP / 'examples' / name))
+        tools.want(name, (out + error, found), (line + '\n', int(status)))
+
+
 STRINGS = ('name', 'path', 'machinename', 'dirpath', 'hostname', 'directory')
-OF_TSHARK = [recordings_of_all_kinds, segments_in_any_order, who_is_the_client, what_is_left_out]
-TESTS = [*OF_TSHARK, explained, explained_as_documented, layouts_agree_with_the_listing]
+OF_TSHARK = [recordings_of_all_kinds, segments_in_any_order, who_is_the_client, what_is_left_out, recordings_of_the_readme]
+TESTS = [*OF_TSHARK, explained, explained_as_documented, layouts_agree_with_the_listing, commands_of_the_readme,
+         answers_of_the_examples]
 
 
 def tried(program, test):
