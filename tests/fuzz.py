@@ -36,8 +36,7 @@ class Trial:
         self.program, self.folder, self.seed = program, folder, seed
         self.chance = random.Random(~seed)
         self.names = Names.drawn(self.chance)
-        self.traffic = Traffic(seed, self.names)
-        self.capture = messages.capture(*self.traffic.connections)
+        self.traffic, self.capture = Traffic(seed, self.names), self.named(self.names)
         self.write('a', self.capture)
 
     def named(self, names):

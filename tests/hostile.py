@@ -210,6 +210,24 @@ def signals_in_the_middle(place):
             os.remove(os.path.join(place.folder, 'out.part'))
 
 
+def names_that_are_taken_in_the_middle(place):
+    """Where the whole output cannot get its name, what was written beside it is removed."""
+    process = place.begin('canon', '/dev/stdin', 'out', stdin=subprocess.PIPE)
+    process.stdin.write(LARGE[:2_000_000])
+    wait_for(lambda: place.read('out.part'))
+    os.mkdir(os.path.join(place.folder, 'out'))
+    feed(process.stdin, [LARGE[2_000_000:]])
+    place.want('canon', (process.wait(TIMEOUT), process.stderr.read()), (3, b'write failed\n'))
+    place.want('files', os.listdir(place.folder), ['out'])
+
+
+def many_streams_and_few_open_files(place):
+    place.write('call', messages.record(NULL[0][0])[4:])
+    place.write('reply', messages.record(NULL[1][0])[4:])
+    place.want('pack', place.limited('-n 16', 'pack', 'out', *['call', 'reply'] * 3_000), (0, '', ''))
+    place.want('what was packed', place.read('out') == messages.capture(*[NULL] * 3_000), True)
+
+
 # --- Inputs ---
 
 def inputs_that_never_end(place):
@@ -333,7 +351,8 @@ def linear(make, count):
 
 TESTS = [linear(xids, 1_000_000), linear(handles, 1_000_000), linear(empty_fragments, 2_000_000), linear(single_bytes, 2_000_000),
          memory_that_is_refused, lengths_with_nothing_after_them, disks_that_are_full_in_the_middle, readers_that_go_away,
-         standard_error_that_nobody_reads, standard_files_that_are_closed, signals_in_the_middle, inputs_that_never_end, fifos,
+         standard_error_that_nobody_reads, standard_files_that_are_closed, signals_in_the_middle,
+         names_that_are_taken_in_the_middle, many_streams_and_few_open_files, inputs_that_never_end, fifos,
          files_that_may_not_be_read, files_that_change_while_they_are_read]
 
 

@@ -252,10 +252,23 @@ def answers_of_the_examples(tools):
         tools.want(name, (out + error, found), (line + '\n', int(status)))
 
 
+def pages_agree(tools):
+    """The reasons have the same names in docs/FORMATS.md, the man page and tools/explain, and the dump is that of the example."""
+    formats = (TOP / 'docs/FORMATS.md').read_text()
+    reasons = re.findall(r'^\| \d+ \| `(\w+)` \|', formats, re.M)
+    tools.want('reasons', len(reasons), 19)
+    tools.want('man page', re.findall(r'^(\w+)\|', (TOP / 'man/nfs3canon.1').read_text(), re.M), reasons)
+    tools.want('explain', re.findall(r"'([A-Z]\w+)': ", (TOP / 'tools/explain').read_text()), reasons)
+    dump = re.findall(r'^\| (\d+) \| ((?:[0-9a-f]{8} ?)+) \|', formats, re.M)
+    tools.want('dump', bytes.fromhex(''.join(words for _, words in dump)), (TOP / 'examples/null.nfs3cap').read_bytes())
+    sizes = [len(bytes.fromhex(words)) for _, words in dump]
+    tools.want('places of the dump', [int(at) for at, _ in dump], [sum(sizes[:at]) for at in range(len(sizes))])
+
+
 STRINGS = ('name', 'path', 'machinename', 'dirpath', 'hostname', 'directory')
 OF_TSHARK = [recordings_of_all_kinds, segments_in_any_order, who_is_the_client, what_is_left_out, recordings_of_the_readme]
 TESTS = [*OF_TSHARK, explained, explained_as_documented, layouts_agree_with_the_listing, commands_of_the_readme,
-         answers_of_the_examples]
+         answers_of_the_examples, pages_agree]
 
 
 def tried(program, test):

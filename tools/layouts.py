@@ -16,7 +16,10 @@ VALUES = {
     'cred_flavor': {0: 'AUTH_NONE', 1: 'AUTH_SYS'}, 'verf_flavor': {0: 'AUTH_NONE'},
     'reply_stat': {0: 'MSG_ACCEPTED', 1: 'MSG_DENIED'}, 'reject_stat': {0: 'RPC_MISMATCH', 1: 'AUTH_ERROR'},
     'accept_stat': dict(enumerate(('SUCCESS', 'PROG_UNAVAIL', 'PROG_MISMATCH', 'PROC_UNAVAIL', 'GARBAGE_ARGS', 'SYSTEM_ERR'))),
-    'auth_stat': {number: 'as RFC 5531, section 9, lists' for number in range(15)},
+    'auth_stat': dict(enumerate((
+        'AUTH_OK', 'AUTH_BADCRED', 'AUTH_REJECTEDCRED', 'AUTH_BADVERF', 'AUTH_REJECTEDVERF', 'AUTH_TOOWEAK', 'AUTH_INVALIDRESP',
+        'AUTH_FAILED', 'AUTH_KERB_GENERIC', 'AUTH_TIMEEXPIRE', 'AUTH_TKT_FILE', 'AUTH_DECODE', 'AUTH_NET_ADDR',
+        'RPCSEC_GSS_CREDPROBLEM', 'RPCSEC_GSS_CTXPROBLEM'))),
     'type': dict(enumerate(('REG', 'DIR', 'BLK', 'CHR', 'LNK', 'SOCK', 'FIFO'), 1)),
     'stable': {0: 'UNSTABLE', 1: 'DATA_SYNC', 2: 'FILE_SYNC'}, 'how': {0: 'UNCHECKED', 1: 'GUARDED', 2: 'EXCLUSIVE'},
     'set_atime': {0: 'DONT_CHANGE', 1: 'SET_TO_SERVER_TIME', 2: 'SET_TO_CLIENT_TIME'},
