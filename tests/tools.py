@@ -220,7 +220,7 @@ def lines_of_the_readme(tools, chosen):
         command, _, wanted = line.partition('  # ')
         if not line.startswith('    ') or not wanted or ('knfsd' in command or '/tmp/a' in command) != chosen:
             continue
-        wanted, _, status = wanted.partition(', status ')
+        wanted, _, status = wanted.replace('(nothing)', '').partition(', status ')
         words = command.replace('/tmp/', tools.folder + '/').replace('./nfs3canon', tools.program)
         words = words.replace('from_pcap', 'from_pcap --program ' + tools.program)
         done = subprocess.run(['sh', '-c', words], cwd=TOP, stdout=subprocess.PIPE, stderr=subprocess.STDOUT, text=True)
