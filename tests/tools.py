@@ -98,6 +98,8 @@ def recordings_of_all_kinds(tools):
     one, two = whole(port=700), whole(port=701, service=111)
     tools.taken('two', pcap([frame for pair in zip(one, two) for frame in pair]), [ALL, ALL])
     tools.taken('filter', pcap(one + two), [ALL], '--filter', 'tcp.port == 111')
+    lines = tools.taken('cut in its last frame', pcap(whole())[:-10], [ALL])
+    tools.want('cut in its last frame', 'cut short' in lines[-1], True)
     tools.taken('a port used again', pcap(whole() + whole(first=(900_000, 800_000))), [ALL, ALL])
 
 
