@@ -92,12 +92,13 @@ class Stop(Exception):
 
 
 class Item(typing.NamedTuple):
-    """An item of a message: its bytes, its name, its value as a text, and what may stand there."""
+    """An item of a message: its bytes, its name, its value as a text, what may stand there, and whether it has all its bytes."""
     begin: int
     end: int
     name: str
     value: str
     allowed: str
+    is_whole: bool
 
 
 class Message:
@@ -110,7 +111,7 @@ class Message:
         """The next bytes, of which there may be fewer."""
         begin, self.at = self.at, min(self.at + size, self.end)
         piece = self.body[begin:self.at]
-        self.items.append(Item(begin, self.at, name, spell(piece), allowed))
+        self.items.append(Item(begin, self.at, name, spell(piece), allowed, len(piece) == size))
         if len(piece) < size:
             raise Stop
         return piece
