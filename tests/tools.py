@@ -254,6 +254,16 @@ def answers_of_the_examples(tools):
         tools.want(name, (out + error, found), (line + '\n', int(status)))
 
 
+def examples_are_made_alike(tools):
+    """examples/make.py writes the captures that are there."""
+    for name in ('make.py', 'messages.py'):
+        shutil.copy(TOP / 'examples' / name, tools.folder)
+    done = subprocess.run([sys.executable, 'make.py'], cwd=tools.folder, stdout=subprocess.PIPE, stderr=subprocess.STDOUT)
+    tools.want('make.py', (done.returncode, done.stdout), (0, b''))
+    for path in (TOP / 'examples').glob('*.nfs3cap'):
+        tools.want(path.name, tools.read(path.name), path.read_bytes())
+
+
 def pages_agree(tools):
     """The reasons have the same names in docs/FORMATS.md, the man page and tools/explain, and the dump is that of the example."""
     formats = (TOP / 'docs/FORMATS.md').read_text()
@@ -265,12 +275,15 @@ def pages_agree(tools):
     tools.want('dump', bytes.fromhex(''.join(words for _, words in dump)), (TOP / 'examples/null.nfs3cap').read_bytes())
     sizes = [len(bytes.fromhex(words)) for _, words in dump]
     tools.want('places of the dump', [int(at) for at, _ in dump], [sum(sizes[:at]) for at in range(len(sizes))])
+    if shutil.which('man'):
+        done = subprocess.run(['man', '--warnings', '-l', 'man/nfs3canon.1'], cwd=TOP, stdout=subprocess.DEVNULL, stderr=subprocess.PIPE)
+        tools.want('warnings of man', done.stderr, b'')
 
 
 STRINGS = ('name', 'path', 'machinename', 'dirpath', 'hostname', 'directory')
 OF_TSHARK = [recordings_of_all_kinds, segments_in_any_order, who_is_the_client, what_is_left_out, recordings_of_the_readme]
 TESTS = [*OF_TSHARK, explained, explained_as_documented, layouts_agree_with_the_listing, commands_of_the_readme,
-         answers_of_the_examples, pages_agree]
+         answers_of_the_examples, examples_are_made_alike, pages_agree]
 
 
 def tried(program, test):
