@@ -10,6 +10,7 @@ import argparse
 import concurrent.futures
 import os
 import pathlib
+import shutil
 import signal
 import subprocess
 import sys
@@ -274,13 +275,14 @@ def files_that_may_not_be_read(place):
     os.chmod(os.path.join(place.folder, 'secret'), 0)
     os.chmod(place.folder, 0o755)
     reader = {'user': NOBODY, 'group': NOBODY, 'extra_groups': []} if os.geteuid() == 0 else {}
+    program = shutil.copy(place.program, place.folder)  # since the repository may stand where others may not look
     for words in (['check', 'secret'], ['show', 'secret'], ['same', 'good', 'secret'], ['canon', 'secret', 'out']):
-        answer = place.run_by([place.program, *words], **reader)
+        answer = place.run_by([program, *words], **reader)
         place.want(' '.join(words), answer, (3, '', 'open failed: secret\n'))
-    os.chmod(place.folder, 0o555 if reader else 0o755)
     if reader:
-        answer = place.run_by([place.program, 'canon', 'good', 'out'], **reader)
+        answer = place.run_by([program, 'canon', 'good', 'out'], **reader)
         place.want('canon into a folder that may not be written', answer, (3, '', 'open failed: out\n'))
+    os.remove(program)
     place.want('files', sorted(os.listdir(place.folder)), ['good', 'secret'])
 
 
