@@ -21,8 +21,7 @@ import tempfile
 from traffic import Names, Traffic, in_pieces, messages, word
 
 HERE = pathlib.Path(__file__).resolve().parent
-TIMEOUT, LAWS_OF_A_CAPTURE = 60, 2
-AT_ONCE = 25  # captures that a worker takes
+TIMEOUT, LAWS_OF_A_CAPTURE, FLIPS, CAPTURES_AT_ONCE = 60, 2, 5, 25
 
 
 class Broken(Exception):
@@ -130,11 +129,12 @@ def packing_the_streams_gives_the_capture(trial):
 def a_flipped_bit_shows(trial):
     """It changes the canonical bytes or is refused where it is in no renamed value, and changes nothing in a residual byte."""
     padded, turned = trial.named(trial.names.padded()), trial.named(trial.names.turned())
-    at = trial.chance.randrange(len(trial.capture))
-    is_residual = padded[at] != trial.capture[at]
-    if is_residual or turned[at] == trial.capture[at]:
-        status, form, _ = flipped(trial, at)
-        trial.want('byte %d keeps the form' % at, (status, form == trial.form('a')) == (0, True), is_residual)
+    own = trial.form('a')
+    for at in trial.chance.sample(range(len(trial.capture)), FLIPS):
+        is_residual = padded[at] != trial.capture[at]
+        if is_residual or turned[at] == trial.capture[at]:
+            status, form, _ = flipped(trial, at)
+            trial.want('byte %d keeps the form' % at, (status, form) == (0, own), is_residual)
 
 
 def flipped(trial, at):
@@ -188,7 +188,7 @@ def main():
     try_one = functools.partial(broken_by, os.path.abspath(chosen.program))
     failed = 0
     with concurrent.futures.ProcessPoolExecutor(os.cpu_count()) as pool:
-        for told in pool.map(try_one, range(chosen.seed, chosen.seed + chosen.count), chunksize=AT_ONCE):
+        for told in pool.map(try_one, range(chosen.seed, chosen.seed + chosen.count), chunksize=CAPTURES_AT_ONCE):
             if told:
                 failed += 1
                 print(told, flush=True)
