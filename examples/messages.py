@@ -34,9 +34,13 @@ def hyper(n):
     return n.to_bytes(8, 'big')
 
 
+# What stands in residual bytes. RFC 4506 asks for zeros; tests put others there.
+RESIDUAL = b'\0'
+
+
 def opaque(data):
     """Variable-length opaque data (section 4.10), or a string (4.11)."""
-    return word(len(data)) + data + bytes(-len(data) % 4)
+    return word(len(data)) + data + RESIDUAL * (-len(data) % 4)
 
 
 def array(items):

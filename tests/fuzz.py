@@ -1,0 +1,200 @@
+#!/usr/bin/env python3
+"""Tries laws of the built program on random captures.
+
+    python3 tests/fuzz.py [PROGRAM] [--seed N] [--count N]
+
+PROGRAM is crates/nfs3canon/out/nfs3canon where none is named. The captures are those of the seeds N, N + 1, .., and on each two
+of the laws below are tried, the same at each run. Where one fails, its name, the capture's seed and the folder with the files
+are printed. The last line is 'N passed, M failed', and the status is 1 where any failed.
+"""
+import argparse
+import concurrent.futures
+import functools
+import os
+import pathlib
+import random
+import shutil
+import subprocess
+import sys
+import tempfile
+
+from traffic import Names, Traffic, in_pieces, messages, word
+
+HERE = pathlib.Path(__file__).resolve().parent
+TIMEOUT, LAWS_OF_A_CAPTURE, FLIPS, CAPTURES_AT_ONCE = 60, 2, 5, 25
+
+
+class Broken(Exception):
+    """A law that does not hold."""
+
+
+class Trial:
+    """A random capture, the file `a` in a folder, and runs of the program there."""
+
+    def __init__(self, program, folder, seed):
+        self.program, self.folder, self.seed = program, folder, seed
+        self.chance = random.Random(~seed)
+        self.names = Names.drawn(self.chance)
+        self.traffic, self.capture = Traffic(seed, self.names), self.named(self.names)
+        self.write('a', self.capture)
+
+    def named(self, names):
+        """The capture of the same traffic with other names."""
+        return messages.capture(*Traffic(self.seed, names).connections)
+
+    def write(self, name, content):
+        pathlib.Path(self.folder, name).write_bytes(content)
+
+    def run(self, *words):
+        done = subprocess.run([self.program, *words], cwd=self.folder, stdin=subprocess.DEVNULL, timeout=TIMEOUT,
+                              stdout=subprocess.PIPE, stderr=subprocess.PIPE)
+        return done.returncode, done.stdout, done.stderr.decode()
+
+    def form(self, name):
+        """The canonical form of a file that is well formed."""
+        status, form, error = self.run('canon', name, '/dev/stdout')
+        self.want('canon ' + name, (status, error), (0, self.counts()))
+        return form
+
+    def counts(self):
+        """What `check` prints."""
+        sides = [[len(side) for side in connection] for connection in self.traffic.connections]
+        calls, replies = (sum(side) for side in zip((0, 0), *sides))
+        handles = {number for _, values in self.traffic.seen for kind, number in values if kind == 'handles' and number}
+        return 'ok connections=%d calls=%d replies=%d handles=%d\n' % (len(sides), calls, replies, len(handles))
+
+    def want(self, what, got, wanted):
+        if got != wanted:
+            raise Broken('%s: %.300r, wanted %.300r' % (what, got, wanted))
+
+
+def numbers_are_those_of_the_traffic(trial):
+    trial.want('check', trial.run('check', 'a'), (0, trial.counts().encode(), ''))
+
+
+def canonical_again_is_the_same(trial):
+    form = trial.form('a')
+    trial.write('form', form)
+    trial.want('canon of canon', trial.form('form'), form)
+    pair = trial.chance.choice((('a', 'form'), ('form', 'a')))
+    trial.want('same of both', trial.run('same', *pair), (0, b'same\n', ''))
+
+
+def renaming_one_to_one_keeps_the_form(trial):
+    trial.write('renamed', trial.named(Names.drawn(trial.chance)))
+    trial.want('same', trial.run('same', 'a', 'renamed'), (0, b'same\n', ''))
+    trial.want('canon of the renamed', trial.form('renamed'), trial.form('a'))
+
+
+def merging_two_values_parts_at_the_second(trial):
+    """Two file handles, or two write verifiers, that become one."""
+    first = {}
+    for place, values in trial.traffic.seen:
+        for value in values:
+            first.setdefault(value, place)
+    known = [[value for value in first if value[0] == kind and value != ('handles', 0)] for kind in ('handles', 'verifiers')]
+    known = trial.chance.choice([values for values in known if len(values) > 1] or [[]])
+    if known:
+        kept, lost = sorted(trial.chance.sample(known, 2), key=known.index)
+        trial.write('merged', trial.named(trial.names.merged(*kept, lost[1])))
+        pair = trial.chance.choice((('a', 'merged'), ('merged', 'a')))
+        trial.want('same', trial.run('same', *pair), (1, b'differ at %s\n' % first[lost].encode(), ''))
+
+
+def a_line_is_shown_for_each_message(trial):
+    status, listing, error = trial.run('show', 'a')
+    trial.want('show', (status, error), (0, ''))
+    trial.want('lines', [b' '.join(line.split()[:3]) for line in listing.splitlines()],
+               [place.replace('connection ', '').replace('record ', '').encode() for place, _ in trial.traffic.seen])
+
+
+def packing_the_streams_gives_the_capture(trial):
+    """Each stream in chunks of 65,536 bytes and one of what is left."""
+    names, wanted = [], messages.MAGIC
+    for number, connection in enumerate(trial.traffic.connections):
+        wanted += word(1)
+        for side, bodies in zip(('client', 'server'), connection):
+            stream = b''.join(messages.record(body)[4:] for body in bodies)
+            chunks = (stream[at:at + 65_536] for at in range(0, len(stream), 65_536))
+            wanted += b''.join(word(len(chunk)) + chunk for chunk in chunks) + word(0)
+            names.append('%s%d' % (side, number))
+            trial.write(names[-1], stream)
+    if names:
+        status, packed, error = trial.run('pack', '/dev/stdout', *names)
+        trial.want('pack', (status, packed, error), (0, wanted + word(0), ''))
+        trial.write('packed', packed)
+        trial.want('canon of what was packed', trial.form('packed'), trial.form('a'))
+
+
+def a_flipped_bit_shows(trial):
+    """It changes the canonical bytes or is refused where it is in no renamed value, and changes nothing in a residual byte."""
+    padded, turned = trial.named(trial.names.padded()), trial.named(trial.names.turned())
+    own = trial.form('a')
+    for at in trial.chance.sample(range(len(trial.capture)), FLIPS):
+        is_residual = padded[at] != trial.capture[at]
+        if is_residual or turned[at] == trial.capture[at]:
+            status, form, _ = flipped(trial, at)
+            trial.want('byte %d keeps the form' % at, (status, form) == (0, own), is_residual)
+
+
+def flipped(trial, at):
+    """What `canon` says of the capture with one bit of a byte flipped."""
+    capture = bytearray(trial.capture)
+    capture[at] ^= 1 << trial.chance.randrange(8)
+    trial.write('flipped', capture)
+    return trial.run('canon', 'flipped', '/dev/stdout')
+
+
+def pieces_do_not_count(trial):
+    trial.write('pieces', in_pieces(trial.chance, trial.traffic.connections))
+    trial.want('canon of the pieces', trial.form('pieces'), trial.form('a'))
+
+
+def a_front_is_cut_or_has_the_fault(trial):
+    """Of a capture, and of one with a flipped bit."""
+    at, end = trial.chance.randrange(len(trial.capture)), trial.chance.randrange(len(trial.capture))
+    status, _, fault = flipped(trial, at)
+    name = 'flipped' if status == 2 and not fault.endswith('AfterEnd\n') and trial.chance.random() < 0.7 else 'a'
+    trial.write('front', pathlib.Path(trial.folder, name).read_bytes()[:end])
+    status, out, line = trial.run('check', 'front')
+    answers = {'file %d: CaptureCut\n' % end} | ({fault} if name == 'flipped' else set())
+    trial.want('a front of ' + name, (status, out, line in answers), (2, b'', True))
+
+
+LAWS = [numbers_are_those_of_the_traffic, canonical_again_is_the_same, renaming_one_to_one_keeps_the_form,
+        merging_two_values_parts_at_the_second, a_line_is_shown_for_each_message, packing_the_streams_gives_the_capture,
+        a_flipped_bit_shows, pieces_do_not_count, a_front_is_cut_or_has_the_fault]
+
+
+def broken_by(program, seed):
+    """What is told of a capture on which a law does not hold, else None."""
+    with tempfile.TemporaryDirectory(prefix='nfs3canon') as folder:
+        trial, law = Trial(program, folder, seed), None
+        try:
+            for law in trial.chance.sample(LAWS, LAWS_OF_A_CAPTURE):
+                law(trial)
+        except (Broken, subprocess.TimeoutExpired) as error:
+            kept = tempfile.mkdtemp(prefix='nfs3canon-fuzz-')
+            shutil.copytree(folder, kept, dirs_exist_ok=True)
+            return 'FAILED %s: %s; seed %d, files in %s' % (law.__name__, error, seed, kept)
+
+
+def main():
+    parser = argparse.ArgumentParser(description=__doc__, formatter_class=argparse.RawDescriptionHelpFormatter)
+    parser.add_argument('program', nargs='?', default=str(HERE.parent / 'crates/nfs3canon/out/nfs3canon'))
+    parser.add_argument('--seed', type=int, default=1813)
+    parser.add_argument('--count', type=int, default=4_000)
+    chosen = parser.parse_args()
+    try_one = functools.partial(broken_by, os.path.abspath(chosen.program))
+    failed = 0
+    with concurrent.futures.ProcessPoolExecutor(os.cpu_count()) as pool:
+        for told in pool.map(try_one, range(chosen.seed, chosen.seed + chosen.count), chunksize=CAPTURES_AT_ONCE):
+            if told:
+                failed += 1
+                print(told, flush=True)
+    print('%d passed, %d failed' % (chosen.count - failed, failed))
+    sys.exit(1 if failed or not chosen.count else 0)
+
+
+if __name__ == '__main__':
+    main()

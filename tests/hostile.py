@@ -1,0 +1,401 @@
+#!/usr/bin/env python3
+"""Runs the built program where memory, disks, pipes and inputs are as bad as a recording tool meets them.
+
+    python3 tests/hostile.py [PROGRAM] [--only TEXT] [-v]
+
+PROGRAM is crates/nfs3canon/out/nfs3canon where none is named. Each test below is a function with a folder of its own. The
+last line is 'N passed, M failed', and the status is 1 where any failed. It takes less than a minute on four cores.
+"""
+import argparse
+import concurrent.futures
+import os
+import pathlib
+import shutil
+import signal
+import subprocess
+import sys
+import tempfile
+import threading
+import time
+
+from captures import Runs
+from traffic import NFS, NFSACL, call, dirop, fh, hyper, messages, success, word
+
+HERE = pathlib.Path(__file__).resolve().parent
+TIMEOUT = 60
+NOBODY = 65_534
+MOST_RATIO, ROUNDS = 2.6, 8  # of the time that twice as much takes; where time grows by the square it is 4
+NULL = ([call(1, NFS, 3, 0)], [success(1)])
+GOOD = messages.capture(NULL)  # its own canonical form
+GOOD_LINE = 'ok connections=1 calls=1 replies=1 handles=0\n'
+# So is this one; its listing is longer.
+LARGE = messages.capture(([call(number, NFSACL, 3, 1, bytes(4_000)) for number in range(1, 1_001)], []))
+LARGE_LINE = 'ok connections=1 calls=1000 replies=0 handles=0\n'
+REFUSED_LARGE = 'file 3000000: CaptureCut\n'
+
+
+class Place(Runs):
+    """A folder, and runs of the program there."""
+
+    def limited(self, limit, *words):
+        """A run under `ulimit` in the shell's words. A file that gets too long is an error, and not the end of the program."""
+        return self.run_by(['sh', '-c', 'trap "" XFSZ; ulimit %s; exec "$@"' % limit, 'sh', self.program, *words])
+
+    def run_by(self, words, **options):
+        done = subprocess.run(words, cwd=self.folder, stdin=subprocess.DEVNULL, stdout=subprocess.PIPE,
+                              stderr=subprocess.PIPE, timeout=TIMEOUT, **options)
+        return done.returncode, done.stdout.decode(), done.stderr.decode()
+
+    def begin(self, *words, **pipes):
+        return subprocess.Popen([self.program, *words], cwd=self.folder, stderr=subprocess.PIPE, **pipes)
+
+    def fed(self, words, pieces):
+        """A run with these pieces on its standard input, as many of them as it takes."""
+        process = self.begin(*words, stdin=subprocess.PIPE, stdout=subprocess.PIPE)
+        feeder = threading.Thread(target=feed, args=(process.stdin, pieces), daemon=True)
+        feeder.start()
+        out, error = process.stdout.read(), process.stderr.read()
+        feeder.join(TIMEOUT)
+        return process.wait(TIMEOUT), out.decode(), error.decode()
+
+    def least_memory(self):
+        """The least address space, in KiB, with which the program checks a small capture."""
+        self.write('small', GOOD)
+        low, high = 0, 65_536
+        while high - low > 16:
+            middle = (low + high) // 2
+            if self.limited('-v %d' % middle, 'check', 'small')[0] == 0:
+                high = middle
+            else:
+                low = middle
+        return high
+
+
+def feed(pipe, pieces):
+    try:
+        for piece in pieces:
+            pipe.write(piece)
+        pipe.close()
+    except BrokenPipeError:
+        pass
+
+
+def endless(first, piece):
+    yield first
+    while True:
+        yield piece
+
+
+def wait_for(condition):
+    end = time.monotonic() + TIMEOUT
+    while not condition() and time.monotonic() < end:
+        time.sleep(0.01)
+
+
+# --- Memory ---
+
+def many(count):
+    """NULL calls and their replies with different xids, and GETATTR calls on different handles."""
+    calls = [call(number, NFS, 3, 1, fh(hyper(number) * 3)) for number in range(count)]
+    return messages.capture((calls, []), NULL, ([call(9, NFSACL, 3, 1, bytes(50 * count))], []))
+
+
+def memory_that_is_refused(place):
+    """Under each limit the answer is the one of plenty of memory, or memory ran out, and OUT is whole or as it was."""
+    place.write('a', many(20_000))
+    commands = {'check': ['a'], 'show': ['a'], 'same': ['a', 'a'], 'canon': ['a', 'out']}
+    plenty = {command: place.run(command, *names) for command, names in commands.items()}
+    form, refused = place.read('out'), set()
+    for limit in range(place.least_memory(), 32_768, 384):
+        for command, names in commands.items():
+            place.write('out', b'as it was')
+            answer = place.limited('-v %d' % limit, command, *names)
+            is_refused = ran_out(answer, plenty[command])
+            refused |= {command} if is_refused else set()
+            if not is_refused:
+                place.want('%s with %d KiB' % (command, limit), answer, plenty[command])
+            wanted = form if command == 'canon' and not is_refused else b'as it was'
+            place.want('out is right after %s with %d KiB' % (command, limit), place.read('out') == wanted, True)
+    place.want('commands that were refused memory', sorted(refused), sorted(commands))
+    place.want('files', sorted(os.listdir(place.folder)), ['a', 'out', 'small'])
+
+
+def ran_out(answer, plenty):
+    """The answer says so, or says nothing where there was no memory for that either. Lines that are listed were right."""
+    status, out, error = answer
+    front = plenty[1] if plenty[1].count('\n') > 1 else ''
+    prefixes = ('first: ', 'second: ', '')
+    return status == 3 and front.startswith(out) and error in ['', *(prefix + 'out of memory\n' for prefix in prefixes)]
+
+
+def lengths_with_nothing_after_them(place):
+    """A length takes no memory."""
+    head = 'connection 1 client record 1 byte '
+    body = call(1, NFS, 3, 3, dirop(b'a' * 8, b''))[:-4] + word(40_000_000)
+    cases = [
+        (messages.MAGIC + word(1) + word(40_000_000), 'file 16: CaptureCut\n'),
+        (messages.MAGIC + word(1) + word(4) + word(0x81000000), 'file 20: CaptureCut\n'),
+        (messages.MAGIC + word(1) + word(4) + word(0x81000000) + word(0) * 3, head + '0: RecordCut\n'),
+        (messages.MAGIC + word(1) + word(4) + word(0x81000001) + word(0) * 3, head + '0: RecordTooLong\n'),
+        (messages.capture(([body], [])), head + '56: Short\n'),
+        (messages.capture(([call(1, NFS, 3, 7, fh(b'') + bytes(16) + word(40_000_000))], [])), head + '64: Short\n')]
+    limit = place.least_memory() + 2_048
+    for number, (capture, line) in enumerate(cases):
+        name = 'length%d' % number
+        place.write(name, capture)
+        for command in ('check', 'show'):
+            place.want('%s %s' % (command, name), place.limited('-v %d' % limit, command, name), (2, '', line))
+
+
+# --- Disks, pipes and signals ---
+
+def disks_that_are_full_in_the_middle(place):
+    """A regular file that may not get longer stands for a full disk, which a test cannot make."""
+    place.write('a', LARGE)
+    place.write('out', b'as it was')
+    for name in ('out', 'new'):
+        for blocks in (0, 1, 200, 7_000):
+            for words in (['canon', 'a', name], ['pack', name, 'a', 'a']):
+                place.want(' '.join(words), place.limited('-f %d' % blocks, *words), (3, '', 'write failed\n'))
+    place.want('out', place.read('out'), b'as it was')
+    place.want('files', sorted(os.listdir(place.folder)), ['a', 'out'])
+    for words in (['canon', 'a', '/dev/full'], ['pack', '/dev/full', 'a', 'a']):
+        place.want(' '.join(words), place.run(*words), (3, '', 'write failed\n'))
+
+
+def readers_that_go_away(place):
+    place.write('a', LARGE)
+    for words in (['show', 'a'], ['canon', 'a', '/dev/stdout'], ['pack', '/dev/stdout', 'a', 'a']):
+        process = place.begin(*words, stdout=subprocess.PIPE)
+        process.stdout.read(1)
+        process.stdout.close()
+        place.want(words[0], (process.wait(TIMEOUT), process.stderr.read()), (3, b'write failed\n'))
+
+
+def standard_error_that_nobody_reads(place):
+    """The status still tells."""
+    place.write('a', messages.MAGIC)
+    reader, writer = os.pipe()
+    os.close(reader)
+    done = subprocess.run([place.program, 'check', 'a'], cwd=place.folder, stderr=writer, stdout=subprocess.PIPE, timeout=TIMEOUT)
+    os.close(writer)
+    place.want('check', (done.returncode, done.stdout), (2, b''))
+
+
+def standard_files_that_are_closed(place):
+    """No line gets into a file that took the place of standard output."""
+    place.write('a', GOOD)
+    for closed in ('>&-', '<&- >&-', '<&- >&- 2>&-'):
+        error = '' if closed.endswith('2>&-') else 'write failed\n'
+        for words, wanted in ((['check', 'a'], 3), (['show', 'a'], 3), (['canon', 'a', 'out'], 3), (['pack', 'out', 'a', 'a'], 0)):
+            answer = place.run_by(['sh', '-c', 'exec "$@" ' + closed, 'sh', place.program, *words])
+            place.want(' '.join(words), answer, (wanted, '', error if wanted else ''))
+            place.want('what canon wrote', place.read('out') if words[0] == 'canon' else GOOD, GOOD)
+    place.want('check of what was packed', place.run('check', 'out')[0], 2)
+
+
+def signals_in_the_middle(place):
+    """What has the name of the output stays. What was written beside it stays too, and is told at the next run."""
+    place.write('a', LARGE)
+    place.write('out', b'as it was')
+    for words in (['canon', '/dev/stdin', 'out'], ['pack', 'out', '/dev/stdin', 'a']):
+        for number in (signal.SIGTERM, signal.SIGINT, signal.SIGKILL):
+            process = place.begin(*words, stdin=subprocess.PIPE)
+            process.stdin.write(LARGE[:2_000_000])
+            process.stdin.flush()
+            wait_for(lambda: place.read('out.part'))
+            process.send_signal(number)
+            place.want('%s %s' % (words[0], number), process.wait(TIMEOUT), -number)
+            process.stdin.close()
+            place.want('out', place.read('out'), b'as it was')
+            place.want('canon after it', place.run('canon', 'a', 'out')[0], 3)
+            os.remove(os.path.join(place.folder, 'out.part'))
+
+
+def names_that_are_taken_in_the_middle(place):
+    """Where the whole output cannot get its name, what was written beside it is removed."""
+    process = place.begin('canon', '/dev/stdin', 'out', stdin=subprocess.PIPE)
+    process.stdin.write(LARGE[:2_000_000])
+    wait_for(lambda: place.read('out.part'))
+    os.mkdir(os.path.join(place.folder, 'out'))
+    feed(process.stdin, [LARGE[2_000_000:]])
+    place.want('canon', (process.wait(TIMEOUT), process.stderr.read()), (3, b'write failed\n'))
+    place.want('files', os.listdir(place.folder), ['out'])
+
+
+def many_streams_and_few_open_files(place):
+    place.write('call', messages.record(NULL[0][0])[4:])
+    place.write('reply', messages.record(NULL[1][0])[4:])
+    place.want('pack', place.limited('-n 16', 'pack', 'out', *['call', 'reply'] * 3_000), (0, '', ''))
+    place.want('what was packed', place.read('out') == messages.capture(*[NULL] * 3_000), True)
+
+
+# --- Inputs ---
+
+def inputs_that_never_end(place):
+    place.write('good', GOOD)
+    first = messages.MAGIC + word(1) + word(0x40000000)
+    stdin = ['check', '/dev/stdin']
+    fragment = word(1 << 20) + bytes(1 << 20)
+    cases = [
+        (endless(b'', b'y\n' * 32_768), stdin, 'file 0: BadMagic\n'),
+        (endless(messages.MAGIC, b'y\n' * 32_768), stdin, 'file 8: BadMark\n'),
+        (endless(GOOD, b'y\n' * 32_768), stdin, 'file 104: AfterEnd\n'),
+        (endless(first, fragment), stdin, 'connection 1 client record 1 byte 16777216: RecordTooLong\n'),
+        (endless(b'', GOOD), ['same', 'good', '/dev/stdin'], 'second: file 104: AfterEnd\n'),
+        (endless(b'', GOOD), ['canon', '/dev/stdin', 'out'], 'file 104: AfterEnd\n')]
+    for pieces, words, line in cases:
+        place.want(' '.join(words), place.fed(words, pieces), (2, '', line))
+    place.want('check /dev/zero', place.run('check', '/dev/zero'), (2, '', 'file 0: BadMagic\n'))
+    # After 16,384 chunks of 65,536 bytes.
+    place.want('pack /dev/zero', place.run('pack', '/dev/null', '/dev/zero', 'good'), (2, '', 'file 1073807372: TooManyBytes\n'))
+    place.want('files', sorted(os.listdir(place.folder)), ['good'])
+
+
+def fifos(place):
+    """As shells make them for `<(..)`: the program reads what comes, also byte by byte."""
+    os.mkfifo(os.path.join(place.folder, 'fifo'))
+    cases = [([GOOD], 0, GOOD_LINE), ([bytes([byte]) for byte in GOOD], 0, GOOD_LINE), ([GOOD[:50]], 2, 'file 50: CaptureCut\n'),
+             ([], 2, 'file 0: CaptureCut\n')]
+    for pieces, status, line in cases:
+        def write(pieces=pieces):
+            with open(os.path.join(place.folder, 'fifo'), 'wb', buffering=0) as pipe:
+                feed(pipe, pieces)
+        writer = threading.Thread(target=write, daemon=True)
+        writer.start()
+        found, out, error = place.run('check', 'fifo')
+        writer.join(TIMEOUT)
+        place.want('check of %d pieces' % len(pieces), (found, out + error), (status, line))
+
+
+def files_that_may_not_be_read(place):
+    """As somebody whom modes bind, where the tests run as root."""
+    place.write('good', GOOD)
+    place.write('secret', GOOD)
+    os.chmod(os.path.join(place.folder, 'secret'), 0)
+    os.chmod(place.folder, 0o755)
+    reader = {'user': NOBODY, 'group': NOBODY, 'extra_groups': []} if os.geteuid() == 0 else {}
+    program = shutil.copy(place.program, place.folder)  # since the repository may stand where others may not look
+    for words in (['check', 'secret'], ['show', 'secret'], ['same', 'good', 'secret'], ['canon', 'secret', 'out']):
+        answer = place.run_by([program, *words], **reader)
+        place.want(' '.join(words), answer, (3, '', 'open failed: secret\n'))
+    if reader:
+        answer = place.run_by([program, 'canon', 'good', 'out'], **reader)
+        place.want('canon into a folder that may not be written', answer, (3, '', 'open failed: out\n'))
+    os.remove(program)
+    place.want('files', sorted(os.listdir(place.folder)), ['good', 'secret'])
+
+
+def files_that_change_while_they_are_read(place):
+    """The program waits for its reader, near the beginning of the file, when the file gets shorter or longer."""
+    for size, status, line in ((3_000_000, 2, REFUSED_LARGE), (len(LARGE) + 1, 2, 'file %d: AfterEnd\n' % len(LARGE))):
+        place.write('a', LARGE)
+        process = place.begin('canon', 'a', '/dev/stdout', stdout=subprocess.PIPE)
+        front = process.stdout.read(1)
+        os.truncate(os.path.join(place.folder, 'a'), size)
+        form = front + process.stdout.read()
+        place.want('a front of the form', LARGE.startswith(form), True)
+        place.want('canon', (process.wait(TIMEOUT), process.stderr.read().decode()), (status, line))
+
+
+# --- Time ---
+
+def xids(count):
+    calls, reply = call(0, NFS, 3, 0)[4:], success(0)[4:]
+    client = b''.join(b'\0\0\0\x2c\x80\0\0\x28%b%b' % (word(number), calls) for number in range(count))
+    server = b''.join(b'\0\0\0\x1c\x80\0\0\x18%b%b' % (word(number), reply) for number in reversed(range(count)))
+    return client, server
+
+
+def handles(count):
+    """GETATTR calls of one xid."""
+    head = call(7, NFS, 3, 1, word(8))
+    return b''.join(b'\0\0\0\x38\x80\0\0\x34%b%b' % (head, hyper(number * 0x9e3779b97f4a7c15 % (1 << 64))) for number in range(count)), b''
+
+
+def empty_fragments(count):
+    """Before the last fragment of a call."""
+    stream = word(0) * count + messages.record(NULL[0][0])[4:]
+    return word(len(stream)) + stream, b''
+
+
+def single_bytes(count):
+    """One raw call in chunks of a byte."""
+    stream = messages.record(call(1, NFSACL, 3, 1, bytes(count)))[4:]
+    return b''.join(b'\0\0\0\x01%c' % byte for byte in stream), b''
+
+
+def seconds(place, command, *names):
+    """Processor time of a run."""
+    with open(os.devnull, 'wb') as nothing:
+        process = subprocess.Popen([place.program, command, *names], cwd=place.folder, stdout=nothing, stderr=nothing)
+        _, status, used = os.wait4(process.pid, 0)
+        process.returncode = os.waitstatus_to_exitcode(status)
+    place.want(command, process.returncode, 0)
+    return used.ru_utime + used.ru_stime
+
+
+def ratio(place, command, *more):
+    """How much longer the whole takes than the half: the least of some rounds, since other programs run beside them."""
+    least = float('inf')
+    for _ in range(ROUNDS):
+        half, whole = (seconds(place, command, name, *more) for name in ('half', 'whole'))
+        least = min(least, whole / max(half, 0.001))
+        if least <= MOST_RATIO:
+            break
+    return least
+
+
+def linear(make, count):
+    """A test that twice as much does not take much more than twice as long."""
+    def test(place):
+        for name, number in (('half', count // 2), ('whole', count)):
+            client, server = make(number)
+            place.write(name, messages.MAGIC + word(1) + client + word(0) + server + word(0) + word(0))
+        for command, *more in (('check',), ('canon', '/dev/null'), ('show',)):
+            found = ratio(place, command, *more)
+            if found > MOST_RATIO:
+                place.wrong.append('%s takes %.1f times as long for twice as much' % (command, found))
+    test.__name__ = 'time_of_%s' % make.__name__
+    return test
+
+
+TESTS = [linear(xids, 1_000_000), linear(handles, 1_000_000), linear(empty_fragments, 2_000_000), linear(single_bytes, 2_000_000),
+         memory_that_is_refused, lengths_with_nothing_after_them, disks_that_are_full_in_the_middle, readers_that_go_away,
+         standard_error_that_nobody_reads, standard_files_that_are_closed, signals_in_the_middle,
+         names_that_are_taken_in_the_middle, many_streams_and_few_open_files, inputs_that_never_end, fifos,
+         files_that_may_not_be_read, files_that_change_while_they_are_read]
+
+
+def tried(program, test):
+    with tempfile.TemporaryDirectory(prefix='nfs3canon') as folder:
+        place = Place(program, folder)
+        try:
+            test(place)
+        except (OSError, subprocess.TimeoutExpired) as error:
+            place.wrong.append(str(error))
+        os.chmod(folder, 0o755)
+        return place.wrong
+
+
+def main():
+    parser = argparse.ArgumentParser(description=__doc__, formatter_class=argparse.RawDescriptionHelpFormatter)
+    parser.add_argument('program', nargs='?', default=str(HERE.parent / 'crates/nfs3canon/out/nfs3canon'))
+    parser.add_argument('--only', default='')
+    parser.add_argument('-v', action='store_true')
+    words = parser.parse_args()
+    program, failed = os.path.abspath(words.program), 0
+    tests = [test for test in TESTS if words.only in test.__name__]
+    with concurrent.futures.ThreadPoolExecutor(os.cpu_count()) as pool:
+        for test, wrong in zip(tests, pool.map(lambda test: tried(program, test), tests)):
+            failed += bool(wrong)
+            if wrong:
+                print('FAILED %s: %s' % (test.__name__, '; '.join(wrong[:9])), flush=True)
+            elif words.v:
+                print('ok %s' % test.__name__, flush=True)
+    print('%d passed, %d failed' % (len(tests) - failed, failed))
+    sys.exit(1 if failed or not tests else 0)
+
+
+if __name__ == '__main__':
+    main()

@@ -1,0 +1,320 @@
+#!/usr/bin/env python3
+"""Tests of the scripts in tools/, and of the README's lines.
+
+    python3 tests/tools.py [PROGRAM] [--only TEXT] [-v]
+
+PROGRAM is crates/nfs3canon/out/nfs3canon where none is named. What needs tshark is skipped, with a word, where it is not
+there. The last line is 'N passed, M failed', and the status is 1 where any failed.
+"""
+import argparse
+import concurrent.futures
+import os
+import pathlib
+import random
+import re
+import shutil
+import subprocess
+import sys
+import tempfile
+
+from captures import Runs, rows_of
+from recordings import ACK, CLIENT, RST, SERVER, Talk, pcap, pcapng
+from texts import bytes_of, capture_of
+from traffic import NFS, Names, Traffic, call, messages, success
+
+sys.path.insert(0, str(pathlib.Path(__file__).resolve().parent.parent / 'tools'))
+from layouts import Message, procedure_of  # noqa: E402
+
+HERE = pathlib.Path(__file__).resolve().parent
+TOP = HERE.parent
+CALLS = [call(number, NFS, 3, 0) for number in range(1, 40)]
+REPLIES = [success(number) for number in range(1, 40)]
+
+
+def stream(bodies):
+    return b''.join(messages.record(body)[4:] for body in bodies)
+
+
+def packed(*connections):
+    """What `pack` writes of connections with short streams."""
+    sides = [side for connection in connections for side in connection]
+    sides = [messages.word(len(side)) + side + messages.word(0) if side else messages.word(0) for side in sides]
+    parts = (messages.word(1) + client + server for client, server in zip(sides[::2], sides[1::2]))
+    return messages.MAGIC + b''.join(parts) + messages.word(0)
+
+
+class Tools(Runs):
+    """A folder, and runs of the scripts there."""
+
+    tried = 0  # lines of the README
+
+    def tool(self, name, *words, stdin=None):
+        kept, self.program = self.program, str(TOP / 'tools' / name)
+        try:
+            return self.run(*words, stdin=stdin)
+        finally:
+            self.program = kept
+
+    def from_pcap(self, recording, *options):
+        """What is told, line by line, of a recording that is taken to `out`."""
+        self.write('recording', recording)
+        status, out, error = self.tool('from_pcap', 'recording', 'out', '--program', self.program, *options)
+        return status, out.splitlines() + error.splitlines()
+
+    def taken(self, what, recording, wanted, *options):
+        """The recording gives just these connections."""
+        if os.path.exists(os.path.join(self.folder, 'out')):
+            os.remove(os.path.join(self.folder, 'out'))
+        status, lines = self.from_pcap(recording, *options)
+        self.want(what, (status, self.read('out')), (0, packed(*wanted)))
+        return lines
+
+
+def exchange(talk, pieces=1, calls=CALLS, replies=REPLIES):
+    """The segments of some calls and their replies, each side's stream in pieces."""
+    frames = []
+    for side, bodies in enumerate((calls, replies)):
+        content = stream(bodies)
+        size = -(-len(content) // pieces)
+        frames += [talk.sent(side, content[at:at + size]) for at in range(0, len(content), size)]
+    return frames
+
+
+def whole(**options):
+    talk = Talk(**options)
+    return [*talk.opened(), *exchange(talk, 5), *talk.closed()]
+
+
+ALL = (stream(CALLS), stream(REPLIES))
+
+
+def recordings_of_all_kinds(tools):
+    """pcap and pcapng, IPv6, VLAN tags, sequence numbers that wrap, a filter, and connections that overlap."""
+    tools.taken('pcap', pcap(whole()), [ALL])
+    tools.taken('pcapng', pcapng(whole()), [ALL])
+    tools.taken('IPv6', pcap(whole(hosts=('2001:db8::7', '2001:db8::1'))), [ALL])
+    tools.taken('VLAN', pcap(whole(vlan=7)), [ALL])
+    tools.taken('wrapping', pcap(whole(first=((1 << 32) - 50, (1 << 32) - 1))), [ALL])
+    one, two = whole(port=700), whole(port=701, service=111)
+    tools.taken('two', pcap([frame for pair in zip(one, two) for frame in pair]), [ALL, ALL])
+    tools.taken('filter', pcap(one + two), [ALL], '--filter', 'tcp.port == 111')
+    lines = tools.taken('cut in its last frame', pcap(whole())[:-10], [ALL])
+    tools.want('cut in its last frame', 'cut short' in lines[-1], True)
+    tools.taken('a port used again', pcap(whole() + whole(first=(900_000, 800_000))), [ALL, ALL])
+
+
+def segments_in_any_order(tools):
+    """Segments out of order, again, overlapping, and before the end was known."""
+    chance = random.Random(7)
+    for _ in range(5):
+        talk = Talk()
+        opened, frames = talk.opened(), exchange(talk, 9)
+        frames += chance.choices(frames, k=9)
+        chance.shuffle(frames)
+        tools.taken('shuffled', pcap(opened + frames), [ALL])
+    talk, content = Talk(), stream(CALLS)
+    frames = talk.opened() + [talk.frame(0, ACK, content[at:at + 100], at) for at in (0, 150, 60, 240, 200, 30)]
+    talk.next[0] += 340
+    frames += [talk.frame(0, ACK, b'\0', -1), talk.sent(0, content[340:]), *talk.closed()]
+    tools.taken('overlapping', pcap(frames), [(content, b'')])
+
+
+def who_is_the_client(tools):
+    def told(recording, *options):
+        return tools.taken('client', recording, [ALL], *options)[0].partition(': client ')[2]
+    client, server = CLIENT + ':700 ', SERVER + ':2049 '
+    sizes = ', %d and %d bytes' % (len(stream(CALLS)), len(stream(REPLIES)))
+    tools.want('SYN', told(pcap(whole())), client + 'by the SYN' + sizes)
+    tools.want('the answer to a SYN', told(pcap(whole()[1:])), client + 'by the SYN' + sizes)
+    tools.want('a SYN without its answer', told(pcap([whole()[0], *whole()[2:]])), client + 'by the SYN' + sizes)
+    replies_first = whole()[8:] + whole()[3:8]
+    tools.want('ports', told(pcap(replies_first), '--midstream'), client + 'by the ports' + sizes)
+    other = [*Talk(service=900).opened(), *exchange(Talk(service=900))]
+    tools.want('first payload', told(pcap(other[3:]), '--midstream'), client + 'by the first payload' + sizes)
+    swapped = whole(port=2049, service=700, hosts=(SERVER, CLIENT))
+    tools.want('SYN before ports', told(pcap(swapped)), server + 'by the SYN' + sizes)
+
+
+def what_is_left_out(tools):
+    """Connections without a SYN or without payload, and what stands after bytes that are missing."""
+    status, lines = tools.from_pcap(pcap(whole()[3:]))
+    tools.want('no SYN', (status, 'no SYN in the recording' in lines[0]), (1, True))
+    status, lines = tools.from_pcap(pcap(Talk().opened()))
+    tools.want('no payload', (status, lines[0].endswith(': no payload')), (1, True))
+    frames, calls, replies = whole(), stream(CALLS), stream(REPLIES)
+    fifth = -(-len(calls) // 5)
+    told = 'connection 1 client: bytes are missing from the recording after the first %d; the stream ends there'
+    lines = tools.taken('a gap', pcap(frames[:4] + frames[5:]), [(calls[:fifth], replies)])
+    tools.want('a gap', lines[1:], [told % fifth])
+    lines = tools.taken('the last segment is lost', pcap(frames[:7] + frames[8:]), [(calls[:4 * fifth], replies)])
+    tools.want('the last segment is lost', lines[1:], [told % (4 * fifth)])
+    lines = tools.taken('the first segment is lost', pcap(frames[:3] + frames[4:]), [(b'', replies)])
+    tools.want('the first segment is lost', lines[1:], [told % 0])
+    whole_calls = fifth // 44 * 44
+    lines = tools.taken('a gap', pcap(frames[:4] + frames[5:]), [(calls[:whole_calls], replies)], '--whole-records')
+    tools.want('whole records', lines[2:], ['connection 1 client: the last %d bytes are no whole record, and are dropped'
+                                            % (fifth - whole_calls)])
+    tools.taken('frames cut to 154 bytes', pcap(frames, 154), [(calls[:100], replies[:100])])
+    tools.taken('reset', pcap([*frames[:8], Talk(first=(1_001 + len(calls), 5_001)).frame(0, RST)]), [(calls, b'')])
+
+
+def explained(tools):
+    """Each example that is refused, and for each reason the first row of captures.rows, by the line of `check`."""
+    lines = {}
+    for _, row in rows_of('captures.rows'):
+        reason = row['line'].rpartition(' ')[2]
+        if not row['line'].startswith('ok ') and 'x' not in row.get('file', '') and reason not in lines:
+            lines[reason] = row['line']
+            tools.write(reason, capture_of(row['capture']) if 'capture' in row else bytes_of(row['file']))
+    tools.want('reasons', len(lines) >= 17, True)
+    for reason, line in lines.items():
+        status, out, error = tools.tool('explain', reason, stdin=('first: %s\n' % line).encode())
+        told = (status, '\n%s: ' % reason in out, 'no reason of' in out, error)
+        tools.want('explain ' + line, told, (0, True, False, ''))
+        if ' byte ' in line and reason not in ('Trailing', 'AuthLength', 'RecordCut', 'RecordTooLong'):
+            tools.want('the item of ' + line, 'after the last item' in out or 'allowed: ' not in out, False)
+
+
+def explained_as_documented(tools):
+    """The words of docs/FORMATS.md."""
+    tools.write('a', (TOP / 'examples/bad_status.nfs3cap').read_bytes())
+    status, out, _ = tools.tool('explain', 'a', 'connection 1 server record 1 byte 24')
+    tools.want('bad_status', (status, out.splitlines()[:3]), (0, [
+        'connection 1 server record 1: reply NFSPROC3_GETATTR of program 100003, version 3, procedure 1',
+        'xid 7, a body of 28 bytes, to call record 1', 'byte 24: status = 3']))
+    for place, status in (('connection 1 server record 2 byte 0', 1), ('file 9999', 1), ('nothing', 2)):
+        tools.want(place, tools.tool('explain', 'a', place)[0], status)
+
+
+def layouts_agree_with_the_listing(tools):
+    """The items that tools/layouts.py reads are those that `show` lists, on random captures."""
+    chance = random.Random(3)
+    for seed in range(60):
+        connections = Traffic(seed, Names.drawn(chance)).connections
+        tools.write('a', messages.capture(*connections))
+        wanted = [line for calls, replies in connections for line in items_of(calls, replies)]
+        listing = tools.run('show', 'a')[1].splitlines()
+        found = [(line.split()[4], re.findall(r' (\w+)=("[^"]*"|\w*)', line.partition(' xid=')[2])) for line in listing]
+        tools.want('seed %d' % seed, [(name, [(item, value.strip('"')) for item, value in items]) for name, items in found], wanted)
+
+
+def items_of(calls, replies):
+    """The procedure of each message of a connection, and its items after the xid as the listing has them."""
+    procedures = {}
+    for body in calls:
+        procedures[body[:4]] = procedure_of(*(int.from_bytes(body[at:at + 4], 'big') for at in (12, 16, 20)))
+    for body, is_call in [(body, True) for body in calls] + [(body, False) for body in replies]:
+        message = Message(body)
+        message.read(is_call, procedures[body[:4]])
+        items = [item for item in message.items[1:] if not item.name.endswith(')')]
+        yield procedures[body[:4]].name, [(item.name, listed(body[item.begin:item.end], item)) for item in items]
+
+
+def listed(piece, item):
+    if item.name in STRINGS:
+        return ''.join(chr(byte) if 32 <= byte < 127 and byte not in b'"\\' else '\\x%02x' % byte for byte in piece)
+    return item.value
+
+
+def lines_of_the_readme(tools, chosen):
+    """Its command lines, each with what its first line of output begins with and, where it is not 0, its status."""
+    for line in (TOP / 'README.md').read_text().splitlines():
+        command, _, wanted = line.partition('  # ')
+        if not line.startswith('    ') or not wanted or ('knfsd' in command or '/tmp/a' in command) != chosen:
+            continue
+        wanted, _, status = wanted.replace('(nothing)', '').partition(', status ')
+        words = command.replace('/tmp/', tools.folder + '/').replace('./nfs3canon', tools.program)
+        words = words.replace('from_pcap', 'from_pcap --program ' + tools.program)
+        done = subprocess.run(['sh', '-c', words], cwd=TOP, stdout=subprocess.PIPE, stderr=subprocess.STDOUT, text=True)
+        told = done.stdout.partition('\n')[0]
+        found = told[:len(wanted) - 2] + '..' if wanted.endswith('..') else told
+        tools.want(command.strip(), (found, done.returncode), (wanted, int(status or 0)))
+        tools.tried += 1
+
+
+def commands_of_the_readme(tools):
+    lines_of_the_readme(tools, False)
+    tools.want('lines', tools.tried, 7)
+
+
+def recordings_of_the_readme(tools):
+    lines_of_the_readme(tools, True)
+    tools.want('lines', tools.tried, 3)
+    for name in ('a', 'b'):
+        answer = tools.run('check', name + '.nfs3cap')
+        tools.want('check', answer, (0, 'ok connections=18 calls=276 replies=276 handles=53\n', ''))
+
+
+def answers_of_the_examples(tools):
+    """Each file of examples/ stands in its README with what `check` prints, and no other does."""
+    rows = re.findall(r'^\| `(\w+\.nfs3cap)` \| .* \| `([^`]*)` \| (\d) \|$', (TOP / 'examples/README.md').read_text(), re.M)
+    tools.want('files', sorted(name for name, _, _ in rows), sorted(path.name for path in (TOP / 'examples').glob('*.nfs3cap')))
+    for name, line, status in rows:
+        found, out, error = tools.run('check', str(TOP / 'examples' / name))
+        tools.want(name, (out + error, found), (line + '\n', int(status)))
+
+
+def examples_are_made_alike(tools):
+    """examples/make.py writes the captures that are there."""
+    for name in ('make.py', 'messages.py'):
+        shutil.copy(TOP / 'examples' / name, tools.folder)
+    done = subprocess.run([sys.executable, 'make.py'], cwd=tools.folder, stdout=subprocess.PIPE, stderr=subprocess.STDOUT)
+    tools.want('make.py', (done.returncode, done.stdout), (0, b''))
+    for path in (TOP / 'examples').glob('*.nfs3cap'):
+        tools.want(path.name, tools.read(path.name), path.read_bytes())
+
+
+def pages_agree(tools):
+    """The reasons have the same names in docs/FORMATS.md, the man page and tools/explain, and the dump is that of the example."""
+    formats = (TOP / 'docs/FORMATS.md').read_text()
+    reasons = re.findall(r'^\| \d+ \| `(\w+)` \|', formats, re.M)
+    tools.want('reasons', len(reasons), 19)
+    tools.want('man page', re.findall(r'^(\w+)\|', (TOP / 'man/nfs3canon.1').read_text(), re.M), reasons)
+    tools.want('explain', re.findall(r"'([A-Z]\w+)': ", (TOP / 'tools/explain').read_text()), reasons)
+    dump = re.findall(r'^\| (\d+) \| ((?:[0-9a-f]{8} ?)+) \|', formats, re.M)
+    tools.want('dump', bytes.fromhex(''.join(words for _, words in dump)), (TOP / 'examples/null.nfs3cap').read_bytes())
+    sizes = [len(bytes.fromhex(words)) for _, words in dump]
+    tools.want('places of the dump', [int(at) for at, _ in dump], [sum(sizes[:at]) for at in range(len(sizes))])
+    if shutil.which('man'):
+        done = subprocess.run(['man', '--warnings', '-l', 'man/nfs3canon.1'], cwd=TOP, stdout=subprocess.DEVNULL, stderr=subprocess.PIPE)
+        tools.want('warnings of man', done.stderr, b'')
+
+
+STRINGS = ('name', 'path', 'machinename', 'dirpath', 'hostname', 'directory')
+OF_TSHARK = [recordings_of_all_kinds, segments_in_any_order, who_is_the_client, what_is_left_out, recordings_of_the_readme]
+TESTS = [*OF_TSHARK, explained, explained_as_documented, layouts_agree_with_the_listing, commands_of_the_readme,
+         answers_of_the_examples, examples_are_made_alike, pages_agree]
+
+
+def tried(program, test):
+    with tempfile.TemporaryDirectory(prefix='nfs3canon') as folder:
+        tools = Tools(program, folder)
+        test(tools)
+        return tools.wrong
+
+
+def main():
+    parser = argparse.ArgumentParser(description=__doc__, formatter_class=argparse.RawDescriptionHelpFormatter)
+    parser.add_argument('program', nargs='?', default=str(TOP / 'crates/nfs3canon/out/nfs3canon'))
+    parser.add_argument('--only', default='')
+    parser.add_argument('-v', action='store_true')
+    words = parser.parse_args()
+    program, failed = os.path.abspath(words.program), 0
+    tests = [test for test in TESTS if words.only in test.__name__]
+    if not shutil.which('tshark'):
+        skipped = [test for test in tests if test in OF_TSHARK]
+        print('skipped, since tshark is not there:', *(test.__name__ for test in skipped))
+        tests = [test for test in tests if test not in skipped]
+    with concurrent.futures.ThreadPoolExecutor(os.cpu_count()) as pool:
+        for test, wrong in zip(tests, pool.map(lambda test: tried(program, test), tests)):
+            failed += bool(wrong)
+            if wrong:
+                print('FAILED %s: %s' % (test.__name__, '; '.join(wrong)), flush=True)
+            elif words.v:
+                print('ok %s' % test.__name__, flush=True)
+    print('%d passed, %d failed' % (len(tests) - failed, failed))
+    sys.exit(1 if failed or not tests else 0)
+
+
+if __name__ == '__main__':
+    main()
