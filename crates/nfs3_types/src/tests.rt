@@ -2,11 +2,8 @@
 
 ghost use Rattle.std.specs.Prelude.{◌≤◌, length};
 
-use crate::mount3::{Exports, MountList, MountOk, MountStatus};
-use crate::{
-    DirOp, Fattr, FileKind, Guard, Handle, PostOpAttr, PostOpFh, Res, Sattr, Stable, Status, Time,
-    TimeHow, Void, Wcc, WccAttr,
-};
+use crate::mount3::MountOk;
+use crate::{Fattr, FileKind, Handle, PostOpAttr, PostOpFh, Sattr, Time, TimeHow, Void, Wcc};
 use std::alloc::{AllocError, Global};
 use std::process::Abort;
 use std::test::Fail;
@@ -95,38 +92,6 @@ fn attributes_are_read(rt: HostRuntime) -> Result<(), Fail> {
     Ok(())
 }
 
-#[test]
-fn listed_statuses_alone_are_read(rt: HostRuntime) {
-    let alloc = rt.alloc();
-    let statuses = [
-        0, 1, 2, 5, 6, 13, 17, 18, 19, 20, 21, 22, 27, 28, 30, 31, 63, 66, 69, 70, 71, 10001,
-        10002, 10003, 10004, 10005, 10006, 10007, 10008,
-    ];
-    let mounts = [0, 1, 2, 5, 13, 20, 22, 63, 10004, 10006];
-    for n in 0..10_011 {
-        let body: [u8; 4] = u32::to_be_bytes(n);
-        let status = value_in::<Status>(alloc, &body).ok().map(|s| s.number());
-        assert_eq!(rt; status, statuses.contains(&n).then_some(n), "status {n}");
-        let mount = value_in::<MountStatus>(alloc, &body)
-            .ok()
-            .map(|s| s.number());
-        assert_eq!(rt; mount, mounts.contains(&n).then_some(n), "mount status {n}");
-    }
-}
-
-#[test]
-fn listed_kinds_alone_are_read(rt: HostRuntime) {
-    let alloc = rt.alloc();
-    for n in 0..9 {
-        let body: [u8; 4] = u32::to_be_bytes(n);
-        let kind = value_in::<FileKind>(alloc, &body).ok().map(|k| k.number());
-        assert_eq!(rt; kind, (1..8).contains(&n).then_some(n), "type {n}");
-        let mut input = Input::new(&body);
-        let stable = Stable::take(&mut input).ok().map(|s| s.number());
-        assert_eq!(rt; stable, (n < 3).then_some(n), "stable {n}");
-    }
-}
-
 /// Nothing is set.
 const NOTHING_SET: Sattr = Sattr {
     mode: None,
@@ -179,58 +144,6 @@ fn settable_numbers_are_read(rt: HostRuntime) -> Result<(), Fail> {
 }
 
 #[test]
-fn settable_times_are_read(rt: HostRuntime) -> Result<(), Fail> {
-    let by_server = Sattr {
-        atime: TimeHow::Server,
-        ..NOTHING_SET
-    };
-    let time = TimeHow::Client(Time { sec: 8, nsec: 9 });
-    let atime = Sattr {
-        atime: time,
-        ..NOTHING_SET
-    };
-    let mtime = Sattr {
-        mtime: time,
-        ..NOTHING_SET
-    };
-    let rows: [(&[u32], Sattr); 3] = [
-        (&[0, 0, 0, 0, 1, 0], by_server),
-        (&[0, 0, 0, 0, 2, 8, 9, 0], atime),
-        (&[0, 0, 0, 0, 0, 2, 8, 9], mtime),
-    ];
-    settable_are_read(&rt, rt.alloc(), &rows)
-}
-
-#[test]
-fn states_around_a_change_are_written_again(rt: HostRuntime) -> Result<(), Fail> {
-    let alloc = rt.alloc();
-    let body = spelled(alloc, &[1, 0, 4096, 2, 80, 3, 90, 0])?;
-    assert!(rt; body.len() == 32);
-    let wcc: Wcc = value_in(alloc, &body).map_err(|_| "refused")?;
-    let before = WccAttr {
-        size: 4096,
-        mtime: Time { sec: 2, nsec: 80 },
-        ctime: Time { sec: 3, nsec: 90 },
-    };
-    assert_eq!(rt; (wcc.before, wcc.after.attr), (Some(before), None));
-    let writer = rewritten::<Wcc>(alloc, &body).map_err(|_| "refused")?;
-    assert_eq!(rt; writer.bytes(), body.as_slice());
-    Ok(())
-}
-
-#[test]
-fn guards_are_written_again(rt: HostRuntime) -> Result<(), Fail> {
-    let alloc = rt.alloc();
-    let body = spelled(alloc, &[1, 3, 90])?;
-    assert!(rt; body.len() == 12);
-    let guard: Guard = value_in(alloc, &body).map_err(|_| "refused")?;
-    assert_eq!(rt; guard.check, Some(Time { sec: 3, nsec: 90 }));
-    let writer = rewritten::<Guard>(alloc, &body).map_err(|_| "refused")?;
-    assert_eq!(rt; writer.bytes(), body.as_slice());
-    Ok(())
-}
-
-#[test]
 fn handles_are_written_with_zero_padding(rt: HostRuntime) -> Result<(), Fail> {
     let alloc = rt.alloc();
     let body = spelled(alloc, &[1, 2, 0xabcd_ffff])?;
@@ -240,42 +153,6 @@ fn handles_are_written_with_zero_padding(rt: HostRuntime) -> Result<(), Fail> {
     assert_eq!(rt; told.handle, Handle::new(&[0xab, 0xcd]));
     let writer = rewritten::<PostOpFh>(alloc, &body).map_err(|_| "refused")?;
     assert_eq!(rt; writer.bytes(), zero.as_slice());
-    Ok(())
-}
-
-#[test]
-fn places_are_written_with_zero_padding(rt: HostRuntime) -> Result<(), Fail> {
-    let alloc = rt.alloc();
-    let body = spelled(alloc, &[3, 0x0102_03ff, 5, 0x6865_6c6c, 0x6fff_ffff])?;
-    let zero = spelled(alloc, &[3, 0x0102_0300, 5, 0x6865_6c6c, 0x6f00_0000])?;
-    assert!(rt; body.len() == 20);
-    let place: DirOp = value_in(alloc, &body).map_err(|_| "refused")?;
-    assert_eq!(rt; place.dir.as_slice(), [1, 2, 3].as_slice());
-    assert_eq!(rt; place.name, b"hello".as_slice());
-    let writer = rewritten::<DirOp>(alloc, &body).map_err(|_| "refused")?;
-    assert_eq!(rt; writer.bytes(), zero.as_slice());
-    Ok(())
-}
-
-#[test]
-fn settable_are_refused(rt: HostRuntime) -> Result<(), Fail> {
-    let alloc = rt.alloc();
-    let body = spelled(alloc, &[0, 0, 0, 0, 3, 0, 0, 2])?;
-    assert!(rt; body.len() == 32);
-    let stop = |at, reason| Some(Stop { at, reason });
-    assert_eq!(rt; fault_in::<Sattr>(alloc, &body), stop(16, Reason::BadEnum));
-    assert_eq!(rt;
-        fault_in::<Sattr>(alloc, &body[..16]),
-        stop(16, Reason::Short)
-    );
-    assert_eq!(rt;
-        fault_in::<Sattr>(alloc, &body[12..]),
-        stop(4, Reason::BadBool)
-    );
-    assert_eq!(rt;
-        fault_in::<Guard>(alloc, &body[28..]),
-        stop(0, Reason::BadBool)
-    );
     Ok(())
 }
 
@@ -293,22 +170,6 @@ fn told_parts_are_refused(rt: HostRuntime) -> Result<(), Fail> {
     assert_eq!(rt;
         fault_in::<Void>(alloc, &body[..1]),
         stop(0, Reason::Trailing)
-    );
-    Ok(())
-}
-
-#[test]
-fn results_are_refused(rt: HostRuntime) -> Result<(), Fail> {
-    let alloc = rt.alloc();
-    let body = spelled(alloc, &[0, 2])?;
-    assert!(rt; body.len() == 8);
-    assert_eq!(rt; fault_in::<Res<Void, PostOpAttr>>(alloc, &body[..4]), None);
-    assert_eq!(rt;
-        fault_in::<Res<Void, PostOpAttr>>(alloc, &body[4..]),
-        Some(Stop {
-            at: 4,
-            reason: Reason::Short
-        })
     );
     Ok(())
 }
@@ -369,100 +230,5 @@ fn a_mount_is_read(rt: HostRuntime) -> Result<(), Fail> {
     assert_eq!(rt; mount.flavors.iter().map(|f| f.number).eq([1, 0]), true);
     let writer = rewritten::<MountOk>(alloc, &body).map_err(|_| "refused")?;
     assert_eq!(rt; writer.bytes(), body.as_slice());
-    Ok(())
-}
-
-#[test]
-fn mounts_are_read(rt: HostRuntime) -> Result<(), Fail> {
-    let alloc = rt.alloc();
-    // the hosts h and ij with the directories /x and /
-    let words = [
-        1,
-        1,
-        0x68ff_ffff,
-        2,
-        0x2f78_ffff,
-        1,
-        2,
-        0x696a_0000,
-        1,
-        0x2f00_0000,
-        0,
-    ];
-    let body = spelled(alloc, &words)?;
-    assert!(rt; body.len() == 44);
-    let list: MountList = value_in(alloc, &body).map_err(|_| "refused")?;
-    assert!(rt; list.entries.len() == 2);
-    assert_eq!(rt; list.entries[0].hostname, b"h".as_slice());
-    assert_eq!(rt; list.entries[0].directory, b"/x".as_slice());
-    assert_eq!(rt; list.entries[1].hostname, b"ij".as_slice());
-    assert_eq!(rt; list.entries[1].directory, b"/".as_slice());
-    let mut zero = words;
-    zero[2] = 0x6800_0000;
-    zero[4] = 0x2f78_0000;
-    let zero = spelled(alloc, &zero)?;
-    let writer = rewritten::<MountList>(alloc, &body).map_err(|_| "refused")?;
-    assert_eq!(rt; writer.bytes(), zero.as_slice());
-    Ok(())
-}
-
-#[test]
-fn exports_are_read(rt: HostRuntime) -> Result<(), Fail> {
-    let alloc = rt.alloc();
-    // /x for the groups a and bc, / for everyone
-    let words = [
-        1,
-        2,
-        0x2f78_0000,
-        1,
-        1,
-        0x6100_0000,
-        1,
-        2,
-        0x6263_0000,
-        0,
-        1,
-        1,
-        0x2f00_0000,
-        0,
-        0,
-    ];
-    let body = spelled(alloc, &words)?;
-    assert!(rt; body.len() == 60);
-    let list: Exports = value_in(alloc, &body).map_err(|_| "refused")?;
-    assert!(rt; list.entries.len() == 2);
-    assert_eq!(rt; list.entries[0].directory, b"/x".as_slice());
-    assert!(rt; list.entries[0].groups.len() == 2);
-    assert_eq!(rt; list.entries[0].groups[0].name, b"a".as_slice());
-    assert_eq!(rt; list.entries[0].groups[1].name, b"bc".as_slice());
-    assert_eq!(rt; list.entries[1].directory, b"/".as_slice());
-    assert!(rt; list.entries[1].groups.is_empty());
-    let writer = rewritten::<Exports>(alloc, &body).map_err(|_| "refused")?;
-    assert_eq!(rt; writer.bytes(), body.as_slice());
-    Ok(())
-}
-
-#[test]
-fn mounts_are_refused(rt: HostRuntime) -> Result<(), Fail> {
-    let alloc = rt.alloc();
-    let stop = |at, reason| Some(Stop { at, reason });
-    let body = spelled(alloc, &[1, 256, 0, 1, 1025, 0, 2, 0, 0x4000_0000, 1])?;
-    assert!(rt; body.len() == 40);
-    assert_eq!(rt;
-        fault_in::<MountList>(alloc, &body),
-        stop(4, Reason::TooLong)
-    );
-    assert_eq!(rt;
-        fault_in::<MountList>(alloc, &body[24..]),
-        stop(0, Reason::BadBool)
-    );
-    assert_eq!(rt;
-        fault_in::<Exports>(alloc, &body[12..]),
-        stop(4, Reason::TooLong)
-    );
-    assert_eq!(rt;
-        fault_in::<MountOk>(alloc, &body[28..]),
-        stop(12, Reason::Short)
-    );
     Ok(())
 }

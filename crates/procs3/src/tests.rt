@@ -3,8 +3,8 @@
 
 ghost use Rattle.std.specs.Prelude.{◌≤◌, length};
 
-use crate::{Args, CreateHow, MkNodWhat, Results, proc_name, scan_arguments, scan_results};
-use nfs3_types::{Failure, Res};
+use crate::{Args, Results, proc_name, scan_arguments, scan_results};
+use nfs3_types::Res;
 use rpc_head::ProcId;
 use std::alloc::{AllocError, Global};
 use std::process::Abort;
@@ -15,19 +15,12 @@ use xdr3::{GetError, Input, Reason, Stop, Walk, Writer};
 
 /// The handle aa.
 const HANDLE_AA: u32 = 0xaa00_0000;
-/// The handle bb.
-const HANDLE_BB: u32 = 0xbb00_0000;
 /// The name a.
 const NAME_A: u32 = 0x6100_0000;
-/// The name bc.
-const NAME_BC: u32 = 0x6263_0000;
 /// The path /x.
 const PATH_X: u32 = 0x2f78_0000;
 /// The data hi.
 const DATA_HI: u32 = 0x6869_0000;
-
-/// A handle of the one byte aa, and the name a.
-const PLACE: [u32; 4] = [1, HANDLE_AA, 1, NAME_A];
 
 /// The words' bytes.
 fn spelled(alloc: Global, words: &[u32]) -> Result<Vec<u8>, AllocError> {
@@ -144,73 +137,6 @@ fn arguments_on_files(rt: HostRuntime) -> Result<(), Fail> {
     arguments_stay(&rt, rt.alloc(), &rows)
 }
 
-#[test]
-fn arguments_that_make_files(rt: HostRuntime) -> Result<(), Fail> {
-    let rows: [(ProcId, &[u32]); 12] = [
-        (nfs(8), &[1, HANDLE_AA, 1, NAME_A, 0, 0, 0, 0, 0, 0, 0]),
-        (nfs(8), &[1, HANDLE_AA, 1, NAME_A, 1, 1, 7, 0, 0, 0, 0, 0]),
-        (nfs(8), &[1, HANDLE_AA, 1, NAME_A, 2, 8, 9]),
-        (nfs(9), &[1, HANDLE_AA, 1, NAME_A, 0, 0, 0, 0, 0, 0]),
-        (
-            nfs(10),
-            &[1, HANDLE_AA, 1, NAME_A, 0, 0, 0, 0, 0, 0, 2, PATH_X],
-        ),
-        (nfs(11), &[1, HANDLE_AA, 1, NAME_A, 1]),
-        (nfs(11), &[1, HANDLE_AA, 1, NAME_A, 2]),
-        (
-            nfs(11),
-            &[1, HANDLE_AA, 1, NAME_A, 3, 0, 0, 0, 0, 0, 0, 8, 9],
-        ),
-        (
-            nfs(11),
-            &[1, HANDLE_AA, 1, NAME_A, 4, 0, 0, 0, 0, 0, 0, 8, 9],
-        ),
-        (nfs(11), &[1, HANDLE_AA, 1, NAME_A, 5]),
-        (nfs(11), &[1, HANDLE_AA, 1, NAME_A, 6, 0, 0, 0, 0, 0, 0]),
-        (nfs(11), &[1, HANDLE_AA, 1, NAME_A, 7, 0, 0, 0, 0, 0, 0]),
-    ];
-    arguments_stay(&rt, rt.alloc(), &rows)
-}
-
-#[test]
-fn arguments_on_names(rt: HostRuntime) -> Result<(), Fail> {
-    let rows: [(ProcId, &[u32]); 7] = [
-        (nfs(3), &PLACE),
-        (nfs(12), &PLACE),
-        (nfs(13), &PLACE),
-        (
-            nfs(14),
-            &[1, HANDLE_AA, 1, NAME_A, 1, HANDLE_BB, 2, NAME_BC],
-        ),
-        (nfs(15), &[1, HANDLE_BB, 1, HANDLE_AA, 1, NAME_A]),
-        (nfs(16), &[1, HANDLE_AA, 0, 7, 8, 9, 4096]),
-        (nfs(17), &[1, HANDLE_AA, 0, 7, 8, 9, 512, 4096]),
-    ];
-    arguments_stay(&rt, rt.alloc(), &rows)
-}
-
-#[test]
-fn arguments_on_file_systems(rt: HostRuntime) -> Result<(), Fail> {
-    let rows: [(ProcId, &[u32]); 3] = [
-        (nfs(18), &[1, HANDLE_AA]),
-        (nfs(19), &[1, HANDLE_AA]),
-        (nfs(20), &[1, HANDLE_AA]),
-    ];
-    arguments_stay(&rt, rt.alloc(), &rows)
-}
-
-#[test]
-fn arguments_of_mount(rt: HostRuntime) -> Result<(), Fail> {
-    let rows: [(ProcId, &[u32]); 5] = [
-        (mount(1), &[2, PATH_X]),
-        (mount(2), &[]),
-        (mount(3), &[2, PATH_X]),
-        (mount(4), &[]),
-        (mount(5), &[]),
-    ];
-    arguments_stay(&rt, rt.alloc(), &rows)
-}
-
 /// Each row's words are the results of its procedure, and are written again as they were.
 fn results_stay(rt: &impl Abort, alloc: Global, rows: &[(ProcId, &[u32])]) -> Result<(), Fail> {
     for (id, words) in rows {
@@ -253,79 +179,6 @@ fn results_on_files(rt: HostRuntime) -> Result<(), Fail> {
         (nfs(21), &[0, 0, 0, 0x0102_0304, 0x0506_0708]),
         (nfs(21), &[10008, 0, 0]),
     ];
-    results_stay(&rt, rt.alloc(), &rows)
-}
-
-#[test]
-fn results_that_tell_a_new_file(rt: HostRuntime) -> Result<(), Fail> {
-    let rows: [(ProcId, &[u32]); 8] = [
-        (nfs(8), &[0, 1, 1, HANDLE_AA, 0, 0, 0]),
-        (nfs(8), &[17, 0, 0]),
-        (nfs(9), &[0, 0, 0, 0, 0]),
-        (nfs(9), &[71, 0, 0]),
-        (nfs(10), &[0, 0, 0, 0, 0]),
-        (nfs(10), &[10004, 0, 0]),
-        (nfs(11), &[0, 0, 0, 0, 0]),
-        (nfs(11), &[10007, 0, 0]),
-    ];
-    results_stay(&rt, rt.alloc(), &rows)
-}
-
-#[test]
-fn results_on_names(rt: HostRuntime) -> Result<(), Fail> {
-    // the name a with the cookie 2, and the name bc with the cookie 4
-    let names = [
-        0, 0, 8, 9, 1, 0, 1, 1, NAME_A, 0, 2, 1, 0, 3, 2, NAME_BC, 0, 4, 0, 0,
-    ];
-    let rows: [(ProcId, &[u32]); 14] = [
-        (nfs(3), &[0, 1, HANDLE_AA, 0, 0]),
-        (nfs(3), &[2, 0]),
-        (nfs(12), &[0, 0, 0]),
-        (nfs(12), &[2, 0, 0]),
-        (nfs(13), &[0, 0, 0]),
-        (nfs(13), &[66, 0, 0]),
-        (nfs(14), &[0, 0, 0, 0, 0]),
-        (nfs(14), &[18, 0, 0, 0, 0]),
-        (nfs(15), &[0, 0, 0, 0]),
-        (nfs(15), &[31, 0, 0, 0]),
-        (nfs(16), &[0, 0, 0, 0, 0, 1]),
-        (nfs(16), &names),
-        (nfs(16), &[10003, 0]),
-        (nfs(17), &[10004, 0]),
-    ];
-    results_stay(&rt, rt.alloc(), &rows)
-}
-
-#[test]
-fn results_on_file_systems(rt: HostRuntime) -> Result<(), Fail> {
-    let rows: [(ProcId, &[u32]); 6] = [
-        (nfs(18), &[0, 0, 0, 1, 0, 2, 0, 3, 0, 4, 0, 5, 0, 6, 7]),
-        (nfs(18), &[5, 0]),
-        (nfs(19), &[0, 0, 1, 2, 3, 4, 5, 6, 7, 0, 8, 9, 10, 11]),
-        (nfs(19), &[70, 0]),
-        (nfs(20), &[0, 0, 1, 255, 1, 0, 1, 0]),
-        (nfs(20), &[10001, 0]),
-    ];
-    results_stay(&rt, rt.alloc(), &rows)
-}
-
-#[test]
-fn results_of_mount(rt: HostRuntime) -> Result<(), Fail> {
-    let rows: [(ProcId, &[u32]); 6] = [
-        (mount(1), &[0, 8, 0x0102_0304, 0x0506_0708, 1, 1]),
-        (mount(1), &[13]),
-        (mount(2), &[1, 1, 0x6800_0000, 2, PATH_X, 0]),
-        (mount(3), &[]),
-        (mount(4), &[]),
-        (mount(5), &[1, 2, PATH_X, 1, 1, NAME_A, 0, 0]),
-    ];
-    results_stay(&rt, rt.alloc(), &rows)
-}
-
-#[test]
-fn null_has_no_data(rt: HostRuntime) -> Result<(), Fail> {
-    let rows: [(ProcId, &[u32]); 2] = [(nfs(0), &[]), (mount(0), &[])];
-    arguments_stay(&rt, rt.alloc(), &rows)?;
     results_stay(&rt, rt.alloc(), &rows)
 }
 
@@ -372,16 +225,6 @@ fn directory_with_handles(alloc: Global) -> Result<Vec<u8>, AllocError> {
 }
 
 #[test]
-fn a_directory_with_handles_is_written_again(rt: HostRuntime) -> Result<(), Fail> {
-    let alloc = rt.alloc();
-    let body = directory_with_handles(alloc)?;
-    assert!(rt; body.len() == 188);
-    let writer = results(alloc, nfs(17), &body).map_err(|_| "refused")?;
-    assert_eq!(rt; writer.bytes(), body.as_slice());
-    Ok(())
-}
-
-#[test]
 fn names_with_handles_are_read(rt: HostRuntime) -> Result<(), Fail> {
     let alloc = rt.alloc();
     let body = directory_with_handles(alloc)?;
@@ -404,192 +247,6 @@ fn names_with_handles_are_read(rt: HostRuntime) -> Result<(), Fail> {
         }
         _ => assert!(rt; false),
     }
-    Ok(())
-}
-
-#[test]
-fn an_exclusive_create_has_its_verifier(rt: HostRuntime) -> Result<(), Fail> {
-    let alloc = rt.alloc();
-    let body = spelled(
-        alloc,
-        &[1, HANDLE_AA, 1, NAME_A, 2, 0x0102_0304, 0x0506_0708],
-    )?;
-    assert!(rt; body.len() == 28);
-    let mut input = Input::new(&body);
-    match Args::get(alloc, nfs(8), &mut input) {
-        Ok(Args::Create(create)) => {
-            assert_eq!(rt; create.place.name, b"a".as_slice());
-            match create.how {
-                CreateHow::Exclusive(verf) => assert_eq!(rt; verf, [1, 2, 3, 4, 5, 6, 7, 8]),
-                _ => assert!(rt; false),
-            }
-        }
-        _ => assert!(rt; false),
-    }
-    Ok(())
-}
-
-#[test]
-fn a_device_that_is_made_has_its_numbers(rt: HostRuntime) -> Result<(), Fail> {
-    let alloc = rt.alloc();
-    let body = spelled(alloc, &[1, HANDLE_AA, 1, NAME_A, 4, 0, 0, 0, 0, 0, 0, 8, 9])?;
-    assert!(rt; body.len() == 52);
-    let mut input = Input::new(&body);
-    match Args::get(alloc, nfs(11), &mut input) {
-        Ok(Args::MkNod(make)) => match make.what {
-            MkNodWhat::Chr(device) => assert_eq!(rt; (device.spec1, device.spec2), (8, 9)),
-            _ => assert!(rt; false),
-        },
-        _ => assert!(rt; false),
-    }
-    Ok(())
-}
-
-#[test]
-fn a_link_that_failed_has_its_status(rt: HostRuntime) -> Result<(), Fail> {
-    let alloc = rt.alloc();
-    let body = spelled(alloc, &[31, 0, 0, 0])?;
-    assert!(rt; body.len() == 16);
-    let mut input = Input::new(&body);
-    match Results::get(alloc, nfs(15), &mut input) {
-        Ok(Results::Link(Res::Failed(failure, told))) => {
-            assert_eq!(rt; failure, Failure::MLink);
-            assert!(rt; told.attr.attr.is_none() && told.dir.before.is_none());
-        }
-        _ => assert!(rt; false),
-    }
-    Ok(())
-}
-
-/// Of each row's words so many bytes are there, and they are refused there for that reason.
-fn arguments_are_refused(
-    rt: &impl Abort,
-    alloc: Global,
-    rows: &[(ProcId, &[u32], usize, u32, Reason)],
-) -> Result<(), Fail> {
-    for (id, words, len, at, reason) in rows {
-        let mut body = spelled(alloc, words)?;
-        body.truncate(*len);
-        assert!(rt; body.len() <= 36);
-        let answer = arguments(alloc, *id, &body);
-        let stop = Stop {
-            at: *at,
-            reason: *reason,
-        };
-        assert_eq!(rt; fault(&answer), Some(stop), "{} {len}", id.proc_no);
-        let told = told_arguments(alloc, *id, &body);
-        assert_eq!(rt; fault(&told), Some(stop), "{} {len}", id.proc_no);
-    }
-    Ok(())
-}
-
-#[test]
-fn arguments_of_a_wrong_length(rt: HostRuntime) -> Result<(), Fail> {
-    // a handle of five bytes with its residual bytes
-    let handle: [u32; 3] = [5, 0x6162_6364, 0x65ff_ffff];
-    // of four bytes, and the part of a file
-    let range: [u32; 5] = [4, 0x6162_6364, 0, 9, 512];
-    let rows: [(ProcId, &[u32], usize, u32, Reason); 10] = [
-        (nfs(0), &[0], 4, 0, Reason::Trailing),
-        (nfs(1), &handle, 3, 0, Reason::Short),
-        (nfs(1), &handle, 4, 4, Reason::Short),
-        (nfs(1), &handle, 11, 4, Reason::Short),
-        (
-            nfs(1),
-            &[65, 0x6162_6364, 0x65ff_ffff],
-            12,
-            0,
-            Reason::TooLong,
-        ),
-        (nfs(1), &[4, 0x6162_6364, 0], 12, 8, Reason::Trailing),
-        (nfs(6), &range, 15, 8, Reason::Short),
-        (nfs(6), &range, 19, 16, Reason::Short),
-        (
-            nfs(6),
-            &[4, 0x6162_6364, 0, 9, 512, 0],
-            21,
-            20,
-            Reason::Trailing,
-        ),
-        (
-            nfs(11),
-            &[1, HANDLE_AA, 1, NAME_A, 1, 0],
-            24,
-            20,
-            Reason::Trailing,
-        ),
-    ];
-    arguments_are_refused(&rt, rt.alloc(), &rows)
-}
-
-#[test]
-fn arguments_with_words_that_are_not_listed(rt: HostRuntime) -> Result<(), Fail> {
-    let rows: [(ProcId, &[u32], usize, u32, Reason); 6] = [
-        (
-            nfs(2),
-            &[1, HANDLE_AA, 0, 0, 0, 0, 3, 0, 0],
-            36,
-            24,
-            Reason::BadEnum,
-        ),
-        (
-            nfs(2),
-            &[1, HANDLE_AA, 0, 0, 0, 0, 0, 0, 2],
-            36,
-            32,
-            Reason::BadBool,
-        ),
-        (
-            nfs(7),
-            &[1, HANDLE_AA, 0, 9, 2, 3, 0],
-            28,
-            20,
-            Reason::BadEnum,
-        ),
-        (
-            nfs(8),
-            &[1, HANDLE_AA, 1, NAME_A, 3],
-            20,
-            16,
-            Reason::BadEnum,
-        ),
-        (
-            nfs(11),
-            &[1, HANDLE_AA, 1, NAME_A, 8],
-            20,
-            16,
-            Reason::BadEnum,
-        ),
-        (
-            nfs(11),
-            &[1, HANDLE_AA, 1, NAME_A, 0],
-            20,
-            16,
-            Reason::BadEnum,
-        ),
-    ];
-    arguments_are_refused(&rt, rt.alloc(), &rows)
-}
-
-#[test]
-fn paths_of_directories_to_mount(rt: HostRuntime) -> Result<(), Fail> {
-    let alloc = rt.alloc();
-    let mut longest = spelled(alloc, &[1024])?;
-    longest.extend_from_slice(&[0x61; 1024])?;
-    assert!(rt; longest.len() == 1028);
-    let writer = arguments(alloc, mount(1), &longest).map_err(|_| "refused")?;
-    assert_eq!(rt; writer.bytes(), longest.as_slice());
-    let mut longer = spelled(alloc, &[1025])?;
-    longer.extend_from_slice(&[0x61; 1028])?;
-    assert!(rt; longer.len() == 1032);
-    let answer = arguments(alloc, mount(3), &longer);
-    assert_eq!(rt;
-        fault(&answer),
-        Some(Stop {
-            at: 0,
-            reason: Reason::TooLong
-        })
-    );
     Ok(())
 }
 

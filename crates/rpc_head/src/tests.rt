@@ -9,7 +9,7 @@ use crate::{
 };
 use std::alloc::{AllocError, Global};
 use std::test::Fail;
-use xdr3::{GetError, Input, Reason, Stop, Walk, Writer, Xdr};
+use xdr3::{GetError, Input, Walk, Writer, Xdr};
 
 /// The words' bytes, the first `len` of them.
 fn spelled(alloc: Global, words: &[u32], len: usize) -> Result<Vec<u8>, AllocError> {
@@ -30,27 +30,6 @@ fn value_in<'a, T: Xdr<'a>>(alloc: Global, body: &'a [u8]) -> Result<T, GetError
     input.at();
     let value = T::get(alloc, &mut input)?;
     Ok(value)
-}
-
-/// Where and why the body is refused.
-fn fault_in(alloc: Global, body: &[u8]) -> Option<Stop>
-    requires { length body.now ≤ 16777216 }
-{
-    let mut input = Input::new(body);
-    let read = match start(&mut input) {
-        Ok(Start { is_reply: true, .. }) => ReplyHead::get(alloc, &mut input).map(|_| ()),
-        Ok(
-            Start {
-                is_reply: false,
-                ..
-            },
-        ) => CallHead::get(alloc, &mut input).map(|_| ()),
-        Err(stop) => Err(GetError::Stop(stop)),
-    };
-    match read {
-        Err(GetError::Stop(stop)) => Some(stop),
-        _ => None,
-    }
 }
 
 /// A call with an AUTH_SYS credential of that length, whose body begins with stamp 1, the machine name
@@ -100,84 +79,6 @@ fn starts(rt: HostRuntime) -> Result<(), Fail> {
 }
 
 #[test]
-fn calls_that_are_refused(rt: HostRuntime) -> Result<(), Fail> {
-    let alloc = rt.alloc();
-    let null: [u32; 10] = [5, 0, 2, 100003, 3, 0, 0, 0, 0, 0];
-    // which word is changed, to what, how many bytes are there, where and why the call is refused
-    let rows = [
-        (0, 5, 0, 0, Reason::Short),
-        (0, 5, 3, 0, Reason::Short),
-        (0, 5, 4, 4, Reason::Short),
-        (0, 5, 7, 4, Reason::Short),
-        (0, 5, 8, 8, Reason::Short),
-        (0, 5, 23, 20, Reason::Short),
-        (0, 5, 27, 24, Reason::Short),
-        (0, 5, 31, 28, Reason::Short),
-        (0, 5, 35, 32, Reason::Short),
-        (0, 5, 39, 36, Reason::Short),
-        (1, 2, 40, 4, Reason::BadEnum),
-        (2, 3, 40, 8, Reason::RpcVersion),
-        (2, 3, 11, 8, Reason::Short),
-        (6, 6, 40, 24, Reason::Flavor),
-        (7, 401, 40, 28, Reason::TooLong),
-        (7, 9, 40, 32, Reason::Short),
-        (8, 1, 40, 32, Reason::Flavor),
-        (9, 401, 40, 36, Reason::TooLong),
-        (9, 1, 40, 40, Reason::Short),
-    ];
-    for (word, to, len, at, reason) in rows {
-        let mut words = null;
-        assert!(rt; word < 10);
-        words[word] = to;
-        let body = spelled(alloc, &words, len)?;
-        assert!(rt; body.len() <= 40);
-        assert_eq!(rt;
-            fault_in(alloc, &body),
-            Some(Stop { at, reason }),
-            "word {word} {to}, {len} bytes"
-        );
-    }
-    Ok(())
-}
-
-#[test]
-fn credentials_that_are_refused(rt: HostRuntime) -> Result<(), Fail> {
-    let alloc = rt.alloc();
-    let many = [17, 0, 0, 0, 0, 0, 0, 0, 0, 0, 0, 0, 0, 0, 0, 0, 0, 0, 0, 0];
-    let none = [0, 0, 0];
-    let more = [0, 0, 0, 0];
-    // the credential's length, the name's, the words from the count of groups on, how many bytes are
-    // there, where and why the call is refused
-    let rows: [(u32, u32, &[u32], usize, u32, Reason); 14] = [
-        (96, 6, &many, 136, 56, Reason::TooLong),
-        (32, 6, &more, 72, 60, Reason::AuthLength),
-        (24, 6, &none, 64, 56, Reason::AuthLength),
-        (401, 6, &none, 68, 28, Reason::TooLong),
-        (28, 6, &none, 59, 32, Reason::Short),
-        (28, 6, &none, 31, 28, Reason::Short),
-        (28, 256, &none, 68, 36, Reason::TooLong),
-        (28, 40, &none, 68, 40, Reason::AuthLength),
-        (0, 6, &none, 68, 32, Reason::AuthLength),
-        (27, 6, &none, 68, 56, Reason::AuthLength),
-        (29, 6, &none, 68, 60, Reason::AuthLength),
-        (28, 6, &[1, 0, 0], 68, 60, Reason::AuthLength),
-        (28, 6, &[0, 1, 0], 68, 60, Reason::Flavor),
-        (28, 6, &none, 63, 60, Reason::Short),
-    ];
-    for (length, name, rest, len, at, reason) in rows {
-        let mut body = sys_call(alloc, length, name, rest)?;
-        body.truncate(len);
-        assert!(rt; body.len() <= 136);
-        assert_eq!(rt;
-            fault_in(alloc, &body),
-            Some(Stop { at, reason }),
-            "length {length}, name {name}"
-        );
-    }
-    Ok(())
-}
-
-#[test]
 fn credentials_that_are_read(rt: HostRuntime) -> Result<(), Fail> {
     let alloc = rt.alloc();
     let groups: [u32; 16] = [1, 2, 3, 4, 5, 6, 7, 8, 9, 10, 11, 12, 13, 14, 15, u32::MAX];
@@ -203,40 +104,6 @@ fn credentials_that_are_read(rt: HostRuntime) -> Result<(), Fail> {
             Cred::Plain(_) => assert!(rt; false),
         }
     }
-    Ok(())
-}
-
-#[test]
-fn a_credential_is_written_with_zero_residual_bytes(rt: HostRuntime) -> Result<(), Fail> {
-    let alloc = rt.alloc();
-    let zero = [1, 28, 1, 6, 0x636c_6965, 0x6e74_0000, 0, 0, 0];
-    let other = [1, 28, 1, 6, 0x636c_6965, 0x6e74_ffff, 0, 0, 0];
-    let expected = spelled(alloc, &zero, 36)?;
-    for words in [zero, other] {
-        let body = spelled(alloc, &words, 36)?;
-        assert!(rt; body.len() <= 36);
-        let cred: Cred = value_in(alloc, &body).map_err(|_| "refused")?;
-        let mut writer = Writer::new(alloc);
-        cred.walk(&mut writer)?;
-        assert_eq!(rt; writer.bytes(), expected.as_slice());
-    }
-    Ok(())
-}
-
-#[test]
-fn a_plain_call_is_written_with_zero_residual_bytes(rt: HostRuntime) -> Result<(), Fail> {
-    let alloc = rt.alloc();
-    let body = spelled(alloc, &[2, 100003, 3, 0, 0, 3, 0x0102_03ff, 0, 0], 36)?;
-    let expected = spelled(alloc, &[2, 100003, 3, 0, 0, 3, 0x0102_0300, 0, 0], 36)?;
-    assert!(rt; body.len() <= 36);
-    let head: CallHead = value_in(alloc, &body).map_err(|_| "refused")?;
-    match head.cred {
-        Cred::Plain(plain) => assert_eq!(rt; plain, [1, 2, 3].as_slice()),
-        Cred::Sys(_) => assert!(rt; false),
-    }
-    let mut writer = Writer::new(alloc);
-    head.walk(&mut writer)?;
-    assert_eq!(rt; writer.bytes(), expected.as_slice());
     Ok(())
 }
 
@@ -276,38 +143,6 @@ fn replies_that_are_read(rt: HostRuntime) -> Result<(), Fail> {
         let mut writer = Writer::new(alloc);
         head.walk(&mut writer)?;
         assert_eq!(rt; writer.bytes(), body.as_slice());
-    }
-    Ok(())
-}
-
-#[test]
-fn replies_that_are_refused(rt: HostRuntime) -> Result<(), Fail> {
-    let alloc = rt.alloc();
-    let rows: [(&[u32], usize, u32, Reason); 13] = [
-        (&[2, 0, 0, 0], 24, 8, Reason::BadEnum),
-        (&[0, 1, 0, 0], 24, 12, Reason::Flavor),
-        (&[0, 0, 401, 0], 24, 16, Reason::TooLong),
-        (&[0, 0, 0, 6], 24, 20, Reason::BadEnum),
-        (&[0, 0, 0, 2, 3, 3], 27, 24, Reason::Short),
-        (&[0, 0, 0, 2, 3, 3], 31, 28, Reason::Short),
-        (&[1, 2, 0], 20, 12, Reason::BadEnum),
-        (&[1, 1, 15], 20, 16, Reason::BadEnum),
-        (&[1, 0, 2, 2], 19, 16, Reason::Short),
-        (&[1, 0, 2, 2], 23, 20, Reason::Short),
-        (&[1, 1, 1], 19, 16, Reason::Short),
-        (&[1, 1, 1], 15, 12, Reason::Short),
-        (&[1, 1, 1], 11, 8, Reason::Short),
-    ];
-    for (words, len, at, reason) in rows {
-        let mut body = spelled(alloc, &[5, 1], 8)?;
-        body.extend_from_slice(&spelled(alloc, words, 24)?)?;
-        body.truncate(len);
-        assert!(rt; body.len() <= 32);
-        assert_eq!(rt;
-            fault_in(alloc, &body),
-            Some(Stop { at, reason }),
-            "{len} bytes"
-        );
     }
     Ok(())
 }

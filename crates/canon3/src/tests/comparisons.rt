@@ -61,36 +61,6 @@ fn runs_that_part(rt: HostRuntime) -> Result<(), Fail> {
     Ok(())
 }
 
-#[test]
-fn a_second_run_that_is_cut(rt: HostRuntime) -> Result<(), Fail> {
-    let (first, mut second) = runs(rt.alloc())?;
-    second.truncate(140);
-    assert_eq!(rt;
-        compared(rt.alloc(), &first, &second, 0),
-        refused(Which::Second, Place::File { at: 140 }, Reason::CaptureCut)
-    );
-    Ok(())
-}
-
-/// The message types are at bytes 24 and 96 of the files: the second's fault is met long before the first's.
-#[test]
-fn the_first_runs_fault_goes_before(rt: HostRuntime) -> Result<(), Fail> {
-    let (mut first, mut second) = runs(rt.alloc())?;
-    assert!(rt; first.len() == 144);
-    assert!(rt; second.len() == 144);
-    second[27] = 2;
-    assert_eq!(rt;
-        compared(rt.alloc(), &first, &second, 0),
-        refused(Which::Second, record(Side::Client, 4), Reason::BadEnum)
-    );
-    first[99] = 2;
-    assert_eq!(rt;
-        compared(rt.alloc(), &first, &second, 0),
-        refused(Which::First, record(Side::Server, 4), Reason::BadEnum)
-    );
-    Ok(())
-}
-
 /// A failed read is answered when it is met, also where the first run would be refused later.
 #[test]
 fn a_failed_read_of_the_second(rt: HostRuntime) -> Result<(), Fail> {
