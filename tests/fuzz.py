@@ -5,8 +5,7 @@
 
 PROGRAM is crates/nfs3canon/out/nfs3canon where none is named. The captures are those of the seeds N, N + 1, .., and on each two
 of the laws below are tried, the same at each run. Where one fails, its name, the capture's seed and the folder with the files
-are printed. The last line is 'N passed, M failed', and the status is 1 where any failed.
-"""
+are printed. The last line is 'N passed, M failed', and the status is 1 where any failed."""
 import argparse
 import concurrent.futures
 import functools
@@ -81,7 +80,8 @@ def canonical_again_is_the_same(trial):
 
 
 def renaming_one_to_one_keeps_the_form(trial):
-    trial.write('renamed', trial.named(Names.drawn(trial.chance)))
+    """With other residual bytes, too."""
+    trial.write('renamed', trial.named(Names.drawn(trial.chance).padded()))
     trial.want('same', trial.run('same', 'a', 'renamed'), (0, b'same\n', ''))
     trial.want('canon of the renamed', trial.form('renamed'), trial.form('a'))
 
