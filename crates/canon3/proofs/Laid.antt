@@ -8,7 +8,7 @@ use Rattle.capture3.specs.Entry.{Entry, Begin, Call, Turn, Reply, Close, End}
 use Rattle.capture3.specs.Typed.{connection_entries, reply_entry}
 use Rattle.canon3.specs.Laws.{AreFirst}
 use Rattle.canon3.proofs.Conversations.{AreConversing, Conversation, IsSpelledCall, IsSpelledReply, of_all}
-use Rattle.canon3.proofs.Files.{all_of, entries_of, holds}
+use Rattle.canon3.proofs.Files.{entries_of, holds}
 use Rattle.canon3.proofs.Items.{all_append}
 use Rattle.canon3.proofs.Messages.{FitsCall, FitsReply}
 use Rattle.canon3.proofs.Renamings.{all_mapped}

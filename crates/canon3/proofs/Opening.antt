@@ -1,5 +1,5 @@
 -- A message with numbers, from its first item to its last.
-use Rattle.std.proofs.Common.{◌≡◌, ℕ, ◌<◌, ◌^◌, Bool, true, false, List, [], ◌∷◌, ◌++◌, length, append-nil, refl, sym, ap, ◌∙◌, subst, arith, ◌||◌}
+use Rattle.std.proofs.Common.{◌≡◌, ℕ, ◌<◌, ◌^◌, Bool, true, false, List, [], ◌∷◌, ◌++◌, length, append-nil, refl, sym, ap, ◌∙◌, subst, ◌||◌}
 use Rattle.std.specs.Prelude.{bytes_eq, nat_eq}
 use Rattle.std.specs.List.{list_any}
 use Rattle.std.proofs.lemmas.Bool.Decides.{Decides-eqb}
@@ -10,7 +10,7 @@ use Rattle.canon3.specs.Following.{items_after, message_after}
 use Rattle.canon3.specs.Gathering.{HoldsHandles}
 use Rattle.canon3.specs.Numbered.{AreFew, Before, behind, Holds, IsGoing, IsUnderWay, Stands}
 use Rattle.canon3.specs.Pairing.{Member, here, there}
-use Rattle.canon3.specs.Rank.{distinct, rank, StandsFor}
+use Rattle.canon3.specs.Rank.{distinct, StandsFor}
 use Rattle.canon3.specs.Values.{handles_in, verifiers_in}
 use Rattle.canon3.proofs.Ranks.{any-distinct, distinct-push, equivalence, itself, rank-append}
 use Rattle.canon3.proofs.Visiting.{behind-same}

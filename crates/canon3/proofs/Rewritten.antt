@@ -1,9 +1,9 @@
 -- What was rewritten, entry by entry.
-use Rattle.std.proofs.Common.{◌≡◌, ℕ, ◌+◌, Bool, true, false, List, [], ◌∷◌, ◌++◌, append-nil, refl, sym, ap, ◌∙◌, subst, arith, Option, Result, Ok, Err}
+use Rattle.std.proofs.Common.{◌≡◌, ℕ, ◌+◌, Bool, true, false, List, [], ◌∷◌, ◌++◌, refl, sym, ap, ◌∙◌, subst, arith, Option, Result, Ok, Err}
 use Rattle.std.specs.Prelude.{◌==◌, if◌then◌else◌}
 use Rattle.std.proofs.lemmas.Bool.Decides.{Decides-eqb}
 use Rattle.std.specs.Io.KnownBytes.{Appends}
-use Rattle.std.proofs.KnownBytes.{Appends-nil, Appends-trans}
+use Rattle.std.proofs.KnownBytes.{Appends-trans}
 use Rattle.capture3.specs.declared.fault.Error.{Error}
 use Rattle.capture3.specs.Capture.{One, magic}
 use Rattle.capture3.specs.Entry.{Entry, Begin, Call, Turn, Reply, Close, End}
@@ -19,7 +19,7 @@ use Rattle.canon3.specs.Spelling.{bytes_behind}
 use Rattle.canon3.specs.Written.{AppendsFront}
 use Rattle.canon3.proofs.First.{first_in_order}
 use Rattle.canon3.proofs.Growing.{form_grows}
-use Rattle.canon3.proofs.Order.{Stage, Between, Over, begin, end, Runs, stays, steps}
+use Rattle.canon3.proofs.Order.{Stage, Between, Over, end, Runs, steps}
 use Rattle.canon3.proofs.Written.{front_of_first, front_of_second}
 
 -- ---- the magic

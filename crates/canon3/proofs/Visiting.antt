@@ -1,5 +1,5 @@
 -- Each visit adds its item to the message that is written with numbers.
-use Rattle.std.proofs.Common.{◌≡◌, ◌≢◌, ℕ, ◌<◌, ◌≤◌, ◌^◌, List, [], ◌∷◌, ◌++◌, drop, length, length-append, append_assoc, append-nil, refl, sym, ap, ap₂, ◌∙◌, subst, arith, min, Result, Ok, Err, ◌⊎◌, inl, inr, ⊎_elim, Bool, true}
+use Rattle.std.proofs.Common.{◌≡◌, ◌≢◌, ℕ, ◌<◌, ◌≤◌, ◌^◌, List, [], ◌∷◌, ◌++◌, drop, length, length-append, append_assoc, append-nil, refl, sym, ap, ap₂, ◌∙◌, subst, arith, min, Result, Ok, Err, ◌⊎◌, inl, inr, Bool, true}
 use Rattle.std.specs.Prelude.{bytes_eq, nat_eq, OnErr, OnOk, ◌==◌}
 use Rattle.std.specs.Bool.{Decides}
 use Rattle.std.specs.List.{flat_map}
@@ -7,7 +7,6 @@ use Rattle.std.proofs.lemmas.Grind.{flat_map-append}
 use Rattle.std.proofs.lemmas.Bool.Decides.{Decides-eqb}
 use Rattle.std.proofs.lemmas.Slice.Eq.{bytes_eq-Decides}
 use Rattle.byteorder.specs.Endian.{big_bytes, big_number}
-use Rattle.byteorder.specs.Numbers.{length-bytes_high_first}
 use Rattle.xdr3.specs.declared.plain.PlainField.{PlainField}
 use Rattle.xdr3.specs.declared.plain.PlainField.TheVariants as fields
 use Rattle.xdr3.specs.Plain.{plain_item, run_items, width}
@@ -27,7 +26,6 @@ use Rattle.canon3.specs.Rank.{number_limit, rank, StandsFor}
 use Rattle.canon3.specs.Renaming.{IsPlain}
 use Rattle.canon3.specs.Values.{handle_in, verifier_in, handles_in, verifiers_in}
 use Rattle.canon3.proofs.Following.{items_after-push}
-use Rattle.canon3.proofs.Items.{length_of_opaque}
 use Rattle.canon3.proofs.Numbering.{plain_handle, plain_verifier, plain_numbered}
 use Rattle.canon3.proofs.Ranks.{member-append_right, rank-le-length}
 

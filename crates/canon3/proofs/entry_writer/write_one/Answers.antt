@@ -1,5 +1,3 @@
-use Rattle.std.proofs.Common.{Ok, [], ◌∷◌, ◌++◌, subst}
-use Rattle.canon3.specs.EntryWriter.{HasWrittenOrCut}
 use Rattle.canon3.proofs.entry_writer.write_one.Goals as goal
 
 pub returns-in-Ok-clause-writes : goal.returns-in-Ok-clause-writes

@@ -1,4 +1,4 @@
-use Rattle.std.proofs.Common.{[], sym, subst, ◌≡◌}
+use Rattle.std.proofs.Common.{subst, ◌≡◌}
 use Rattle.capture3.specs.Entry.{Entry, Begin, items_of}
 use Rattle.capture3.specs.Kept.{IsOfKind}
 use Rattle.canon3.specs.Numbered.{behind, Stands, values_of}

@@ -1,6 +1,6 @@
 use Rattle.std.proofs.Common.{◌∙◌, ap}
 use Rattle.std.proofs.lemmas.List.{take_rest}
-use Rattle.xdr3.proofs.PlainLemmas.{telling_begins, telling_ends, telling_next}
+use Rattle.xdr3.proofs.PlainLemmas.{telling_ends, telling_next}
 use Rattle.canon3.specs.Numbered.{Stands}
 use Rattle.canon3.proofs.numbered.Numbering.tell_each.Goals as goal
 use Rattle.canon3.proofs.numbered.Numbering.tell_each.Goals.{in-Word+in_ok-word-in-Word, in-Hyper+in_ok-hyper-in-Hyper}

@@ -1,7 +1,6 @@
-use Rattle.std.proofs.Common.{List, ℕ, [], ap, ◌∙◌, length, min}
-use Rattle.std.specs.Prelude.{bytes_eq}
+use Rattle.std.proofs.Common.{ap, ◌∙◌, min}
 use Rattle.canon3.specs.Numbered.{values_of}
-use Rattle.canon3.specs.Rank.{distinct, number_limit}
+use Rattle.canon3.specs.Rank.{number_limit}
 use Rattle.canon3.proofs.Gathering.{distinct_held}
 use Rattle.canon3.proofs.Opening.{nothing_held}
 use Rattle.canon3.proofs.rewriting.NumberingEntryWriter.handles.Goals as goal
