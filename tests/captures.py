@@ -1,20 +1,18 @@
 #!/usr/bin/env python3
 """Runs every command of the built program on the captures of captures.rows and the pairs of pairs.rows.
 
-    python3 tests/captures.py [PROGRAM] [-v]
+    python3 tests/captures.py [PROGRAM] [--only TEXT] [-v]
 
 PROGRAM is crates/nfs3canon/out/nfs3canon where none is named. The last line is 'N passed, M failed', and the
 status is 1 where any failed. README.md says what a row is, and what is tried on it.
 """
-import argparse
-import concurrent.futures
 import os
 import pathlib
 import re
 import subprocess
-import sys
 import tempfile
 
+from running import try_all, words_of
 from texts import bytes_of, capture_of, word
 
 HERE = pathlib.Path(__file__).resolve().parent
@@ -152,23 +150,8 @@ def try_pair(program, row):
 
 
 def main():
-    parser = argparse.ArgumentParser(description=__doc__, formatter_class=argparse.RawDescriptionHelpFormatter)
-    parser.add_argument('program', nargs='?', default=str(HERE.parent / 'crates/nfs3canon/out/nfs3canon'))
-    parser.add_argument('-v', action='store_true')
-    words = parser.parse_args()
-    program = os.path.abspath(words.program)
-    tries = [(try_capture, *row) for row in rows_of('captures.rows')]
-    tries += [(try_pair, *row) for row in rows_of('pairs.rows')]
-    failed = 0
-    with concurrent.futures.ThreadPoolExecutor(2 * (os.cpu_count() or 2)) as pool:
-        for (_, comment, row), wrong in zip(tries, pool.map(lambda t: t[0](program, t[2]), tries)):
-            failed += bool(wrong)
-            if wrong:
-                print('FAILED %s: %s: %s' % (comment, row['line'], '; '.join(wrong)))
-            elif words.v:
-                print('ok %s: %s' % (comment, row['line']))
-    print('%d passed, %d failed' % (len(tries) - failed, failed))
-    sys.exit(1 if failed or not tries else 0)
+    tries = [(trial, *row) for trial, file in ((try_capture, 'captures.rows'), (try_pair, 'pairs.rows')) for row in rows_of(file)]
+    try_all(words_of(__doc__), [('%s: %s' % (comment, row['line']), trial, row) for trial, comment, row in tries], 2 * (os.cpu_count() or 2))
 
 
 if __name__ == '__main__':

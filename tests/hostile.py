@@ -6,19 +6,17 @@
 PROGRAM is crates/nfs3canon/out/nfs3canon where none is named. Each test below is a function with a folder of its own. The
 last line is 'N passed, M failed', and the status is 1 where any failed. It takes less than a minute on four cores.
 """
-import argparse
-import concurrent.futures
 import os
 import pathlib
 import shutil
 import signal
 import subprocess
-import sys
 import tempfile
 import threading
 import time
 
 from captures import Runs
+from running import try_all, words_of
 from traffic import NFS, NFSACL, call, dirop, fh, hyper, messages, success, word
 
 HERE = pathlib.Path(__file__).resolve().parent
@@ -379,22 +377,7 @@ def tried(program, test):
 
 
 def main():
-    parser = argparse.ArgumentParser(description=__doc__, formatter_class=argparse.RawDescriptionHelpFormatter)
-    parser.add_argument('program', nargs='?', default=str(HERE.parent / 'crates/nfs3canon/out/nfs3canon'))
-    parser.add_argument('--only', default='')
-    parser.add_argument('-v', action='store_true')
-    words = parser.parse_args()
-    program, failed = os.path.abspath(words.program), 0
-    tests = [test for test in TESTS if words.only in test.__name__]
-    with concurrent.futures.ThreadPoolExecutor(os.cpu_count()) as pool:
-        for test, wrong in zip(tests, pool.map(lambda test: tried(program, test), tests)):
-            failed += bool(wrong)
-            if wrong:
-                print('FAILED %s: %s' % (test.__name__, '; '.join(wrong[:9])), flush=True)
-            elif words.v:
-                print('ok %s' % test.__name__, flush=True)
-    print('%d passed, %d failed' % (len(tests) - failed, failed))
-    sys.exit(1 if failed or not tests else 0)
+    try_all(words_of(__doc__), [(test.__name__, tried, test) for test in TESTS], os.cpu_count())
 
 
 if __name__ == '__main__':

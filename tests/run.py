@@ -7,18 +7,16 @@ PROGRAM is crates/nfs3canon/out/nfs3canon where none is named. Each case runs in
 many run at once. The last line is 'N passed, M failed', and the status is 1 where any failed. README.md says
 how a case is written.
 """
-import argparse
-import concurrent.futures
 import os
 import pathlib
 import re
 import shutil
 import stat
 import subprocess
-import sys
 import tempfile
 import threading
 
+from running import try_all, words_of
 from texts import bytes_of, capture_of
 
 HERE = pathlib.Path(__file__).resolve().parent
@@ -198,23 +196,9 @@ def run(case, program):
 
 
 def main():
-    parser = argparse.ArgumentParser(description=__doc__, formatter_class=argparse.RawDescriptionHelpFormatter)
-    parser.add_argument('program', nargs='?', default=str(HERE.parent / 'crates/nfs3canon/out/nfs3canon'))
-    parser.add_argument('--only', default='')
-    parser.add_argument('-v', action='store_true')
-    words = parser.parse_args()
-    program = os.path.abspath(words.program)
-    cases = [case for path in sorted(HERE.glob('*.cases')) for case in cases_of(path) if words.only in case.name]
-    failed = 0
-    with concurrent.futures.ThreadPoolExecutor(2 * (os.cpu_count() or 2)) as pool:
-        for case, wrong in zip(cases, pool.map(lambda case: run(case, program), cases)):
-            failed += bool(wrong)
-            if wrong:
-                print('FAILED %s (%s): %s' % (case.name, case.place, '; '.join(wrong)))
-            elif words.v:
-                print('ok %s' % case.name)
-    print('%d passed, %d failed' % (len(cases) - failed, failed))
-    sys.exit(1 if failed or not cases else 0)
+    cases = [case for path in sorted(HERE.glob('*.cases')) for case in cases_of(path)]
+    tries = [('%s (%s)' % (case.name, case.place), lambda program, case: run(case, program), case) for case in cases]
+    try_all(words_of(__doc__), tries, 2 * (os.cpu_count() or 2))
 
 
 if __name__ == '__main__':

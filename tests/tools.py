@@ -6,8 +6,6 @@
 PROGRAM is crates/nfs3canon/out/nfs3canon where none is named. What needs tshark is skipped, with a word, where it is not
 there. The last line is 'N passed, M failed', and the status is 1 where any failed.
 """
-import argparse
-import concurrent.futures
 import os
 import pathlib
 import random
@@ -19,6 +17,7 @@ import tempfile
 
 from captures import Runs, rows_of
 from recordings import ACK, CLIENT, RST, SERVER, Talk, pcap, pcapng
+from running import try_all, words_of
 from texts import bytes_of, capture_of
 from traffic import NFS, Names, Traffic, call, messages, success
 
@@ -294,26 +293,11 @@ def tried(program, test):
 
 
 def main():
-    parser = argparse.ArgumentParser(description=__doc__, formatter_class=argparse.RawDescriptionHelpFormatter)
-    parser.add_argument('program', nargs='?', default=str(TOP / 'crates/nfs3canon/out/nfs3canon'))
-    parser.add_argument('--only', default='')
-    parser.add_argument('-v', action='store_true')
-    words = parser.parse_args()
-    program, failed = os.path.abspath(words.program), 0
-    tests = [test for test in TESTS if words.only in test.__name__]
+    tests = TESTS
     if not shutil.which('tshark'):
-        skipped = [test for test in tests if test in OF_TSHARK]
-        print('skipped, since tshark is not there:', *(test.__name__ for test in skipped))
-        tests = [test for test in tests if test not in skipped]
-    with concurrent.futures.ThreadPoolExecutor(os.cpu_count()) as pool:
-        for test, wrong in zip(tests, pool.map(lambda test: tried(program, test), tests)):
-            failed += bool(wrong)
-            if wrong:
-                print('FAILED %s: %s' % (test.__name__, '; '.join(wrong)), flush=True)
-            elif words.v:
-                print('ok %s' % test.__name__, flush=True)
-    print('%d passed, %d failed' % (len(tests) - failed, failed))
-    sys.exit(1 if failed or not tests else 0)
+        print('skipped, since tshark is not there:', *(test.__name__ for test in OF_TSHARK))
+        tests = [test for test in TESTS if test not in OF_TSHARK]
+    try_all(words_of(__doc__), [(test.__name__, tried, test) for test in tests], os.cpu_count())
 
 
 if __name__ == '__main__':

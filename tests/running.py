@@ -1,0 +1,34 @@
+"""What the scripts of this folder share that try many things on the built program: their words, and their count."""
+import argparse
+import concurrent.futures
+import os
+import pathlib
+import sys
+
+BUILT = pathlib.Path(__file__).resolve().parent.parent / 'crates/nfs3canon/out/nfs3canon'
+
+
+def words_of(text):
+    """PROGRAM, as a path from the top, `--only` and `-v`; the text is the help."""
+    parser = argparse.ArgumentParser(description=text, formatter_class=argparse.RawDescriptionHelpFormatter)
+    parser.add_argument('program', nargs='?', default=str(BUILT))
+    parser.add_argument('--only', default='')
+    parser.add_argument('-v', action='store_true')
+    words = parser.parse_args()
+    words.program = os.path.abspath(words.program)
+    return words
+
+
+def try_all(words, tries, threads):
+    """Tries those whose name has the text of `--only`, so many at once, and ends the script. Each is its name, what to call, which
+    answers the list of what is wrong, and what to call it with, after the program."""
+    tries, failed = [it for it in tries if words.only in it[0]], 0
+    with concurrent.futures.ThreadPoolExecutor(threads) as pool:
+        for (name, *_), wrong in zip(tries, pool.map(lambda it: it[1](words.program, *it[2:]), tries)):
+            failed += bool(wrong)
+            if wrong:
+                print('FAILED %s: %s' % (name, '; '.join(wrong[:9])), flush=True)
+            elif words.v:
+                print('ok %s' % name, flush=True)
+    print('%d passed, %d failed' % (len(tries) - failed, failed))
+    sys.exit(1 if failed or not tries else 0)
