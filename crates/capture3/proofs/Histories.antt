@@ -12,6 +12,7 @@ use Rattle.record_mark.specs.Taking.{Taking, Led, OutOfMemory, IsRunning, releas
 use Rattle.record_mark.proofs.Machines.{after-append}
 use Rattle.std.specs.declared.hash.BuildHasher as BuildHasher
 use Rattle.std.specs.declared.hash.Hasher as Hasher
+use Rattle.indexmap.proofs.RemoveLemmas.{popped_last}
 use Rattle.capture3.specs.declared.calls.NumberedCall.{NumberedCall}
 use Rattle.capture3.specs.declared.entries.Entries.{Entries}
 use Rattle.capture3.specs.declared.entries.Stage.{Stage}
@@ -27,7 +28,7 @@ use Rattle.capture3.specs.declared.position.Spot.TheVariants as spots
 use Rattle.capture3.specs.Connections.{Refusal}
 use Rattle.capture3.specs.Container.{unpacking_of}
 use Rattle.capture3.specs.declared.fault.Fault.{Fault}
-use Rattle.capture3.specs.Entries.{AreAllBeforeEnd, AreFirstReached, IsMetBy, IsShownBy, failure_in, failure_of, left_in, entries_left, unjudged, IsReading, StandsIn, StandsFor, HasRead, GoesOn, Turns, HandsOut, Answers}
+use Rattle.capture3.specs.Entries.{AreAllBeforeEnd, AreFirstReached, IsMetBy, IsShownBy, failure_in, failure_of, left_in, entries_left, unjudged, IsReading, StandsIn, StandsFor, HoldsLast, HasRead, GoesOn, Turns, HandsOut, Answers}
 use Rattle.capture3.specs.Entry.{Entry, End}
 use Rattle.capture3.specs.FirstFault.{FirstFault, IsClean}
 use Rattle.capture3.specs.Judges.{StandsAt, GoesTo, FailsAt, IsHeld, IsOfBytes, entry_cost}
@@ -207,21 +208,39 @@ module _ {R S H : Type 0} {builds : BuildHasher.Ghosts S H} {hashes : Hasher.Gho
   room_in : (e : Entries R S H builds hashes) → e.stage ≡ Reading → entries_left e ≡ room_of e.capture.container.position + 1
   room_in e is = ap (λ (stage : Stage). left_in stage e.capture.container.position) is
 
+  -- ---- the entry that was handed out last
+
+  none_last : (e : Entries R S H builds hashes) (handed : List Entry) → e.last ≡ None → HoldsLast e handed
+  none_last e handed none front entry ends kind is = absurd (cc)
+
+  same_last : (old new : Entries R S H builds hashes) (handed : List Entry) → new.last ≡ old.last → new.capture ≡ old.capture → HoldsLast old handed → HoldsLast new handed
+  same_last old new handed last same h front entry ends kind is =
+      subst (λ (c : Capture (List NumberedCall)). IsHeld kind c.container.joiner entry) (sym same) (h front entry ends kind (sym last ∙ is))
+
+  now_last : (e : Entries R S H builds hashes) (handed : List Entry) (came : Kind) (entry : Entry) → e.last ≡ Some came → IsHeld came e.capture.container.joiner entry → HoldsLast e (handed ++ entry ∷ [])
+  now_last e handed came entry last held front other ends kind is =
+      let one : Some other ≡ Some entry = (popped_last handed front entry (Some other) ends refl).0 in
+      let entries : entry ≡ other = cc in
+      let kinds : came ≡ kind = cc in
+      subst (λ (one : Entry). IsHeld kind e.capture.container.joiner one) entries (subst (λ (k : Kind). IsHeld k e.capture.container.joiner entry) kinds held)
+
   -- it reads on
-  pub stands_reading : (e : Entries R S H builds hashes) (given : List ℕ) (handed : List Entry) → e.stage ≡ Reading → AreBytes given → length handed + (room_of e.capture.container.position + 1) ≤ most_entries → IsReading e given handed → StandsFor left e given handed
-  stands_reading e given handed is are few r = record {
+  pub stands_reading : (e : Entries R S H builds hashes) (given : List ℕ) (handed : List Entry) → e.stage ≡ Reading → AreBytes given → length handed + (room_of e.capture.container.position + 1) ≤ most_entries → HoldsLast e handed → IsReading e given handed → StandsFor left e given handed
+  stands_reading e given handed is are few holds r = record {
     bytes = are;
     few = omega (arith, few, room_in e is);
     connections = (within_here r.judged _ _ _ handed (split_bytes given r.judged (unjudged e) r.split are).0 r.machine).few;
+    holds = holds;
     here = subst (λ (stage : Stage). StandsIn stage (left e.source.now) e given handed) (sym is) r;
   }
 
   -- it has failed
-  pub stands_failed : (old new : Entries R S H builds hashes) (error : Error) (given : List ℕ) (handed : List Entry) → new.stage ≡ Failed error → StandsFor left old given handed → IsMetBy error (left new.source.now) given handed → StandsFor left new given handed
-  stands_failed old new error given handed is s met = record {
+  pub stands_failed : (old new : Entries R S H builds hashes) (error : Error) (given : List ℕ) (handed : List Entry) → new.stage ≡ Failed error → new.last ≡ None → StandsFor left old given handed → IsMetBy error (left new.source.now) given handed → StandsFor left new given handed
+  stands_failed old new error given handed is none s met = record {
     bytes = s.bytes;
     few = omega (arith, s.few, ap (λ (stage : Stage). left_in stage new.capture.container.position) is);
     connections = s.connections;
+    holds = none_last new handed none;
     here = subst (λ (stage : Stage). StandsIn stage (left new.source.now) new given handed) (sym is) met;
   }
 
@@ -250,9 +269,9 @@ module _ {R S H : Type 0} {builds : BuildHasher.Ghosts S H} {hashes : Hasher.Gho
   machine_at e given handed empty r =
       subst (λ (b : List ℕ). StandsAt e.capture.container.position (released e.capture.container.joiner) e.capture.calls (parsed b) handed) (sym (all_judged e given handed empty r)) r.machine
 
-  pub has_read : (old new : Entries R S H builds hashes) (given more : List ℕ) (handed : List Entry) → old.stage ≡ Reading → new.stage ≡ Reading → old.start ≡ old.end → new.capture ≡ old.capture → new.judged ≡ old.judged → unjudged new ≡ more → AreBytes more
+  pub has_read : (old new : Entries R S H builds hashes) (given more : List ℕ) (handed : List Entry) → old.stage ≡ Reading → new.stage ≡ Reading → old.start ≡ old.end → new.capture ≡ old.capture → new.last ≡ old.last → new.judged ≡ old.judged → unjudged new ≡ more → AreBytes more
       → Consumes (left old.source.now) (left new.source.now) more → StandsFor left old given handed → HasRead left old new given handed
-  has_read old new given more handed is goes empty same count block are consumed s =
+  has_read old new given more handed is goes empty same last count block are consumed s =
       let r = reading_of old given handed is s in
       let split : given ++ more ≡ r.judged ++ unjudged new = ap (λ (b : List ℕ). b ++ more) (all_judged old given handed empty r) ∙ ap (λ (b : List ℕ). r.judged ++ b) (sym block) in
       record {
@@ -260,17 +279,18 @@ module _ {R S H : Type 0} {builds : BuildHasher.Ghosts S H} {hashes : Hasher.Gho
         consumed = consumed;
         stands = stands_reading new (given ++ more) handed goes (AreBytes-append given more s.bytes are)
             (omega (arith, room_before old given handed is s, ap (λ (c : Capture (List NumberedCall)). room_of c.container.position) same))
+            (same_last old new handed last same s.holds)
             (record { judged = r.judged; split = split; counted = count ∙ r.counted; machine = subst (λ (c : Capture (List NumberedCall)). StandsAt c.container.position (released c.container.joiner) c.calls (parsed r.judged) handed) (sym same) r.machine });
       }
 
-  pub has_failed : (old new : Entries R S H builds hashes) (given : List ℕ) (handed : List Entry) → old.stage ≡ Reading → new.stage ≡ Failed errors.Read → old.start ≡ old.end
+  pub has_failed : (old new : Entries R S H builds hashes) (given : List ℕ) (handed : List Entry) → old.stage ≡ Reading → new.stage ≡ Failed errors.Read → new.last ≡ None → old.start ≡ old.end
       → Keeps (left old.source.now) (left new.source.now) → StandsFor left old given handed → HasRead left old new given handed
-  has_failed old new given handed is fails empty kept s =
+  has_failed old new given handed is fails none empty kept s =
       record {
         more = [];
         consumed = nothing_consumed _ _ kept;
         stands = subst (λ (b : List ℕ). StandsFor left new b handed) (sym (append-nil given))
-            (stands_failed old new errors.Read given handed fails s (all_before_end given _ _ _ handed s.bytes (machine_at old given handed empty (reading_of old given handed is s))));
+            (stands_failed old new errors.Read given handed fails none s (all_before_end given _ _ _ handed s.bytes (machine_at old given handed empty (reading_of old given handed is s))));
       }
 
   -- ---- judging the block
@@ -290,21 +310,21 @@ module _ {R S H : Type 0} {builds : BuildHasher.Ghosts S H} {hashes : Hasher.Gho
       }
 
   -- with the entry that is whole, if one is
-  pub judged_on : {V : Type 0} (stands : V → List Item → Type 0) (was now : V) (old new : Entries R S H builds hashes) (count : ℕ) (given : List ℕ) (handed : List Entry) (came : Option Kind) → old.stage ≡ Reading → new.stage ≡ Reading
+  pub judged_on : {V : Type 0} (stands : V → List Item → Type 0) (was now : V) (old new : Entries R S H builds hashes) (count : ℕ) (given : List ℕ) (handed : List Entry) (came : Option Kind) → old.stage ≡ Reading → new.stage ≡ Reading → new.last ≡ came
       → new.judged ≡ old.judged + count → unjudged new ≡ slice_range old.block.items (old.start + count) old.end → old.start + count ≤ old.end → old.end ≤ length old.block.items
       → room_of new.capture.container.position + entry_cost came ≤ room_of old.capture.container.position → (s : StandsFor left old given handed)
       → ((judged : List ℕ) → StandsAt old.capture.container.position (released old.capture.container.joiner) old.capture.calls (parsed judged) handed
       → GoesTo stands was now came new.capture.container.position new.capture.container.joiner new.capture.calls (after file_next (parsed judged) (take count (unjudged old))) handed) → GoesOn left stands new was now given handed (Ok came)
-  judged_on stands was now old new count given handed None is goes judged block fits within room s leads =
+  judged_on stands was now old new count given handed None is goes last judged block fits within room s leads =
       let r = reading_of old given handed is s in
-      stands_reading new given handed goes s.bytes (omega (arith, room_before old given handed is s, room)) (moves_on old new count given handed handed judged block fits within r (leads r.judged r.machine))
-  judged_on stands was now old new count given handed (Some kind) is goes judged block fits within room s leads =
+      stands_reading new given handed goes s.bytes (omega (arith, room_before old given handed is s, room)) (none_last new handed last) (moves_on old new count given handed handed judged block fits within r (leads r.judged r.machine))
+  judged_on stands was now old new count given handed (Some kind) is goes last judged block fits within room s leads =
       let r = reading_of old given handed is s in
       let (entry, held, adds, machine) = leads r.judged r.machine in (
         entry,
         kind_held kind new.capture.container.joiner entry held,
         adds,
-        stands_reading new given (handed ++ entry ∷ []) goes s.bytes (omega (arith, room_before old given handed is s, room, length-append handed (entry ∷ []))) (moves_on old new count given handed (handed ++ entry ∷ []) judged block fits within r machine),
+        stands_reading new given (handed ++ entry ∷ []) goes s.bytes (omega (arith, room_before old given handed is s, room, length-append handed (entry ∷ []))) (now_last new handed kind entry last held) (moves_on old new count given handed (handed ++ entry ∷ []) judged block fits within r machine),
       )
 
   fails_by : (e : Entries R S H builds hashes) (error : Error) (given : List ℕ) (handed : List Entry) (known : Option (List ℕ)) → AreBytes given → (r : IsReading e given handed) → FailsAt (parsed r.judged) handed (unjudged e) error → IsMetBy error known given handed
@@ -315,34 +335,35 @@ module _ {R S H : Type 0} {builds : BuildHasher.Ghosts S H} {hashes : Hasher.Gho
   fails_by e errors.Write given handed known are r f = absurd f
   fails_by e errors.Memory given handed known are r f = first_in e given handed are r
 
-  pub judged_failed : (old new : Entries R S H builds hashes) (error : Error) (given : List ℕ) (handed : List Entry) → old.stage ≡ Reading → new.stage ≡ Failed error → (s : StandsFor left old given handed)
+  pub judged_failed : (old new : Entries R S H builds hashes) (error : Error) (given : List ℕ) (handed : List Entry) → old.stage ≡ Reading → new.stage ≡ Failed error → new.last ≡ None → (s : StandsFor left old given handed)
       → ((judged : List ℕ) → StandsAt old.capture.container.position (released old.capture.container.joiner) old.capture.calls (parsed judged) handed → FailsAt (parsed judged) handed (unjudged old) error) → StandsFor left new given handed
-  judged_failed old new error given handed is fails s shows =
+  judged_failed old new error given handed is fails none s shows =
       let r = reading_of old given handed is s in
-      stands_failed old new error given handed fails s (fails_by old error given handed (left new.source.now) s.bytes r (shows r.judged r.machine))
+      stands_failed old new error given handed fails none s (fails_by old error given handed (left new.source.now) s.bytes r (shows r.judged r.machine))
 
   -- ---- the end
 
-  pub finished : (old new : Entries R S H builds hashes) (given : List ℕ) (handed : List Entry) → old.stage ≡ Reading → new.stage ≡ Over → old.start ≡ old.end → old.capture.container.position.spot ≡ spots.Ended → IsAtEnd (left new.source.now)
+  pub finished : (old new : Entries R S H builds hashes) (given : List ℕ) (handed : List Entry) → old.stage ≡ Reading → new.stage ≡ Over → new.last ≡ Some kinds.End → old.start ≡ old.end → old.capture.container.position.spot ≡ spots.Ended → IsAtEnd (left new.source.now)
       → StandsFor left old given handed → StandsFor left new given (handed ++ End ∷ [])
-  finished old new given handed is over empty ended end s =
+  finished old new given handed is over last empty ended end s =
       let typed = typed_here given _ _ _ handed s.bytes (machine_at old given handed empty (reading_of old given handed is s)) ended in
       record {
         bytes = s.bytes;
         few = omega (arith, room_before old given handed is s, length-append handed (End ∷ []), ap (λ (stage : Stage). left_in stage new.capture.container.position) over);
         connections = (typed_within given (handed ++ End ∷ []) typed).few;
+        holds = now_last new handed kinds.End End last refl;
         here = subst (λ (stage : Stage). StandsIn stage (left new.source.now) new given (handed ++ End ∷ [])) (sym over) (typed, end);
       }
 
-  pub cut_short : (old new : Entries R S H builds hashes) (error : Error) (given : List ℕ) (handed : List Entry) → old.stage ≡ Reading → new.stage ≡ Failed error → old.start ≡ old.end → old.capture.container.position.spot ≢ spots.Ended
+  pub cut_short : (old new : Entries R S H builds hashes) (error : Error) (given : List ℕ) (handed : List Entry) → old.stage ≡ Reading → new.stage ≡ Failed error → new.last ≡ None → old.start ≡ old.end → old.capture.container.position.spot ≢ spots.Ended
       → error ≡ errors.Refused (file_fault old.judged CaptureCut) → IsAtEnd (left new.source.now) → StandsFor left old given handed → StandsFor left new given handed
-  cut_short old new error given handed is fails empty not cut end s =
+  cut_short old new error given handed is fails none empty not cut end s =
       let r = reading_of old given handed is s in
       let size : old.judged ≡ length given = r.counted ∙ ap length (sym (all_judged old given handed empty r)) in
       let at = machine_at old given handed empty r in
       let first : FirstFault given (file_fault old.judged CaptureCut) = subst (λ (n : ℕ). FirstFault given (file_fault n CaptureCut)) (sym size) (cut_here given _ _ _ handed s.bytes at not) in
       let reached = (not_ended given _ _ _ handed s.bytes at not).1 in
-      stands_failed old new error given handed fails s
+      stands_failed old new error given handed fails none s
       (subst (λ (e : Error). IsMetBy e (left new.source.now) given handed) (sym cut) (inr (end, first, reached)))
 
   -- ---- one after another

@@ -9,6 +9,7 @@ pub mod Strict
 pub mod Streams
 pub mod Sides
 pub mod Layouts
+mod Lending
 pub mod Bodies
 pub mod Spelled
 pub mod MessageScanLemmas

@@ -17,7 +17,7 @@ use Rattle.capture3.specs.declared.position.Position.{Position}
 use Rattle.capture3.specs.Capture.{max_connections}
 use Rattle.capture3.specs.Entry.{Entry, End, items_of}
 use Rattle.capture3.specs.FirstFault.{FirstFault}
-use Rattle.capture3.specs.Judges.{StandsAt}
+use Rattle.capture3.specs.Judges.{IsHeld, StandsAt}
 use Rattle.capture3.specs.Kept.{IsOfKind}
 use Rattle.capture3.specs.Laws.{begins}
 use Rattle.capture3.specs.Parsing.{parsed}
@@ -71,6 +71,17 @@ module _ {R S H : Type 0} {builds : BuildHasher.Ghosts S H} {hashes : Hasher.Gho
   abbrev pub entries_left : Entries R S H builds hashes → ℕ
   entries_left entries = left_in entries.stage entries.capture.container.position
 
+  -- what the entry is that was handed out last
+  abbrev pub last_of : Entries R S H builds hashes → Option Kind
+  last_of entries = entries.last
+
+  -- the record of this entry stands, if it was the last
+  abbrev pub Holds : Entries R S H builds hashes → Entry → Type 0
+  Holds entries entry = (kind : Kind) → entries.last ≡ Some kind → IsHeld kind entries.capture.container.joiner entry
+
+  abbrev pub HoldsLast : Entries R S H builds hashes → List Entry → Type 0
+  HoldsLast entries handed = (front : List Entry) (entry : Entry) → handed ≡ front ++ entry ∷ [] → Holds entries entry
+
   -- the bytes of the block that are not judged yet
   abbrev pub unjudged : Entries R S H builds hashes → List ℕ
   unjudged entries = slice_range entries.block.items entries.start entries.end
@@ -92,6 +103,7 @@ module _ {R S H : Type 0} {builds : BuildHasher.Ghosts S H} {hashes : Hasher.Gho
     pub bytes : AreBytes given
     pub few : length handed + entries_left entries ≤ most_entries
     pub connections : begins handed ≤ max_connections
+    pub holds : HoldsLast entries handed
     pub here : StandsIn entries.stage (left entries.source.now) entries given handed
 
   -- the end was handed out

@@ -30,6 +30,7 @@ use Rattle.capture3.specs.Judging.{judge_call, judge_reply}
 use Rattle.capture3.specs.Messages.{IsTableOf}
 use Rattle.capture3.specs.Parsing.{Parsing, file_next, emitted}
 use Rattle.capture3.specs.Position.{unpacking_at}
+use Rattle.capture3.specs.Spelled.{SpellsCall, SpellsReply}
 use Rattle.capture3.specs.Resumed.{Judged, parsing_at, resumed, Agrees, AgreesOn, emitted_at, EmitsOn}
 use Rattle.capture3.specs.Unpacking.{Unpacked, Has}
 
@@ -66,6 +67,20 @@ IsHeld kinds.Turn taking entry = entry ≡ entries.Turn
 IsHeld (kinds.Reply id) taking entry = (items : List Item) × IsWhole taking × IsReply (body_of taking) (record { id = id; items = items }) × (entry ≡ entries.Reply id items)
 IsHeld kinds.Close taking entry = entry ≡ entries.Close
 IsHeld kinds.End taking entry = entry ≡ entries.End
+
+-- a whole record stands that spells a message of this kind; nothing is said of the other kinds
+abbrev pub Spells : Kind → Taking → Type 0
+Spells kinds.Begin taking = Unit {0}
+Spells (kinds.Call id) taking = IsWhole taking × ∥ SpellsCall id (body_of taking) ∥₁
+Spells kinds.Turn taking = Unit {0}
+Spells (kinds.Reply id) taking = IsWhole taking × ∥ SpellsReply id (body_of taking) ∥₁
+Spells kinds.Close taking = Unit {0}
+Spells kinds.End taking = Unit {0}
+
+-- the record of this entry stands, if there is one
+abbrev pub SpellsLast : Option Kind → Taking → Type 0
+SpellsLast None taking = Unit {0}
+SpellsLast (Some kind) taking = Spells kind taking
 
 -- The run goes on to there, and its entry, if there is one, is told a visitor. A whole record stands until the next call.
 abbrev pub GoesTo : {V : Type 0} → (V → List Item → Type 0) → (was now : V) → Option Kind → Position → Taking → List NumberedCall → Run Parsing Refusal → List Entry → Type 0

@@ -1,9 +1,11 @@
--- Kept entries, and the entries that they are.
-use Rattle.std.specs.Prelude.{◌≡◌, ℕ, ◌+◌, List, [], ◌∷◌}
+-- Lent and kept entries, and the entries that they are.
+use Rattle.std.specs.Prelude.{◌≡◌, ℕ, ◌+◌, Option, Some, None, List, [], ◌∷◌}
 use Rattle.xdr3.specs.Item.{Item}
 use Rattle.rpc_head.specs.Messages.{procedure_in}
 use Rattle.capture3.specs.declared.entry.Entry as kept
 use Rattle.capture3.specs.declared.entry.Entry.TheVariants as variants
+use Rattle.capture3.specs.declared.entry.EntryRef.{EntryRef}
+use Rattle.capture3.specs.declared.entry.EntryRef.TheVariants as lent
 use Rattle.capture3.specs.declared.entry.Kind.{Kind}
 use Rattle.capture3.specs.declared.entry.Kind.TheVariants as kinds
 use Rattle.capture3.specs.Bodies.{IsCall, IsReply}
@@ -17,6 +19,28 @@ IsOfKind kinds.Turn entry = entry ≡ Turn
 IsOfKind (kinds.Reply id) entry = (items : List Item) × (entry ≡ Reply id items)
 IsOfKind kinds.Close entry = entry ≡ Close
 IsOfKind kinds.End entry = entry ≡ End
+
+-- what a lent entry is
+abbrev pub kind_of : EntryRef → Kind
+kind_of lent.Begin = kinds.Begin
+kind_of (lent.Call call) = kinds.Call call.id
+kind_of lent.Turn = kinds.Turn
+kind_of (lent.Reply reply) = kinds.Reply reply.id
+kind_of lent.Close = kinds.Close
+kind_of lent.End = kinds.End
+
+abbrev pub kind_lent : Option EntryRef → Option Kind
+kind_lent None = None
+kind_lent (Some entry) = Some (kind_of entry)
+
+-- A lent message's body spells the entry's items, for its procedure (RFC 5531, section 9).
+abbrev pub IsLent : EntryRef → Entry → Type 0
+IsLent lent.Begin entry = entry ≡ Begin
+IsLent (lent.Call call) entry = (items : List Item) × IsCall call.body.now items × (call.id ≡ procedure_in items) × (entry ≡ Call items)
+IsLent lent.Turn entry = entry ≡ Turn
+IsLent (lent.Reply reply) entry = (items : List Item) × IsReply reply.body.now (record { id = reply.id; items = items }) × (entry ≡ Reply reply.id items)
+IsLent lent.Close entry = entry ≡ Close
+IsLent lent.End entry = entry ≡ End
 
 -- A kept message's body spells the entry's items, for its procedure (RFC 5531, section 9).
 abbrev pub IsKept : kept.Entry → Entry → Type 0

@@ -1,6 +1,6 @@
 // The entries of a capture, read one by one.
 
-ghost use Rattle.std.specs.Prelude.{◌≡◌, ◌≢◌, ◌≤◌, ◌<◌, ◌++◌, ◌∷◌, ℕ, List, [], length, vec_len, IsTrue, IsFalse, IsSome, IfErr, IfOk, OnErr, OnOk, Err, Ok, None, Some};
+ghost use Rattle.std.specs.Prelude.{◌≡◌, ◌≢◌, ◌≤◌, ◌<◌, ◌++◌, ◌∷◌, ℕ, List, [], length, vec_len, IsTrue, IsFalse, IsSome, IfErr, IfOk, IfSome, OnErr, OnOk, Err, Ok, None, Some};
 ghost use Rattle.std.specs.Io.KnownBytes.{IsAtEnd, ReadConsumes};
 ghost use Rattle.record_mark.specs.Taking.{IsRunning, released};
 ghost use Rattle.capture3.specs.declared.entries.Stage.TheVariants as stages;
@@ -8,12 +8,13 @@ ghost use Rattle.capture3.specs.declared.fault.Error.TheVariants as errors;
 ghost use Rattle.xdr3.specs.Item.{AreBytes};
 ghost use Rattle.capture3.specs.Device.{Counts};
 ghost use Rattle.capture3.specs.Entry as spec;
+ghost use Rattle.capture3.specs.Judges.{SpellsLast};
 ghost use Rattle.capture3.specs.Laws.{most_bytes};
 ghost use Rattle.capture3.specs.Position.{IsSound};
 
 use crate::calls::HashedCalls;
 use crate::device::DeviceFailed;
-use crate::entry::Kind;
+use crate::entry::{EntryRef, Kind};
 use crate::fault::Error;
 use crate::judging::Capture;
 use crate::position::file_fault;
@@ -52,17 +53,21 @@ pub struct Entries<'r, R, S: BuildHasher + Drop> {
     // How many bytes were judged.
     judged: u64,
     capture: Capture<HashedCalls<S>>,
+    // What the entry is that was handed out last, whose record stands.
+    last: Option<Kind>,
     stage: Stage,
     ghost ordered: { start ≤ end },
     ghost within: { end ≤ vec_len block },
     ghost roomy: { 0 < vec_len block },
     ghost sound: { stage ≡ stages.Reading → ∥ IsSound capture.container.position ∥₁ },
     ghost running: { stage ≡ stages.Reading → ∥ IsRunning (released capture.container.joiner) ∥₁ },
+    ghost spells: { ∥ SpellsLast last capture.container.joiner ∥₁ },
     ghost never_writes: { stage ≢ stages.Failed errors.Write },
 }
 
 impl<'r, R: Source, S: BuildHasher + Drop> Entries<'r, R, S> {
-    ghost use Rattle.capture3.specs.Entries.{Answers, CountsReading, entries_left, failure_of, GoesOn, HasRead, IsOver, StandsFor, Turns};
+    ghost use Rattle.capture3.specs.Kept.{IsLent, kind_lent};
+    ghost use Rattle.capture3.specs.Entries.{Answers, CountsReading, entries_left, failure_of, GoesOn, HasRead, IsOver, last_of, StandsFor, Turns};
 
     /// A reader through a block that has room, which reads nothing yet. The hasher is for the calls of a
     /// connection by their xids, and plays no part in the answers.
@@ -80,6 +85,7 @@ impl<'r, R: Source, S: BuildHasher + Drop> Entries<'r, R, S> {
             end: 0,
             judged: 0,
             capture: Capture::new(alloc, HashedCalls::new(alloc, hasher)),
+            last: None,
             stage: Stage::Reading,
         }
     }
@@ -109,6 +115,7 @@ impl<'r, R: Source, S: BuildHasher + Drop> Entries<'r, R, S> {
         ensures end { result ≡ Ok (Some Kind.End) → IsOver self.new }
         ensures over { IsOver self.old → (result ≡ Ok None) × (self.new ≡ self.old) }
         ensures untold { IfOk result (λ next. next ≡ None → visitor.new ≡ visitor.old) }
+        ensures last { IfOk result (λ next. IsSome next → last_of self.new ≡ next) }
         ensures fewer { IfOk result (λ next. IsSome next → entries_left self.new < entries_left self.old) }
         ensures going { OnOk result (failure_of self.new ≡ None) }
         ensures failed { IfErr result (λ error. failure_of self.new ≡ Some error) }
@@ -125,6 +132,20 @@ impl<'r, R: Source, S: BuildHasher + Drop> Entries<'r, R, S> {
         }
     }
 
+    /// The entry that `next` handed out last, lent until the next call, and none before the first and after
+    /// an error.
+    pub fn entry(&self) -> Option<EntryRef<'_>>
+        ensures kind { kind_lent result ≡ last_of self.now }
+        ensures lent { (given : List ℕ) (handed : List spec.Entry) (entry : spec.Entry)
+            → StandsFor R.left self.now given (handed ++ entry ∷ [])
+            → IfSome result (λ lent. IsLent lent entry) }
+    {
+        match self.last {
+            Some(kind) => Some(self.capture.lend(kind)),
+            None => None,
+        }
+    }
+
     /// The next entry of a capture whose end was not handed out.
     fn read_on<V: Visit>(&mut self, visitor: &mut V) -> Result<Option<Kind>, Error>
         requires reading { self.old.stage ≡ Stage.Reading }
@@ -132,6 +153,7 @@ impl<'r, R: Source, S: BuildHasher + Drop> Entries<'r, R, S> {
             → StandsFor R.left self.old given handed
             → Turns R.left V.stands self.old self.new visitor.old visitor.new given handed result }
         ensures end { result ≡ Ok (Some Kind.End) → IsOver self.new }
+        ensures last { IfOk result (λ next. IsSome next → last_of self.new ≡ next) }
         ensures fewer { OnOk result (entries_left self.new < entries_left self.old) }
         ensures some { IfOk result (λ next. IsSome next) }
         ensures going { OnOk result (failure_of self.new ≡ None) }
@@ -147,6 +169,7 @@ impl<'r, R: Source, S: BuildHasher + Drop> Entries<'r, R, S> {
             }
         }
         let error = file_fault(self.judged, Reason::AfterEnd);
+        self.last = None;
         self.stage = Stage::Failed(error);
         Err(error)
     }
@@ -159,6 +182,7 @@ impl<'r, R: Source, S: BuildHasher + Drop> Entries<'r, R, S> {
             → StandsFor R.left self.old given handed
             → Turns R.left V.stands self.old self.new visitor.old visitor.new given handed result }
         ensures end { result ≡ Ok (Some Kind.End) → IsOver self.new }
+        ensures last { IfOk result (λ next. IsSome next → last_of self.new ≡ next) }
         ensures fewer { IfOk result (λ next. IsSome next → entries_left self.new < entries_left self.old) }
         ensures on { IfOk result (λ next. next ≡ None → self.old.judged < self.new.judged) }
         ensures untold { IfOk result (λ next. next ≡ None → visitor.new ≡ visitor.old) }
@@ -207,6 +231,7 @@ impl<'r, R: Source, S: BuildHasher + Drop> Entries<'r, R, S> {
                 Ok(count > 0)
             }
             Err(_) => {
+                self.last = None;
                 self.stage = Stage::Failed(Error::Read);
                 Err(Error::Read)
             }
@@ -223,6 +248,7 @@ impl<'r, R: Source, S: BuildHasher + Drop> Entries<'r, R, S> {
             → GoesOn R.left V.stands self.new visitor.old visitor.new given handed result }
         ensures not_end { result ≢ Ok (Some Kind.End) }
         ensures untold { IfOk result (λ next. next ≡ None → visitor.new ≡ visitor.old) }
+        ensures last { IfOk result (λ next. IsSome next → last_of self.new ≡ next) }
         ensures fewer { IfOk result (λ next. IsSome next → entries_left self.new < entries_left self.old) }
         ensures no_more { IfOk result (λ next. next ≡ None → entries_left self.new ≤ entries_left self.old) }
         ensures on { OnOk result (self.old.judged < self.new.judged) }
@@ -237,9 +263,11 @@ impl<'r, R: Source, S: BuildHasher + Drop> Entries<'r, R, S> {
             Ok((count, kind)) => {
                 self.start += count;
                 self.judged += count as u64;
+                self.last = kind;
                 Ok(kind)
             }
             Err(error) => {
+                self.last = None;
                 self.stage = Stage::Failed(error);
                 Err(error)
             }
@@ -257,6 +285,7 @@ impl<'r, R: Source, S: BuildHasher + Drop> Entries<'r, R, S> {
         ensures err { (given : List ℕ) (handed : List spec.Entry)
             → StandsFor R.left self.old given handed
             → OnErr result (StandsFor R.left self.new given handed) }
+        ensures last { OnOk result (last_of self.new ≡ Some Kind.End) }
         ensures over { OnOk result (self.new.stage ≡ Stage.Over) }
         ensures failed { IfErr result (λ error. self.new.stage ≡ Stage.Failed error) }
         ensures never_reads { IfErr result (λ error. error ≢ Error.Read) }
@@ -265,10 +294,12 @@ impl<'r, R: Source, S: BuildHasher + Drop> Entries<'r, R, S> {
     {
         match self.capture.end(self.judged) {
             Ok(()) => {
+                self.last = Some(Kind::End);
                 self.stage = Stage::Over;
                 Ok(())
             }
             Err(error) => {
+                self.last = None;
                 self.stage = Stage::Failed(error);
                 Err(error)
             }

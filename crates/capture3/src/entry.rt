@@ -5,11 +5,9 @@ ghost use Rattle.record_mark.specs.RecordMark.{max_body};
 ghost use Rattle.xdr3.specs.Item.{Item};
 ghost use Rattle.capture3.specs.Bodies.{IsCall, IsReply, xid_in};
 ghost use Rattle.capture3.specs.MessageScan.{TellsCall, TellsReply};
-ghost use Rattle.capture3.specs.Messages.{answered_items, call_items};
 ghost use Rattle.capture3.specs.Spelled.{SpellsCall, SpellsReply};
 
 use crate::calls::NumberedCall;
-use crate::message::{CallMsg, ReplyMsg, judge_call, judge_reply};
 use crate::message_scan::{scan_call, scan_reply};
 use rpc_head::{ProcId, start};
 use std::alloc::{AllocError, Global};
@@ -22,6 +20,35 @@ pub enum Kind {
     Call(ProcId),
     Turn,
     Reply(ProcId),
+    Close,
+    End,
+}
+
+/// A call whose record stands: its procedure, and the body that spells it.
+#[derive(Clone, Copy)]
+pub struct CallRef<'a> {
+    pub id: ProcId,
+    pub body: &'a [u8],
+    pub ghost short: { length body.now ≤ max_body },
+    pub ghost spells: { ∥ SpellsCall id body.now ∥₁ },
+}
+
+/// A reply whose record stands: the procedure of its call, and the body that spells it.
+#[derive(Clone, Copy)]
+pub struct ReplyRef<'a> {
+    pub id: ProcId,
+    pub body: &'a [u8],
+    pub ghost short: { length body.now ≤ max_body },
+    pub ghost spells: { ∥ SpellsReply id body.now ∥₁ },
+}
+
+/// An entry that borrows from the record that stands.
+#[derive(Clone, Copy)]
+pub enum EntryRef<'a> {
+    Begin,
+    Call(CallRef<'a>),
+    Turn,
+    Reply(ReplyRef<'a>),
     Close,
     End,
 }
@@ -56,74 +83,68 @@ pub enum Entry {
     End,
 }
 
-impl KeptCall {
+impl<'a> CallRef<'a> {
     /// The xid (RFC 5531, section 9).
     pub fn xid(&self) -> u32
-        ensures { (items : List Item) → IsCall self.now.body.items items → result ≡ xid_in items }
+        ensures { (items : List Item) → IsCall self.now.body.now items → result ≡ xid_in items }
     {
-        let Ok(start) = start(&mut Input::new(&self.body)) else {
+        let Ok(start) = start(&mut Input::new(self.body)) else {
             unreachable!()
         };
         start.xid
     }
 
-    /// Tells a visitor the items of the call, in one pass over its body. It fails only where no memory
-    /// was to be had, and then what the visitor holds is open.
-    pub fn scan<V: Visit>(&self, visitor: &mut V) -> Result<(), AllocError>
-        ensures { OnOk result (TellsCall V.stands self.now.body.items visitor.old visitor.new) }
+    /// The call, with a body of its own.
+    pub fn keep(&self, alloc: Global) -> Result<KeptCall, AllocError>
+        ensures id { IfOk result (λ kept. kept.id ≡ self.now.id) }
+        ensures body { IfOk result (λ kept. kept.body.items ≡ self.now.body.now) }
     {
-        match scan_call(&self.body, visitor) {
-            Ok(_) => Ok(()),
-            Err(GetError::Memory) => Err(AllocError),
-            Err(GetError::Stop(_)) => unreachable!(),
-        }
+        let body = Vec::from_slice(alloc, self.body)?;
+        Ok(KeptCall { id: self.id, body })
     }
 
-    /// The call that the body spells. It fails only where no memory was to be had.
-    pub fn read(&self, alloc: Global) -> Result<CallMsg<'_>, AllocError>
-        ensures call { IfOk result (λ call. IsCall self.now.body.items (call_items call)) }
-        ensures procedure { IfOk result (λ call. call.head.id ≡ self.now.id) }
+    /// Tells a visitor the items of the call, in one pass over its body. It fails only where memory ran
+    /// out, and then what the visitor holds is open.
+    pub fn scan<V: Visit>(&self, visitor: &mut V) -> Result<(), AllocError>
+        ensures { OnOk result (TellsCall V.stands self.now.body.now visitor.old visitor.new) }
     {
-        match judge_call(alloc, &mut None::<NumberedCall>, &self.body) {
-            Ok(call) => Ok(call),
+        match scan_call(self.body, visitor) {
+            Ok(_) => Ok(()),
             Err(GetError::Memory) => Err(AllocError),
             Err(GetError::Stop(_)) => unreachable!(),
         }
     }
 }
 
-impl KeptReply {
+impl<'a> ReplyRef<'a> {
     /// The xid (RFC 5531, section 9).
     pub fn xid(&self) -> u32
-        ensures { (items : List Item) → IsReply self.now.body.items
+        ensures { (items : List Item) → IsReply self.now.body.now
             (record { id = self.now.id; items = items }) → result ≡ xid_in items }
     {
-        let Ok(start) = start(&mut Input::new(&self.body)) else {
+        let Ok(start) = start(&mut Input::new(self.body)) else {
             unreachable!()
         };
         start.xid
     }
 
-    /// Tells a visitor the items of the reply, in one pass over its body. It fails only where no memory
-    /// was to be had, and then what the visitor holds is open.
-    pub fn scan<V: Visit>(&self, visitor: &mut V) -> Result<(), AllocError>
-        ensures { OnOk result
-            (TellsReply V.stands self.now.body.items self.now.id visitor.old visitor.new) }
+    /// The reply, with a body of its own.
+    pub fn keep(&self, alloc: Global) -> Result<KeptReply, AllocError>
+        ensures id { IfOk result (λ kept. kept.id ≡ self.now.id) }
+        ensures body { IfOk result (λ kept. kept.body.items ≡ self.now.body.now) }
     {
-        match scan_reply(&mut Some(self.answered()), &self.body, visitor) {
-            Ok(_) => Ok(()),
-            Err(GetError::Memory) => Err(AllocError),
-            Err(GetError::Stop(_)) => unreachable!(),
-        }
+        let body = Vec::from_slice(alloc, self.body)?;
+        Ok(KeptReply { id: self.id, body })
     }
 
-    /// The reply that the body spells. It fails only where no memory was to be had.
-    pub fn read(&self, alloc: Global) -> Result<ReplyMsg<'_>, AllocError>
-        ensures reply { IfOk result (λ reply. IsReply self.now.body.items (answered_items reply)) }
-        ensures procedure { IfOk result (λ reply. reply.id ≡ self.now.id) }
+    /// Tells a visitor the items of the reply, in one pass over its body. It fails only where memory ran
+    /// out, and then what the visitor holds is open.
+    pub fn scan<V: Visit>(&self, visitor: &mut V) -> Result<(), AllocError>
+        ensures { OnOk result
+            (TellsReply V.stands self.now.body.now self.now.id visitor.old visitor.new) }
     {
-        match judge_reply(alloc, &mut Some(self.answered()), &self.body) {
-            Ok(reply) => Ok(reply),
+        match scan_reply(&mut Some(self.answered()), self.body, visitor) {
+            Ok(_) => Ok(()),
             Err(GetError::Memory) => Err(AllocError),
             Err(GetError::Stop(_)) => unreachable!(),
         }
@@ -132,12 +153,64 @@ impl KeptReply {
     /// The call that it answers.
     fn answered(&self) -> NumberedCall
         ensures id { result.id ≡ self.now.id }
-        ensures xid { (items : List Item) → IsReply self.now.body.items
+        ensures xid { (items : List Item) → IsReply self.now.body.now
             (record { id = self.now.id; items = items }) → result.xid ≡ xid_in items }
     {
         NumberedCall {
             xid: self.xid(),
             id: self.id,
+        }
+    }
+}
+
+impl KeptCall {
+    /// The call, as one whose record stands.
+    pub fn lend(&self) -> CallRef<'_>
+        ensures id { result.id ≡ self.now.id }
+        ensures body { result.body.now ≡ self.now.body.items }
+    {
+        CallRef {
+            id: self.id,
+            body: &self.body,
+        }
+    }
+}
+
+impl KeptReply {
+    /// The reply, as one whose record stands.
+    pub fn lend(&self) -> ReplyRef<'_>
+        ensures id { result.id ≡ self.now.id }
+        ensures body { result.body.now ≡ self.now.body.items }
+    {
+        ReplyRef {
+            id: self.id,
+            body: &self.body,
+        }
+    }
+}
+
+impl<'a> EntryRef<'a> {
+    ghost use Rattle.capture3.specs.Entry as spec;
+    ghost use Rattle.capture3.specs.Kept.{IsKept, IsLent};
+
+    /// The entry, with a body of its own.
+    pub fn keep(&self, alloc: Global) -> Result<Entry, AllocError>
+        ensures { (entry : spec.Entry) → IsLent self.now entry
+            → IfOk result (λ kept. IsKept kept entry) }
+    {
+        match self {
+            EntryRef::Begin => Ok(Entry::Begin),
+            EntryRef::Call(call) => {
+                let kept = call.keep(alloc)?;
+                Ok(Entry::Call(kept))
+            }
+            EntryRef::Turn => Ok(Entry::Turn),
+            EntryRef::Reply(reply) => {
+                let kept = reply.keep(alloc)?;
+                Ok(Entry::Reply(kept))
+            }
+            EntryRef::Close => Ok(Entry::Close),
+            EntryRef::End => Ok(Entry::End),
         }
     }
 }

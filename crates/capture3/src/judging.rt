@@ -7,8 +7,9 @@ ghost use Rattle.xdr3.specs.Item.{Item};
 ghost use Rattle.capture3.specs.Connections.{Refusal};
 ghost use Rattle.capture3.specs.Container.{Leaves};
 ghost use Rattle.capture3.specs.Entry as spec;
-ghost use Rattle.capture3.specs.Judges.{EndsWith, entry_cost, error_at, FailsAt, GoesTo, HasMet, IsHeld, IsOfBytes, RefusesBody, StandsAt, TellsCall, TellsReply};
-ghost use Rattle.capture3.specs.Kept.{IsKept};
+ghost use Rattle.capture3.specs.Judges.{EndsWith, entry_cost, error_at, FailsAt, GoesTo, HasMet, IsHeld, IsOfBytes, RefusesBody, Spells, SpellsLast, StandsAt, TellsCall, TellsReply};
+ghost use Rattle.capture3.specs.Kept.{IsLent, kind_of};
+ghost use Rattle.capture3.specs.Spelled.{SpellsCall, SpellsReply};
 ghost use Rattle.capture3.specs.Judging.{judge_call, judge_reply};
 ghost use Rattle.capture3.specs.Messages.{IsTableOf};
 ghost use Rattle.capture3.specs.Parsing.{Parsing, file_next, file_start};
@@ -16,13 +17,13 @@ ghost use Rattle.capture3.specs.Position.{cost_of, IsSound, most_things, room_of
 
 use crate::calls::CallTable;
 use crate::container::Container;
-use crate::entry::{Entry, KeptCall, KeptReply, Kind};
+use crate::entry::{CallRef, EntryRef, Kind, ReplyRef};
 use crate::fault::{Error, Place, Side};
 use crate::message::stop;
 use crate::message_scan::{scan_call, scan_reply};
 use crate::position::{Event, Spot};
 use rpc_head::ProcId;
-use std::alloc::{AllocError, Global};
+use std::alloc::Global;
 use xdr3::{GetError, Reason, Visit};
 
 /// A container, and the calls of its open connection.
@@ -60,6 +61,7 @@ impl<C: CallTable + Drop> Capture<C> {
         ensures more { IfOk result (λ r. r.1 ≡ None → r.0 ≡ length piece.now) }
         ensures untold { IfOk result (λ r. r.1 ≡ None → visitor.new ≡ visitor.old) }
         ensures not_end { IfOk result (λ r. r.1 ≢ Some Kind.End) }
+        ensures spells { IfOk result (λ r. ∥ SpellsLast r.1 self.new.container.joiner ∥₁) }
         ensures sound { OnOk result (IsSound self.new.container.position) }
         ensures running { OnOk result (IsRunning (released self.new.container.joiner)) }
         ensures room { IfOk result
@@ -89,25 +91,26 @@ impl<C: CallTable + Drop> Capture<C> {
         }
     }
 
-    /// The entry of this kind that `next` came to, with the body of its own.
-    pub(crate) fn kept(&self, alloc: Global, kind: Kind) -> Result<Entry, AllocError>
-        requires held { (entry : spec.Entry) × IsHeld kind self.now.container.joiner entry }
-        ensures kept { (entry : spec.Entry) → IsHeld kind self.now.container.joiner entry
-            → IfOk result (λ one. IsKept one entry) }
+    /// The entry of this kind that `next` came to.
+    pub(crate) fn lend(&self, kind: Kind) -> EntryRef<'_>
+        requires spells { ∥ Spells kind self.now.container.joiner ∥₁ }
+        ensures kind { kind_of result ≡ kind }
+        ensures lent { (entry : spec.Entry) → IsHeld kind self.now.container.joiner entry
+            → IsLent result entry }
     {
         match kind {
-            Kind::Begin => Ok(Entry::Begin),
-            Kind::Call(id) => {
-                let body = Vec::from_slice(alloc, self.container.body())?;
-                Ok(Entry::Call(KeptCall { id, body }))
-            }
-            Kind::Turn => Ok(Entry::Turn),
-            Kind::Reply(id) => {
-                let body = Vec::from_slice(alloc, self.container.body())?;
-                Ok(Entry::Reply(KeptReply { id, body }))
-            }
-            Kind::Close => Ok(Entry::Close),
-            Kind::End => Ok(Entry::End),
+            Kind::Begin => EntryRef::Begin,
+            Kind::Call(id) => EntryRef::Call(CallRef {
+                id,
+                body: self.container.body(),
+            }),
+            Kind::Turn => EntryRef::Turn,
+            Kind::Reply(id) => EntryRef::Reply(ReplyRef {
+                id,
+                body: self.container.body(),
+            }),
+            Kind::Close => EntryRef::Close,
+            Kind::End => EntryRef::End,
         }
     }
 
@@ -124,6 +127,7 @@ impl<C: CallTable + Drop> Capture<C> {
         requires { Leaves (Some event) self.old.container.joiner }
         ensures container { self.new.container ≡ self.old.container }
         ensures not_end { IfOk result (λ kind. kind ≢ Kind.End) }
+        ensures spells { IfOk result (λ kind. Spells kind self.new.container.joiner) }
         ensures machine { (run : Run Parsing Refusal) (entries : List spec.Entry)
             → HasMet self.old.container.position self.old.container.joiner
             (C.calls self.old.calls) event run entries
@@ -152,6 +156,7 @@ impl<C: CallTable + Drop> Capture<C> {
         requires { IsWhole self.old.container.joiner }
         ensures container { self.new.container ≡ self.old.container }
         ensures not_end { IfOk result (λ kind. kind ≢ Kind.End) }
+        ensures spells { IfOk result (λ kind. Spells kind self.new.container.joiner) }
         ensures machine { (run : Run Parsing Refusal) (entries : List spec.Entry)
             → HasMet self.old.container.position self.old.container.joiner
             (C.calls self.old.calls) (Event.Record side) run entries
@@ -181,6 +186,8 @@ impl<C: CallTable + Drop> Capture<C> {
     fn call<V: Visit>(&mut self, visitor: &mut V) -> Result<ProcId, Error>
         requires { IsWhole self.old.container.joiner }
         ensures container { self.new.container ≡ self.old.container }
+        ensures spells { IfOk result
+            (λ id. ∥ SpellsCall id (body_of self.old.container.joiner) ∥₁) }
         ensures ok { (calls : List (List Item)) → IsTableOf (C.calls self.old.calls) calls
             → IfOk result
             (TellsCall V.stands visitor.old visitor.new calls
@@ -207,6 +214,8 @@ impl<C: CallTable + Drop> Capture<C> {
         requires { IsWhole self.old.container.joiner }
         ensures container { self.new.container ≡ self.old.container }
         ensures calls { C.calls self.new.calls ≡ C.calls self.old.calls }
+        ensures spells { IfOk result
+            (λ id. ∥ SpellsReply id (body_of self.old.container.joiner) ∥₁) }
         ensures ok { (calls : List (List Item)) → IsTableOf (C.calls self.old.calls) calls
             → IfOk result
             (TellsReply V.stands visitor.old visitor.new calls

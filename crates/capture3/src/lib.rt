@@ -25,7 +25,7 @@ mod word_part;
 
 pub use device::DeviceFailed;
 pub use entries::{Entries, new_block};
-pub use entry::{Entry, KeptCall, KeptReply, Kind};
+pub use entry::{CallRef, Entry, EntryRef, KeptCall, KeptReply, Kind, ReplyRef};
 pub use fault::{Error, Fault, Place, Side};
 pub use hashers::Hashers;
 pub use message::{CallMsg, ReplyMsg};

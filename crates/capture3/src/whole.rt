@@ -40,7 +40,7 @@ pub fn parse(alloc: Global, bytes: &[u8]) -> Result<Vec<Entry>, Error>
         match capture.next(&bytes[taken..], &mut Silent) {
             Ok((count, Some(kind))) => {
                 taken += count;
-                let entry = capture.kept(alloc, kind)?;
+                let entry = capture.lend(kind).keep(alloc)?;
                 entries.push(entry)?;
             }
             Ok((count, None)) => taken += count,

@@ -1,11 +1,12 @@
-use Rattle.std.proofs.Common.{arith, ap, subst, sym, ◌≡◌, ◌∙◌, ◌++◌, ◌-◌, [], ◌∷◌, take, take_all, drop, length, length-take, length-drop, refl}
+use Rattle.std.proofs.Common.{Option, arith, ap, subst, sym, ◌≡◌, ◌∙◌, ◌++◌, ◌-◌, [], ◌∷◌, take, take_all, drop, length, length-take, length-drop, refl}
 use Rattle.capture3.specs.declared.fault.Fault.{Fault}
 use Rattle.capture3.specs.Entry.{End}
 use Rattle.capture3.specs.FirstFault.{FirstFault}
-use Rattle.capture3.specs.Judges.{entry_cost}
+use Rattle.capture3.specs.declared.entry.Kind.{Kind}
+use Rattle.capture3.specs.Judges.{entry_cost, SpellsLast}
 use Rattle.capture3.specs.Parsing.{parsed}
 use Rattle.capture3.proofs.Limits.{typed_within}
-use Rattle.capture3.proofs.Parsed.{begun_is, cut_at, first_fault, held, kept_snoc, keeps_more, keeps_on, never_reads, never_writes, refused_is, typed_at}
+use Rattle.capture3.proofs.Parsed.{begun_is, cut_at, first_fault, kept_snoc, keeps_more, keeps_on, never_reads, never_writes, refused_is, typed_at}
 use Rattle.capture3.proofs.whole.parse.Goals as goal
 
 pub loop-taken-preserved-in-Continue-branch-2 : goal.loop-taken-preserved-in-Continue-branch-2
@@ -22,7 +23,7 @@ loop-taken-preserved-in-Continue-branch-2 c =
       machine =
           rw c.in_ok-push-in-Ok-default-Some.ensures.items
           (keeps_more _ _ _ c.args.bytes.now c.loop-taken.taken c.in-Ok-default-Some.count _ _ _ c.loop-taken.entries.items invariant.machine.0 _ _ _ c.in-Ok-default-Some.field-0-1-is
-          (c.in-Ok-default-Some.ensures.machine (parsed (take c.loop-taken.taken c.args.bytes.now)) invariant.machine.0 invariant.machine.1) (λ entry h. c.in_ok-entry-in-Ok-default-Some.ensures.kept entry h) invariant.machine.2);
+          (c.in-Ok-default-Some.ensures.machine (parsed (take c.loop-taken.taken c.args.bytes.now)) invariant.machine.0 invariant.machine.1) (λ entry h. c.in_ok-entry-in-Ok-default-Some.ensures entry (c.lend.ensures.lent entry h)) invariant.machine.2);
     }
 
 pub loop-taken-preserved : goal.loop-taken-preserved
@@ -76,8 +77,6 @@ returns-clause-fault c fault e =
     let met = cut_at c.args.bytes.now _ _ _ (parsed (take c.loop-taken.taken c.args.bytes.now)) invariant.machine.0 (λ i. omega (arith, c.type_inv.bytes i)) invariant.machine.1 (ap parsed all) c.in-Err-end.ensures.err.0 in
     subst (λ (f : Fault). FirstFault c.args.bytes.now f) (refused_is _ fault (sym c.in-Err-end.ensures.err.1 ∙ e)) met
 
-pub kept-requires : goal.kept-requires
-kept-requires c =
-    let invariant = c.loop-taken.invariant in
-    let h = held _ _ _ _ _ _ _ _ _ _ c.in-Ok-default-Some.field-0-1-is (c.in-Ok-default-Some.ensures.machine (parsed (take c.loop-taken.taken c.args.bytes.now)) invariant.machine.0 invariant.machine.1) in
-    record { held = (h.0, h.1) }
+pub lend-requires : goal.lend-requires
+lend-requires c =
+    record { spells = subst (λ (came : Option Kind). ∥ SpellsLast came c.next.new.self.container.joiner ∥₁) c.in-Ok-default-Some.field-0-1-is c.in-Ok-default-Some.ensures.spells }

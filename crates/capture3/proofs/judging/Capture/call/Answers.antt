@@ -19,3 +19,8 @@ returns-then-branch-clause-ok g c calls table =
           (table_added (g.C.KnownCalls.calls c.args.self.now.calls) calls scanned.items c.in-Ok.call.xid c.in-Ok.call.id scanned.xid_is scanned.procedure_is table);
       adds = scanned.adds;
     }
+
+pub returns-then-branch-clause-spells : goal.returns-then-branch-clause-spells
+returns-then-branch-clause-spells g c =
+    let scanned = c.in-Ok.ensures.ok in
+    ∣ (scanned.items, subst (λ (body : List ℕ). IsCall body scanned.items) c.body.ensures.body scanned.is_call, sym scanned.procedure_is) ∣₁

@@ -12,3 +12,8 @@ returns-in-Ok-clause-ok g c calls table =
       is_reply = subst (λ (body : List ℕ). IsReply body (record { id = c.in-Ok.id; items = scanned.items })) c.body.ensures.body scanned.is_reply;
       adds = scanned.adds;
     }
+
+pub returns-in-Ok-clause-spells : goal.returns-in-Ok-clause-spells
+returns-in-Ok-clause-spells g c =
+    let scanned = c.in-Ok.ensures.ok in
+    ∣ (scanned.items, subst (λ (body : List ℕ). IsReply body (record { id = c.in-Ok.id; items = scanned.items })) c.body.ensures.body scanned.is_reply) ∣₁
