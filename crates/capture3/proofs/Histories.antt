@@ -1,5 +1,5 @@
 -- What a reader of entries makes of its histories, step by step.
-use Rattle.std.proofs.Common.{◌≡◌, ◌≢◌, inl, inr, ℕ, ◌+◌, ◌-◌, ◌≤◌, ◌<◌, Option, Some, None, Result, Ok, Err, IfOk, IfErr, OnOk, IsSome, List, [], ◌∷◌, ◌++◌, length, take, drop, slice_range, refl, sym, ap, subst, ◌∙◌, append_assoc, append-nil, length-append, arith, take-append-drop, length-take, length-drop}
+use Rattle.std.proofs.Common.{◌≡◌, ◌≢◌, inl, inr, ℕ, ◌+◌, ◌-◌, ◌≤◌, ◌<◌, Option, Some, None, Result, Ok, Err, IfOk, IfErr, OnOk, IsSome, List, [], ◌∷◌, ◌++◌, length, take, drop, slice_range, refl, sym, ap, subst, ◌∙◌, append_assoc, append-nil, length-append, arith, take-append-drop, length-take, length-drop, vec_len}
 use Rattle.std.proofs.lemmas.Grind.{common_steps}
 use Rattle.std.proofs.lemmas.List.{drop-take}
 use Rattle.std.proofs.Math.Logic.{∥∥₁_elim}
@@ -225,21 +225,23 @@ module _ {R S H : Type 0} {builds : BuildHasher.Ghosts S H} {hashes : Hasher.Gho
       subst (λ (one : Entry). IsHeld kind e.capture.container.joiner one) entries (subst (λ (k : Kind). IsHeld k e.capture.container.joiner entry) kinds held)
 
   -- it reads on
-  pub stands_reading : (e : Entries R S H builds hashes) (given : List ℕ) (handed : List Entry) → e.stage ≡ Reading → AreBytes given → length handed + (room_of e.capture.container.position + 1) ≤ most_entries → HoldsLast e handed → IsReading e given handed → StandsFor left e given handed
-  stands_reading e given handed is are few holds r = record {
+  pub stands_reading : (e : Entries R S H builds hashes) (given : List ℕ) (handed : List Entry) → e.stage ≡ Reading → AreBytes given → length handed + (room_of e.capture.container.position + 1) ≤ most_entries → length given ≤ most_bytes + vec_len e.block → HoldsLast e handed → IsReading e given handed → StandsFor left e given handed
+  stands_reading e given handed is are few most holds r = record {
     bytes = are;
     few = omega (arith, few, room_in e is);
     connections = (within_here r.judged _ _ _ handed (split_bytes given r.judged (unjudged e) r.split are).0 r.machine).few;
+    most = most;
     holds = holds;
     here = subst (λ (stage : Stage). StandsIn stage (left e.source.now) e given handed) (sym is) r;
   }
 
   -- it has failed
-  pub stands_failed : (old new : Entries R S H builds hashes) (error : Error) (given : List ℕ) (handed : List Entry) → new.stage ≡ Failed error → new.last ≡ None → StandsFor left old given handed → IsMetBy error (left new.source.now) given handed → StandsFor left new given handed
-  stands_failed old new error given handed is none s met = record {
+  pub stands_failed : (old new : Entries R S H builds hashes) (error : Error) (given : List ℕ) (handed : List Entry) → new.stage ≡ Failed error → new.last ≡ None → vec_len new.block ≡ vec_len old.block → StandsFor left old given handed → IsMetBy error (left new.source.now) given handed → StandsFor left new given handed
+  stands_failed old new error given handed is none block s met = record {
     bytes = s.bytes;
     few = omega (arith, s.few, ap (λ (stage : Stage). left_in stage new.capture.container.position) is);
     connections = s.connections;
+    most = omega (arith, s.most, block);
     holds = none_last new handed none;
     here = subst (λ (stage : Stage). StandsIn stage (left new.source.now) new given handed) (sym is) met;
   }
@@ -269,9 +271,9 @@ module _ {R S H : Type 0} {builds : BuildHasher.Ghosts S H} {hashes : Hasher.Gho
   machine_at e given handed empty r =
       subst (λ (b : List ℕ). StandsAt e.capture.container.position (released e.capture.container.joiner) e.capture.calls (parsed b) handed) (sym (all_judged e given handed empty r)) r.machine
 
-  pub has_read : (old new : Entries R S H builds hashes) (given more : List ℕ) (handed : List Entry) → old.stage ≡ Reading → new.stage ≡ Reading → old.start ≡ old.end → new.capture ≡ old.capture → new.last ≡ old.last → new.judged ≡ old.judged → unjudged new ≡ more → AreBytes more
+  pub has_read : (old new : Entries R S H builds hashes) (given more : List ℕ) (handed : List Entry) → old.stage ≡ Reading → new.stage ≡ Reading → old.start ≡ old.end → new.capture ≡ old.capture → new.last ≡ old.last → new.judged ≡ old.judged → unjudged new ≡ more → AreBytes more → old.judged ≤ most_bytes → length more ≤ vec_len new.block
       → Consumes (left old.source.now) (left new.source.now) more → StandsFor left old given handed → HasRead left old new given handed
-  has_read old new given more handed is goes empty same last count block are consumed s =
+  has_read old new given more handed is goes empty same last count block are bounded within consumed s =
       let r = reading_of old given handed is s in
       let split : given ++ more ≡ r.judged ++ unjudged new = ap (λ (b : List ℕ). b ++ more) (all_judged old given handed empty r) ∙ ap (λ (b : List ℕ). r.judged ++ b) (sym block) in
       record {
@@ -279,18 +281,19 @@ module _ {R S H : Type 0} {builds : BuildHasher.Ghosts S H} {hashes : Hasher.Gho
         consumed = consumed;
         stands = stands_reading new (given ++ more) handed goes (AreBytes-append given more s.bytes are)
             (omega (arith, room_before old given handed is s, ap (λ (c : Capture (List NumberedCall)). room_of c.container.position) same))
+            (omega (arith, length-append given more, ap length (all_judged old given handed empty r), r.counted, bounded, within))
             (same_last old new handed last same s.holds)
             (record { judged = r.judged; split = split; counted = count ∙ r.counted; machine = subst (λ (c : Capture (List NumberedCall)). StandsAt c.container.position (released c.container.joiner) c.calls (parsed r.judged) handed) (sym same) r.machine });
       }
 
-  pub has_failed : (old new : Entries R S H builds hashes) (given : List ℕ) (handed : List Entry) → old.stage ≡ Reading → new.stage ≡ Failed errors.Read → new.last ≡ None → old.start ≡ old.end
+  pub has_failed : (old new : Entries R S H builds hashes) (given : List ℕ) (handed : List Entry) → old.stage ≡ Reading → new.stage ≡ Failed errors.Read → new.last ≡ None → vec_len new.block ≡ vec_len old.block → old.start ≡ old.end
       → Keeps (left old.source.now) (left new.source.now) → StandsFor left old given handed → HasRead left old new given handed
-  has_failed old new given handed is fails none empty kept s =
+  has_failed old new given handed is fails none block empty kept s =
       record {
         more = [];
         consumed = nothing_consumed _ _ kept;
         stands = subst (λ (b : List ℕ). StandsFor left new b handed) (sym (append-nil given))
-            (stands_failed old new errors.Read given handed fails none s (all_before_end given _ _ _ handed s.bytes (machine_at old given handed empty (reading_of old given handed is s))));
+            (stands_failed old new errors.Read given handed fails none block s (all_before_end given _ _ _ handed s.bytes (machine_at old given handed empty (reading_of old given handed is s))));
       }
 
   -- ---- judging the block
@@ -310,21 +313,21 @@ module _ {R S H : Type 0} {builds : BuildHasher.Ghosts S H} {hashes : Hasher.Gho
       }
 
   -- with the entry that is whole, if one is
-  pub judged_on : {V : Type 0} (stands : V → List Item → Type 0) (was now : V) (old new : Entries R S H builds hashes) (count : ℕ) (given : List ℕ) (handed : List Entry) (came : Option Kind) → old.stage ≡ Reading → new.stage ≡ Reading → new.last ≡ came
+  pub judged_on : {V : Type 0} (stands : V → List Item → Type 0) (was now : V) (old new : Entries R S H builds hashes) (count : ℕ) (given : List ℕ) (handed : List Entry) (came : Option Kind) → old.stage ≡ Reading → new.stage ≡ Reading → new.last ≡ came → vec_len new.block ≡ vec_len old.block
       → new.judged ≡ old.judged + count → unjudged new ≡ slice_range old.block.items (old.start + count) old.end → old.start + count ≤ old.end → old.end ≤ length old.block.items
       → room_of new.capture.container.position + entry_cost came ≤ room_of old.capture.container.position → (s : StandsFor left old given handed)
       → ((judged : List ℕ) → StandsAt old.capture.container.position (released old.capture.container.joiner) old.capture.calls (parsed judged) handed
       → GoesTo stands was now came new.capture.container.position new.capture.container.joiner new.capture.calls (after file_next (parsed judged) (take count (unjudged old))) handed) → GoesOn left stands new was now given handed (Ok came)
-  judged_on stands was now old new count given handed None is goes last judged block fits within room s leads =
+  judged_on stands was now old new count given handed None is goes last size judged block fits within room s leads =
       let r = reading_of old given handed is s in
-      stands_reading new given handed goes s.bytes (omega (arith, room_before old given handed is s, room)) (none_last new handed last) (moves_on old new count given handed handed judged block fits within r (leads r.judged r.machine))
-  judged_on stands was now old new count given handed (Some kind) is goes last judged block fits within room s leads =
+      stands_reading new given handed goes s.bytes (omega (arith, room_before old given handed is s, room)) (omega (arith, s.most, size)) (none_last new handed last) (moves_on old new count given handed handed judged block fits within r (leads r.judged r.machine))
+  judged_on stands was now old new count given handed (Some kind) is goes last size judged block fits within room s leads =
       let r = reading_of old given handed is s in
       let (entry, held, adds, machine) = leads r.judged r.machine in (
         entry,
         kind_held kind new.capture.container.joiner entry held,
         adds,
-        stands_reading new given (handed ++ entry ∷ []) goes s.bytes (omega (arith, room_before old given handed is s, room, length-append handed (entry ∷ []))) (now_last new handed kind entry last held) (moves_on old new count given handed (handed ++ entry ∷ []) judged block fits within r machine),
+        stands_reading new given (handed ++ entry ∷ []) goes s.bytes (omega (arith, room_before old given handed is s, room, length-append handed (entry ∷ []))) (omega (arith, s.most, size)) (now_last new handed kind entry last held) (moves_on old new count given handed (handed ++ entry ∷ []) judged block fits within r machine),
       )
 
   fails_by : (e : Entries R S H builds hashes) (error : Error) (given : List ℕ) (handed : List Entry) (known : Option (List ℕ)) → AreBytes given → (r : IsReading e given handed) → FailsAt (parsed r.judged) handed (unjudged e) error → IsMetBy error known given handed
@@ -335,35 +338,36 @@ module _ {R S H : Type 0} {builds : BuildHasher.Ghosts S H} {hashes : Hasher.Gho
   fails_by e errors.Write given handed known are r f = absurd f
   fails_by e errors.Memory given handed known are r f = first_in e given handed are r
 
-  pub judged_failed : (old new : Entries R S H builds hashes) (error : Error) (given : List ℕ) (handed : List Entry) → old.stage ≡ Reading → new.stage ≡ Failed error → new.last ≡ None → (s : StandsFor left old given handed)
+  pub judged_failed : (old new : Entries R S H builds hashes) (error : Error) (given : List ℕ) (handed : List Entry) → old.stage ≡ Reading → new.stage ≡ Failed error → new.last ≡ None → vec_len new.block ≡ vec_len old.block → (s : StandsFor left old given handed)
       → ((judged : List ℕ) → StandsAt old.capture.container.position (released old.capture.container.joiner) old.capture.calls (parsed judged) handed → FailsAt (parsed judged) handed (unjudged old) error) → StandsFor left new given handed
-  judged_failed old new error given handed is fails none s shows =
+  judged_failed old new error given handed is fails none block s shows =
       let r = reading_of old given handed is s in
-      stands_failed old new error given handed fails none s (fails_by old error given handed (left new.source.now) s.bytes r (shows r.judged r.machine))
+      stands_failed old new error given handed fails none block s (fails_by old error given handed (left new.source.now) s.bytes r (shows r.judged r.machine))
 
   -- ---- the end
 
-  pub finished : (old new : Entries R S H builds hashes) (given : List ℕ) (handed : List Entry) → old.stage ≡ Reading → new.stage ≡ Over → new.last ≡ Some kinds.End → old.start ≡ old.end → old.capture.container.position.spot ≡ spots.Ended → IsAtEnd (left new.source.now)
+  pub finished : (old new : Entries R S H builds hashes) (given : List ℕ) (handed : List Entry) → old.stage ≡ Reading → new.stage ≡ Over → new.last ≡ Some kinds.End → vec_len new.block ≡ vec_len old.block → old.start ≡ old.end → old.capture.container.position.spot ≡ spots.Ended → IsAtEnd (left new.source.now)
       → StandsFor left old given handed → StandsFor left new given (handed ++ End ∷ [])
-  finished old new given handed is over last empty ended end s =
+  finished old new given handed is over last block empty ended end s =
       let typed = typed_here given _ _ _ handed s.bytes (machine_at old given handed empty (reading_of old given handed is s)) ended in
       record {
         bytes = s.bytes;
         few = omega (arith, room_before old given handed is s, length-append handed (End ∷ []), ap (λ (stage : Stage). left_in stage new.capture.container.position) over);
         connections = (typed_within given (handed ++ End ∷ []) typed).few;
+        most = omega (arith, s.most, block);
         holds = now_last new handed kinds.End End last refl;
         here = subst (λ (stage : Stage). StandsIn stage (left new.source.now) new given (handed ++ End ∷ [])) (sym over) (typed, end);
       }
 
-  pub cut_short : (old new : Entries R S H builds hashes) (error : Error) (given : List ℕ) (handed : List Entry) → old.stage ≡ Reading → new.stage ≡ Failed error → new.last ≡ None → old.start ≡ old.end → old.capture.container.position.spot ≢ spots.Ended
+  pub cut_short : (old new : Entries R S H builds hashes) (error : Error) (given : List ℕ) (handed : List Entry) → old.stage ≡ Reading → new.stage ≡ Failed error → new.last ≡ None → vec_len new.block ≡ vec_len old.block → old.start ≡ old.end → old.capture.container.position.spot ≢ spots.Ended
       → error ≡ errors.Refused (file_fault old.judged CaptureCut) → IsAtEnd (left new.source.now) → StandsFor left old given handed → StandsFor left new given handed
-  cut_short old new error given handed is fails none empty not cut end s =
+  cut_short old new error given handed is fails none block empty not cut end s =
       let r = reading_of old given handed is s in
       let size : old.judged ≡ length given = r.counted ∙ ap length (sym (all_judged old given handed empty r)) in
       let at = machine_at old given handed empty r in
       let first : FirstFault given (file_fault old.judged CaptureCut) = subst (λ (n : ℕ). FirstFault given (file_fault n CaptureCut)) (sym size) (cut_here given _ _ _ handed s.bytes at not) in
       let reached = (not_ended given _ _ _ handed s.bytes at not).1 in
-      stands_failed old new error given handed fails none s
+      stands_failed old new error given handed fails none block s
       (subst (λ (e : Error). IsMetBy e (left new.source.now) given handed) (sym cut) (inr (end, first, reached)))
 
   -- ---- one after another

@@ -1,5 +1,5 @@
 -- A reader of entries, and the histories for which it stands: what its source gave it, and what it handed out.
-use Rattle.std.specs.Prelude.{◌≡◌, ◌⊎◌, ℕ, ◌+◌, ◌-◌, ◌^◌, ◌≤◌, min, Option, Some, None, Result, Ok, Err, List, [], ◌∷◌, ◌++◌, length, slice_range}
+use Rattle.std.specs.Prelude.{◌≡◌, ◌⊎◌, ℕ, ◌+◌, ◌-◌, ◌^◌, ◌≤◌, min, Option, Some, None, Result, Ok, Err, List, [], ◌∷◌, ◌++◌, length, slice_range, vec_len}
 use Rattle.std.specs.Io.KnownBytes.{Consumes, IsAtEnd}
 use Rattle.record_mark.specs.Taking.{released}
 use Rattle.xdr3.specs.Item.{AreBytes, Item}
@@ -19,7 +19,7 @@ use Rattle.capture3.specs.Entry.{Entry, End, items_of}
 use Rattle.capture3.specs.FirstFault.{FirstFault}
 use Rattle.capture3.specs.Judges.{IsHeld, StandsAt}
 use Rattle.capture3.specs.Kept.{IsOfKind}
-use Rattle.capture3.specs.Laws.{begins}
+use Rattle.capture3.specs.Laws.{begins, most_bytes}
 use Rattle.capture3.specs.Parsing.{parsed}
 use Rattle.capture3.specs.Position.{most_entries, room_of}
 use Rattle.capture3.specs.Reached.{Reached}
@@ -71,6 +71,10 @@ module _ {R S H : Type 0} {builds : BuildHasher.Ghosts S H} {hashes : Hasher.Gho
   abbrev pub entries_left : Entries R S H builds hashes → ℕ
   entries_left entries = left_in entries.stage entries.capture.container.position
 
+  -- how many bytes a read asks for
+  abbrev pub block_size : Entries R S H builds hashes → ℕ
+  block_size entries = vec_len entries.block
+
   -- what the entry is that was handed out last
   abbrev pub last_of : Entries R S H builds hashes → Option Kind
   last_of entries = entries.last
@@ -98,11 +102,13 @@ module _ {R S H : Type 0} {builds : BuildHasher.Ghosts S H} {hashes : Hasher.Gho
   StandsIn Over left entries given handed = Typed given handed × IsAtEnd left
   StandsIn (Failed error) left entries given handed = IsMetBy error left given handed
 
-  -- The source gave these bytes since the reader was new, and the reader handed out these entries.
+  -- The source gave these bytes since the reader was new, at most a block more than the longest capture has, and the reader handed out these
+  -- entries.
   pub record StandsFor (left : R → Option (List ℕ)) (entries : Entries R S H builds hashes) (given : List ℕ) (handed : List Entry) : Type 0 where
     pub bytes : AreBytes given
     pub few : length handed + entries_left entries ≤ most_entries
     pub connections : begins handed ≤ max_connections
+    pub most : length given ≤ most_bytes + block_size entries
     pub holds : HoldsLast entries handed
     pub here : StandsIn entries.stage (left entries.source.now) entries given handed
 

@@ -67,7 +67,7 @@ pub struct Entries<'r, R, S: BuildHasher + Drop> {
 
 impl<'r, R: Source, S: BuildHasher + Drop> Entries<'r, R, S> {
     ghost use Rattle.capture3.specs.Kept.{IsLent, kind_lent};
-    ghost use Rattle.capture3.specs.Entries.{Answers, CountsReading, entries_left, failure_of, GoesOn, HasRead, IsOver, last_of, StandsFor, Turns};
+    ghost use Rattle.capture3.specs.Entries.{Answers, block_size, CountsReading, entries_left, failure_of, GoesOn, HasRead, IsOver, last_of, StandsFor, Turns};
 
     /// A reader through a block that has room, which reads nothing yet. The hasher is for the calls of a
     /// connection by their xids, and plays no part in the answers.
@@ -76,6 +76,7 @@ impl<'r, R: Source, S: BuildHasher + Drop> Entries<'r, R, S> {
         ensures stands { StandsFor R.left result [] [] }
         ensures unread { result.source.now ≡ source.old }
         ensures going { failure_of result ≡ None }
+        ensures block { block_size result ≡ vec_len block }
         ensures same_reference { result.source.ghost_name ≡ source.entry.ghost_name }
     {
         Entries {
@@ -123,6 +124,7 @@ impl<'r, R: Source, S: BuildHasher + Drop> Entries<'r, R, S> {
         ensures unread { (error : Error) → failure_of self.old ≡ Some error → self.new.source.now ≡ self.old.source.now }
         ensures read { failure_of self.old ≡ None → CountsReading (R.failures self.old.source.now) (R.failures self.new.source.now) result }
         ensures write { IfErr result (λ error. error ≢ Error.Write) }
+        ensures same_block { block_size self.new ≡ block_size self.old }
         ensures same_reference { self.new.source.ghost_name ≡ self.old.source.ghost_name }
     {
         match self.stage {
@@ -159,6 +161,7 @@ impl<'r, R: Source, S: BuildHasher + Drop> Entries<'r, R, S> {
         ensures going { OnOk result (failure_of self.new ≡ None) }
         ensures failed { IfErr result (λ error. self.new.stage ≡ Stage.Failed error) }
         ensures read { CountsReading (R.failures self.old.source.now) (R.failures self.new.source.now) result }
+        ensures same_block { block_size self.new ≡ block_size self.old }
         ensures same_reference { self.new.source.ghost_name ≡ self.old.source.ghost_name }
     {
         while self.judged <= MOST_BYTES {
@@ -191,6 +194,7 @@ impl<'r, R: Source, S: BuildHasher + Drop> Entries<'r, R, S> {
         ensures going { OnOk result (failure_of self.new ≡ None) }
         ensures failed { IfErr result (λ error. self.new.stage ≡ Stage.Failed error) }
         ensures read { CountsReading (R.failures self.old.source.now) (R.failures self.new.source.now) result }
+        ensures same_block { block_size self.new ≡ block_size self.old }
         ensures same_reference { self.new.source.ghost_name ≡ self.old.source.ghost_name }
     {
         if self.start == self.end {
@@ -211,6 +215,7 @@ impl<'r, R: Source, S: BuildHasher + Drop> Entries<'r, R, S> {
     /// Reads the next block. False stands for the end of the bytes.
     fn refill(&mut self) -> Result<bool, Error>
         requires reading { self.old.stage ≡ Stage.Reading }
+        requires bounded { self.old.judged ≤ most_bytes }
         requires judged { self.old.start ≡ self.old.end }
         ensures has_read { (given : List ℕ) (handed : List spec.Entry) → StandsFor R.left self.old given handed → HasRead R.left self.old self.new given handed }
         ensures some { IfOk result (λ more. IsTrue more → self.new.start < self.new.end) }
@@ -221,6 +226,7 @@ impl<'r, R: Source, S: BuildHasher + Drop> Entries<'r, R, S> {
         ensures reading { OnOk result (self.new.stage ≡ Stage.Reading) }
         ensures failed { IfErr result (λ error. self.new.stage ≡ Stage.Failed error) }
         ensures read { CountsReading (R.failures self.old.source.now) (R.failures self.new.source.now) result }
+        ensures same_block { block_size self.new ≡ block_size self.old }
         ensures same_reference { self.new.source.ghost_name ≡ self.old.source.ghost_name }
     {
         self.start = 0;
@@ -256,6 +262,7 @@ impl<'r, R: Source, S: BuildHasher + Drop> Entries<'r, R, S> {
         ensures failed { IfErr result (λ error. self.new.stage ≡ Stage.Failed error) }
         ensures never_reads { IfErr result (λ error. error ≢ Error.Read) }
         ensures unread { self.new.source.now ≡ self.old.source.now }
+        ensures same_block { block_size self.new ≡ block_size self.old }
         ensures same_reference { self.new.source.ghost_name ≡ self.old.source.ghost_name }
     {
         let piece = &self.block[self.start..self.end];
@@ -290,6 +297,7 @@ impl<'r, R: Source, S: BuildHasher + Drop> Entries<'r, R, S> {
         ensures failed { IfErr result (λ error. self.new.stage ≡ Stage.Failed error) }
         ensures never_reads { IfErr result (λ error. error ≢ Error.Read) }
         ensures unread { self.new.source.now ≡ self.old.source.now }
+        ensures same_block { block_size self.new ≡ block_size self.old }
         ensures same_reference { self.new.source.ghost_name ≡ self.old.source.ghost_name }
     {
         match self.capture.end(self.judged) {

@@ -29,5 +29,6 @@ loop-self-preserved g c =
       untold = c.in-Ok-None.ensures.untold c.in-Ok-None.field-0-is ∙ invariant.untold;
       fewer = omega (arith, c.in-Ok-None.ensures.no_more c.in-Ok-None.field-0-is, invariant.fewer);
       read = c.in-Ok-None.ensures.read ∙ invariant.read;
+      same_block = c.turn.ensures.same_block ∙ invariant.same_block;
       same_reference = c.turn.ensures.same_reference ∙ invariant.same_reference;
     }

@@ -1,6 +1,6 @@
 use Rattle.std.proofs.Common.{◌≡◌, ◌≤◌, ◌+◌, ◌-◌, List, ℕ}
 use Rattle.capture3.specs.declared.entries.Stage.TheVariants.{Reading}
-use Rattle.capture3.specs.Entries.{entries_left, HasRead, StandsFor}
+use Rattle.capture3.specs.Entries.{block_size, entries_left, HasRead, StandsFor}
 use Rattle.capture3.specs.Entry.{Entry}
 use Rattle.capture3.specs.Laws.{most_bytes}
 use Rattle.capture3.proofs.entries.Entries.read_on.Given as goal
@@ -12,6 +12,7 @@ invariant-loop-self g l = record {
   untold : l.visitor ≡ l.initial.visitor;
   fewer : entries_left l.self ≤ entries_left l.initial.self;
   read : g.R.Source.failures l.self.source.now ≡ g.R.Source.failures l.initial.self.source.now;
+  same_block : block_size l.self ≡ block_size l.initial.self;
   same_reference : l.self.source.ghost_name ≡ l.initial.self.source.ghost_name;
 }
 
