@@ -23,3 +23,13 @@ returns-in-Ok-Some-clause-goes_on g c first u =
         handles = subst (λ (l : List Item). Gathers c.next.new.visitor.numbers l) (sym (items_behind u.handed one)) (adds (all_items u.handed) u.tallied.handles);
       };
     }
+
+pub returns-in-Err-clause-goes_on : goal.returns-in-Err-clause-goes_on
+returns-in-Err-clause-goes_on g c first u =
+    let a = c.in-Err.ensures.answers u.given u.handed u.stands in
+    record {
+      given = u.given ++ a.more;
+      handed = u.handed;
+      consumed = Consumes-trans first (g.R.Source.left c.args.entries.now.source.now) (g.R.Source.left c.next.new.self.source.now) u.given a.more u.consumed a.consumed;
+      met = a.hands_out.0;
+    }
