@@ -1,18 +1,16 @@
 // The entries of a capture.
 
-ghost use Rattle.std.specs.Prelude.{◌≡◌, ◌≤◌, List, length, IfOk, OnOk};
+ghost use Rattle.std.specs.Prelude.{◌≡◌, ◌≤◌, List, length, OnOk};
 ghost use Rattle.record_mark.specs.RecordMark.{max_body};
 ghost use Rattle.xdr3.specs.Item.{Item};
 ghost use Rattle.capture3.specs.Bodies.{IsCall, IsReply, xid_in};
 ghost use Rattle.capture3.specs.MessageScan.{TellsCall, TellsReply};
-ghost use Rattle.capture3.specs.Messages.{answered_items, call_items};
 ghost use Rattle.capture3.specs.Spelled.{SpellsCall, SpellsReply};
 
 use crate::calls::NumberedCall;
-use crate::message::{CallMsg, ReplyMsg, judge_call, judge_reply};
 use crate::message_scan::{scan_call, scan_reply};
 use rpc_head::{ProcId, start};
-use std::alloc::{AllocError, Global};
+use std::alloc::AllocError;
 use xdr3::{GetError, Input, Visit};
 
 /// What an entry is, and a message's procedure: of a reply that of its call.
@@ -78,18 +76,6 @@ impl KeptCall {
             Err(GetError::Stop(_)) => unreachable!(),
         }
     }
-
-    /// The call that the body spells. It fails only where no memory was to be had.
-    pub fn read(&self, alloc: Global) -> Result<CallMsg<'_>, AllocError>
-        ensures call { IfOk result (λ call. IsCall self.now.body.items (call_items call)) }
-        ensures procedure { IfOk result (λ call. call.head.id ≡ self.now.id) }
-    {
-        match judge_call(alloc, &mut None::<NumberedCall>, &self.body) {
-            Ok(call) => Ok(call),
-            Err(GetError::Memory) => Err(AllocError),
-            Err(GetError::Stop(_)) => unreachable!(),
-        }
-    }
 }
 
 impl KeptReply {
@@ -112,18 +98,6 @@ impl KeptReply {
     {
         match scan_reply(&mut Some(self.answered()), &self.body, visitor) {
             Ok(_) => Ok(()),
-            Err(GetError::Memory) => Err(AllocError),
-            Err(GetError::Stop(_)) => unreachable!(),
-        }
-    }
-
-    /// The reply that the body spells. It fails only where no memory was to be had.
-    pub fn read(&self, alloc: Global) -> Result<ReplyMsg<'_>, AllocError>
-        ensures reply { IfOk result (λ reply. IsReply self.now.body.items (answered_items reply)) }
-        ensures procedure { IfOk result (λ reply. reply.id ≡ self.now.id) }
-    {
-        match judge_reply(alloc, &mut Some(self.answered()), &self.body) {
-            Ok(reply) => Ok(reply),
             Err(GetError::Memory) => Err(AllocError),
             Err(GetError::Stop(_)) => unreachable!(),
         }
