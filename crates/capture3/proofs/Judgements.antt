@@ -7,16 +7,9 @@ use Rattle.xdr3.specs.Item.{Item, followed_by}
 use Rattle.xdr3.specs.Layout.{Layout, reading_layout}
 use Rattle.xdr3.specs.Reading.{◌>>=◌, reading, refused}
 use Rattle.xdr3.proofs.Linked.{with_front}
-use Rattle.rpc_head.specs.declared.call.CallHead.{CallHead}
 use Rattle.rpc_head.specs.declared.call.ProcId.{ProcId}
 use Rattle.rpc_head.specs.declared.message.Start.{Start}
-use Rattle.rpc_head.specs.declared.reply.Accept.TheVariants.{Success, ProgUnavail, ProgMismatch, ProcUnavail, GarbageArgs, SystemErr}
-use Rattle.rpc_head.specs.declared.reply.Deny.TheVariants.{RpcMismatch, AuthError}
-use Rattle.rpc_head.specs.declared.reply.ReplyHead.{ReplyHead}
-use Rattle.rpc_head.specs.declared.reply.ReplyHead.TheVariants.{Accepted, Denied}
-use Rattle.rpc_head.specs.Calls.{call_head_items}
 use Rattle.rpc_head.specs.Messages.{call_layout, reply_layout, procedure_in}
-use Rattle.rpc_head.specs.Replies.{reply_head_items}
 use Rattle.rpc_head.specs.Shapes.{call_head, message_start, reply_head}
 use Rattle.rpc_head.specs.Starts.{start_items}
 use Rattle.rpc_head.specs.HeadScan.{procedure_told, tells_success}
@@ -26,10 +19,7 @@ use Rattle.capture3.specs.Bodies.{procedure_of, xid_in}
 use Rattle.capture3.specs.Judging.{judge_call, judge_reply, read_whole, ended, agreed, agrees, answering}
 use Rattle.xdr3.specs.declared.reason.GetError.{GetError}
 use Rattle.xdr3.specs.declared.reason.GetError.TheVariants as errors
-use Rattle.std.specs.Result.{IsErrAnd}
-use Rattle.procs3.specs.Items.{args_items}
-use Rattle.capture3.specs.declared.message.CallMsg.{CallMsg}
-use Rattle.capture3.specs.Messages.{Judged, call_items, reading_behind, results_after}
+use Rattle.capture3.specs.Messages.{results_after}
 
 -- ---- a whole layout, read in parts
 
@@ -135,12 +125,6 @@ pub call_accepted : (before : List (List Item)) (body : List ℕ) (s : Start) (i
 call_accepted before body s id front head end to more b read is agree =
     call_whole before body s id front head end to more b read is ∙ ap (λ c. cond c (Ok (whole_call s front more)) (refused 0 XidConflict)) agree
 
-pub call_conflicts : (before : List (List Item)) (body : List ℕ) (s : Start) (id : ProcId) (front : List Item) (head end to : ℕ) (more : List Item) → CallBegins body s id front head end
-    → reading_layout (arguments_of id) body end ≡ Ok (more, to) → to ≡ length body → agrees (procedure_of before s.xid) id ≡ false
-    → judge_call before body ≡ refused 0 XidConflict
-call_conflicts before body s id front head end to more b read is disagree =
-    call_whole before body s id front head end to more b read is ∙ ap (λ c. cond c (Ok (whole_call s front more)) (refused 0 XidConflict)) disagree
-
 -- ---- replies
 
 -- what was read of a reply to a call of this procedure: its start, and its head, of a success or not
@@ -175,18 +159,6 @@ reply_bad_head calls body s id stop head e is asked read =
     reply_read_on calls body s head e is
     ∙ ap (answering body) asked
     ∙ ap (λ r. r >>= λ items. Ok (record { id = id; items = items })) (whole_refused (reply_layout (results_of id)) body stop (reply_head_refused (results_of id) body s stop 0 head e is read))
-
--- what is read after the head as a value
-pub results_are : (h : ReplyHead) (id : ProcId) (body : List ℕ) (at : ℕ) → reading_layout (results_after (tells_success (reply_head_items h)) id) body at ≡ reading_behind h (results_of id) body at
-unfolding followed_by reading_layout reading
-results_are (Accepted verf Success) id body at = refl
-results_are (Accepted verf ProgUnavail) id body at = refl
-results_are (Accepted verf (ProgMismatch low high)) id body at = refl
-results_are (Accepted verf ProcUnavail) id body at = refl
-results_are (Accepted verf GarbageArgs) id body at = refl
-results_are (Accepted verf SystemErr) id body at = refl
-results_are (Denied (RpcMismatch low high)) id body at = refl
-results_are (Denied (AuthError stat)) id body at = refl
 
 reply_laid : (calls : List (List Item)) (body : List ℕ) (s : Start) (id : ProcId) (success : Bool) (front : List Item) (head end : ℕ) → ReplyBegins calls body s id success front head end
     → reading_layout (reply_layout (results_of id)) body 0 ≡ with_front (start_items s ++ front) (reading_layout (results_after success id) body end)
@@ -240,16 +212,6 @@ refusal_judged error judged refusal is answers stop same =
     let equal : refusal ≡ stop = cc in
     answers ∙ ap (λ (s : Stop). Err s) equal
 
--- a stop, in the place where it was met
-pub stop_judged : {M X : Type 0} (items : M → X) (r : Result M GetError) (judged : Result X Stop) (refusal : Stop) → IsErrAnd r (λ e. e ≡ errors.Stop refusal) → judged ≡ Err refusal → Judged items r judged
-stop_judged items (Ok m) judged refusal h answers = absurd h
-stop_judged items (Err e) judged refusal h answers = refusal_judged e judged refusal h answers
-
--- an error of a part, which is that of the whole
-pub error_judged : {M X : Type 0} (items : M → X) (r : Result M GetError) (judged : Result X Stop) (error : GetError) → IsErrAnd r (λ e. e ≡ error) → ((stop : Stop) → error ≡ errors.Stop stop → judged ≡ Err stop) → Judged items r judged
-error_judged items (Ok m) judged error h answers = absurd h
-error_judged items (Err e) judged error h answers = λ stop same. answers stop (sym h ∙ same)
-
 pub not_true : (b : Bool) → not b ≡ true → b ≡ false
 not_true true h = sym h
 not_true false h = refl
@@ -257,16 +219,3 @@ not_true false h = refl
 pub not_false : (b : Bool) → not b ≡ false → b ≡ true
 not_false true h = refl
 not_false false h = sym h
-
--- ---- a call as a value
-
-pub call_head_told : (h : CallHead) → procedure_told (call_head_items h) ≡ h.id
-unfolding followed_by
-call_head_told h = refl
-
-pub call_procedure_is : (m : CallMsg) → procedure_in (call_items m) ≡ m.head.id
-unfolding followed_by
-call_procedure_is m = refl
-
-pub call_xid_is : (m : CallMsg) → xid_in (call_items m) ≡ m.xid
-call_xid_is m = call_xid (record { xid = m.xid; is_reply = false }) (call_head_items m.head) (args_items m.args)

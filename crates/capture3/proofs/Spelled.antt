@@ -1,7 +1,5 @@
 -- A body that spells a message is read without a stop, and as a message of that procedure.
-use Rattle.std.proofs.Common.{◌≡◌, ℕ, Bool, true, false, cond, List, [], ◌∷◌, Some, None, Result, Ok, Err, sym, ap, ◌∙◌, eq-eqb}
-use Rattle.std.proofs.Math.Logic.{∥∥₁_elim}
-use mathlib.Core.Bool.{Bool-set}
+use Rattle.std.proofs.Common.{◌≡◌, ℕ, Bool, true, false, cond, List, [], ◌∷◌, Some, None, Result, Ok, Err, ap, ◌∙◌, eq-eqb}
 use Rattle.xdr3.specs.declared.reason.Stop.{Stop}
 use Rattle.xdr3.specs.Item.{Item, Word}
 use Rattle.xdr3.specs.Reading.{reading}
@@ -14,13 +12,10 @@ use Rattle.rpc_head.specs.Shapes.{message_start}
 use Rattle.rpc_head.specs.Starts.{start_items}
 use Rattle.procs3.specs.Table.{arguments_of, results_of}
 use Rattle.capture3.specs.declared.calls.NumberedCall.{NumberedCall}
-use Rattle.capture3.specs.declared.message.CallMsg.{CallMsg}
 use Rattle.capture3.specs.Bodies.{IsCall, IsReply, Starts, xid_in, procedure_of}
-use Rattle.capture3.specs.Judging.{is_same, judge_call, judge_reply, read_whole}
-use Rattle.capture3.specs.Messages.{call_items}
+use Rattle.capture3.specs.Judging.{judge_call, judge_reply, read_whole}
 use Rattle.capture3.specs.Spelled.{SpellsCall, SpellsReply}
-use Rattle.capture3.proofs.Bodies.{call_accepts, call_starts, reply_accepts, reply_starts, start_of, start_read, is_same_self, same_is}
-use Rattle.capture3.proofs.Judgements.{call_procedure_is}
+use Rattle.capture3.proofs.Bodies.{call_accepts, call_starts, reply_accepts, reply_starts, start_of, start_read}
 use Rattle.capture3.proofs.Layouts.{whole_read}
 
 ok_err : {A E : Type 0} (r : Result A E) (a : A) (e : E) → r ≡ Ok a → r ≡ Err e → ⊥
@@ -63,14 +58,6 @@ one_call body a b p q = same_ok (judge_call [] body) a b (call_judged body a p) 
 
 pub call_never_stops : (id : ProcId) (body : List ℕ) (stop : Stop) → SpellsCall id body → judge_call [] body ≡ Err stop → ⊥
 call_never_stops id body stop s e = ok_err (judge_call [] body) s.0 stop (call_judged body s.0 s.1) e
-
-pub call_has_procedure : (id : ProcId) (body : List ℕ) (m : CallMsg) → IsCall body (call_items m) → ∥ SpellsCall id body ∥₁ → m.head.id ≡ id
-call_has_procedure id body m is s = same_is m.head.id id (∥∥₁_elim s (Bool-set _ _) same)
-  where
-    same : SpellsCall id body → is_same m.head.id id ≡ true
-    same x =
-        let items = same_ok (judge_call [] body) (call_items m) x.0 (call_judged body (call_items m) is) (call_judged body x.0 x.1) in
-        ap (is_same m.head.id) (x.2 ∙ sym (ap procedure_in items) ∙ call_procedure_is m) ∙ is_same_self m.head.id
 
 -- ---- replies
 

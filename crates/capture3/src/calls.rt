@@ -43,13 +43,6 @@ pub(crate) trait CallTable: KnownCalls {
             (λ is. IsTrue is → Self.calls self.new ≡ with_call (Self.calls self.old) xid id) };
 }
 
-/// Tells that no call has this xid and another procedure.
-pub(crate) fn agrees_in<C: KnownCalls>(calls: &mut C, xid: u32, id: ProcId) -> bool
-    ensures { result ≡ agrees (found (C.calls calls.old) xid) id }
-{
-    is_none_or(calls.procedure_of(xid), id)
-}
-
 /// Tells that no procedure is there, or this one.
 fn is_none_or(other: Option<ProcId>, id: ProcId) -> bool
     ensures { result ≡ agrees other id }

@@ -19,7 +19,6 @@ mod silent;
 mod source;
 #[cfg(test)]
 mod tests;
-mod walking;
 mod whole;
 mod word_part;
 
@@ -28,7 +27,6 @@ pub use entries::{Entries, new_block};
 pub use entry::{CallRef, Entry, EntryRef, KeptCall, KeptReply, Kind, ReplyRef};
 pub use fault::{Error, Fault, Place, Side};
 pub use hashers::Hashers;
-pub use message::{CallMsg, ReplyMsg};
 pub use packing::{pack_chunk, pack_header};
 pub use position::{MAX_BYTES, MAX_CONNECTIONS};
 pub use silent::Silent;

@@ -1,13 +1,5 @@
 -- Arguments and results by procedure.
 pub mod Shapes
-pub mod Tagged
-pub mod Files
-pub mod Creation
-pub mod Directories
-pub mod FileSystem
-pub mod Mounts
 pub mod Table
-pub mod Items
 pub mod Names
-pub mod Variants
 pub mod ShapeTails

@@ -41,6 +41,6 @@ mount_name n =
     (if n == 5 then Some (codes "MOUNTPROC3_EXPORT") else
     None))))))
 
--- its name, where its arguments and results have a type
+-- the name of a procedure of NFS version 3 or MOUNT version 3
 abbrev pub name_of : ProcId → Option (List ℕ)
 name_of id = if is_nfs id then nfs_name id.proc_no else (if is_mount id then mount_name id.proc_no else None)

@@ -5,7 +5,8 @@ ghost use Rattle.procs3.specs.Names.{mount_name, name_of, nfs_name};
 
 use rpc_head::ProcId;
 
-/// The name of a procedure whose arguments and results have a type, and none of any other.
+/// The name of a procedure of NFS version 3 or MOUNT version 3 (RFC 1813, sections 3.3 and 5.2), and none
+/// of any other.
 pub fn proc_name(id: ProcId) -> Option<&'static str>
     ensures name { IfSome result (λ name. name_of id ≡ Some name.now) }
     ensures none { IsNone result → name_of id ≡ None }

@@ -4,18 +4,6 @@ ghost use Rattle.std.specs.Prelude.{IfErr, OnOk};
 ghost use Rattle.procs3.specs.ShapeTails.{directory_counts, fsinfo_numbers, fsinfo_parts, fsstat_numbers, fsstat_parts, pathconf_limits, pathconf_names, pathconf_parts, range, range_parts, write_parts, written};
 ghost use Rattle.xdr3.specs.Scan.{Scans, Stops};
 
-use crate::creation::{
-    CreateArgs, CreateHow, CreateOk, Device, MkDirArgs, MkNodArgs, MkNodWhat, SymLinkArgs,
-};
-use crate::directories::{
-    Entry, EntryPlus, LinkArgs, LinkWcc, LookupOk, ReadDirArgs, ReadDirOk, ReadDirPlusArgs,
-    ReadDirPlusOk, RenameArgs, RenameWcc,
-};
-use crate::file_system::{FsInfoOk, FsStatOk, PathConfOk};
-use crate::files::{
-    AccessArgs, AccessOk, CommitOk, FileRange, ReadLinkOk, ReadOk, SetAttrArgs, WriteArgs, WriteOk,
-};
-use crate::mounts::{DirPath, MountRes};
 use crate::scan_items::{
     scan_case_insensitive, scan_case_preserving, scan_chown_restricted, scan_committed,
     scan_cookieverf, scan_createverf, scan_name_max,
@@ -28,6 +16,9 @@ use xdr3::{
 };
 
 // ---- files (RFC 1813, sections 3.3.2 to 3.3.7 and 3.3.21)
+
+/// SETATTR3args (RFC 1813, section 3.3.2).
+pub(crate) struct SetAttrArgs;
 
 impl Scan for SetAttrArgs {
     ghost use Rattle.procs3.specs.Shapes.{setattr_args};
@@ -42,6 +33,9 @@ impl Scan for SetAttrArgs {
     }
 }
 
+/// ACCESS3args (RFC 1813, section 3.3.4).
+pub(crate) struct AccessArgs;
+
 impl Scan for AccessArgs {
     ghost use Rattle.procs3.specs.Shapes.{access_args};
 
@@ -54,6 +48,9 @@ impl Scan for AccessArgs {
         Ok(())
     }
 }
+
+/// ACCESS3resok (RFC 1813, section 3.3.4).
+pub(crate) struct AccessOk;
 
 impl Scan for AccessOk {
     ghost use Rattle.procs3.specs.Shapes.{access_ok};
@@ -68,21 +65,23 @@ impl Scan for AccessOk {
     }
 }
 
-impl<'a> Scan for ReadLinkOk<'a> {
+/// READLINK3resok (RFC 1813, section 3.3.5).
+pub(crate) struct ReadLinkOk;
+
+impl Scan for ReadLinkOk {
     ghost use Rattle.procs3.specs.Shapes.{readlink_ok};
 
     ghost shape = { readlink_ok };
 
     #[tactic(auto, using(xdr3::proofs::ScanLemmas::scans), unfolding(crate::specs::Shapes::readlink_ok, nfs3_types::specs::Names::names))]
-    fn scan<V: Visit>(input: &mut Input, visitor: &mut V) -> Result<(), GetError>
-        ensures ok { OnOk result
-            (Scans V.stands readlink_ok input.old input.new visitor.old visitor.new) }
-        ensures err { IfErr result (λ error. Stops readlink_ok input.old error) }
-    {
+    fn scan<V: Visit>(input: &mut Input, visitor: &mut V) -> Result<(), GetError> {
         PostOpAttr::scan(input, visitor)?;
         scan_text("path", u32::MAX, input, visitor)
     }
 }
+
+/// READ3args and COMMIT3args (RFC 1813, sections 3.3.6 and 3.3.21).
+pub(crate) struct FileRange;
 
 impl Scan for FileRange {
     ghost use Rattle.procs3.specs.Shapes.{file_range};
@@ -119,17 +118,16 @@ fn scan_range<V: Visit>(input: &mut Input, visitor: &mut V) -> Result<(), GetErr
     Ok(())
 }
 
-impl<'a> Scan for ReadOk<'a> {
+/// READ3resok (RFC 1813, section 3.3.6).
+pub(crate) struct ReadOk;
+
+impl Scan for ReadOk {
     ghost use Rattle.procs3.specs.Shapes.{read_ok};
 
     ghost shape = { read_ok };
 
     #[tactic(auto, using(xdr3::proofs::ScanLemmas::scans), unfolding(crate::specs::Shapes::read_ok, nfs3_types::specs::Names::names))]
-    fn scan<V: Visit>(input: &mut Input, visitor: &mut V) -> Result<(), GetError>
-        ensures ok { OnOk result
-            (Scans V.stands read_ok input.old input.new visitor.old visitor.new) }
-        ensures err { IfErr result (λ error. Stops read_ok input.old error) }
-    {
+    fn scan<V: Visit>(input: &mut Input, visitor: &mut V) -> Result<(), GetError> {
         PostOpAttr::scan(input, visitor)?;
         scan_word("count", input, visitor)?;
         scan_boolean("eof", input, visitor)?;
@@ -137,17 +135,16 @@ impl<'a> Scan for ReadOk<'a> {
     }
 }
 
-impl<'a> Scan for WriteArgs<'a> {
+/// WRITE3args (RFC 1813, section 3.3.7).
+pub(crate) struct WriteArgs;
+
+impl Scan for WriteArgs {
     ghost use Rattle.procs3.specs.Shapes.{write_args};
 
     ghost shape = { write_args };
 
     #[tactic(auto, using(crate::proofs::ShapeTailLemmas::wholes))]
-    fn scan<V: Visit>(input: &mut Input, visitor: &mut V) -> Result<(), GetError>
-        ensures ok { OnOk result
-            (Scans V.stands write_args input.old input.new visitor.old visitor.new) }
-        ensures err { IfErr result (λ error. Stops write_args input.old error) }
-    {
+    fn scan<V: Visit>(input: &mut Input, visitor: &mut V) -> Result<(), GetError> {
         scan_write_parts(input, visitor)
     }
 }
@@ -175,6 +172,9 @@ fn scan_written<V: Visit>(input: &mut Input, visitor: &mut V) -> Result<(), GetE
     scan_var("data", u32::MAX, input, visitor)
 }
 
+/// WRITE3resok (RFC 1813, section 3.3.7).
+pub(crate) struct WriteOk;
+
 impl Scan for WriteOk {
     ghost use Rattle.procs3.specs.Shapes.{write_ok};
 
@@ -189,6 +189,9 @@ impl Scan for WriteOk {
     }
 }
 
+/// COMMIT3resok (RFC 1813, section 3.3.21).
+pub(crate) struct CommitOk;
+
 impl Scan for CommitOk {
     ghost use Rattle.procs3.specs.Shapes.{commit_ok};
 
@@ -202,6 +205,9 @@ impl Scan for CommitOk {
 }
 
 // ---- creation (RFC 1813, sections 3.3.8 to 3.3.11)
+
+/// createhow3 (RFC 1813, section 3.3.8).
+struct CreateHow;
 
 impl Scan for CreateHow {
     ghost use Rattle.procs3.specs.Shapes.{create_how};
@@ -218,54 +224,54 @@ impl Scan for CreateHow {
     }
 }
 
-impl<'a> Scan for CreateArgs<'a> {
+/// CREATE3args (RFC 1813, section 3.3.8).
+pub(crate) struct CreateArgs;
+
+impl Scan for CreateArgs {
     ghost use Rattle.procs3.specs.Shapes.{create_args};
 
     ghost shape = { create_args };
 
     #[tactic(auto, using(xdr3::proofs::ScanLemmas::scans), unfolding(crate::specs::Shapes::create_args, nfs3_types::specs::Names::names))]
-    fn scan<V: Visit>(input: &mut Input, visitor: &mut V) -> Result<(), GetError>
-        ensures ok { OnOk result
-            (Scans V.stands create_args input.old input.new visitor.old visitor.new) }
-        ensures err { IfErr result (λ error. Stops create_args input.old error) }
-    {
+    fn scan<V: Visit>(input: &mut Input, visitor: &mut V) -> Result<(), GetError> {
         DirOp::scan(input, visitor)?;
         CreateHow::scan(input, visitor)
     }
 }
 
-impl<'a> Scan for MkDirArgs<'a> {
+/// MKDIR3args (RFC 1813, section 3.3.9).
+pub(crate) struct MkDirArgs;
+
+impl Scan for MkDirArgs {
     ghost use Rattle.procs3.specs.Shapes.{mkdir_args};
 
     ghost shape = { mkdir_args };
 
     #[tactic(auto, using(xdr3::proofs::ScanLemmas::scans), unfolding(crate::specs::Shapes::mkdir_args, nfs3_types::specs::Names::names))]
-    fn scan<V: Visit>(input: &mut Input, visitor: &mut V) -> Result<(), GetError>
-        ensures ok { OnOk result
-            (Scans V.stands mkdir_args input.old input.new visitor.old visitor.new) }
-        ensures err { IfErr result (λ error. Stops mkdir_args input.old error) }
-    {
+    fn scan<V: Visit>(input: &mut Input, visitor: &mut V) -> Result<(), GetError> {
         DirOp::scan(input, visitor)?;
         Sattr::scan(input, visitor)
     }
 }
 
-impl<'a> Scan for SymLinkArgs<'a> {
+/// SYMLINK3args (RFC 1813, section 3.3.10).
+pub(crate) struct SymLinkArgs;
+
+impl Scan for SymLinkArgs {
     ghost use Rattle.procs3.specs.Shapes.{symlink_args};
 
     ghost shape = { symlink_args };
 
     #[tactic(auto, using(xdr3::proofs::ScanLemmas::scans), unfolding(crate::specs::Shapes::symlink_args, nfs3_types::specs::Names::names))]
-    fn scan<V: Visit>(input: &mut Input, visitor: &mut V) -> Result<(), GetError>
-        ensures ok { OnOk result
-            (Scans V.stands symlink_args input.old input.new visitor.old visitor.new) }
-        ensures err { IfErr result (λ error. Stops symlink_args input.old error) }
-    {
+    fn scan<V: Visit>(input: &mut Input, visitor: &mut V) -> Result<(), GetError> {
         DirOp::scan(input, visitor)?;
         Sattr::scan(input, visitor)?;
         scan_text("path", u32::MAX, input, visitor)
     }
 }
+
+/// devicedata3 (RFC 1813, section 3.3.11).
+struct Device;
 
 impl Scan for Device {
     ghost use Rattle.procs3.specs.Shapes.{device};
@@ -280,6 +286,9 @@ impl Scan for Device {
         Ok(())
     }
 }
+
+/// mknoddata3 (RFC 1813, section 3.3.11).
+struct MkNodWhat;
 
 impl Scan for MkNodWhat {
     ghost use Rattle.procs3.specs.Shapes.{mknod_what};
@@ -296,21 +305,23 @@ impl Scan for MkNodWhat {
     }
 }
 
-impl<'a> Scan for MkNodArgs<'a> {
+/// MKNOD3args (RFC 1813, section 3.3.11).
+pub(crate) struct MkNodArgs;
+
+impl Scan for MkNodArgs {
     ghost use Rattle.procs3.specs.Shapes.{mknod_args};
 
     ghost shape = { mknod_args };
 
     #[tactic(auto, using(xdr3::proofs::ScanLemmas::scans), unfolding(crate::specs::Shapes::mknod_args, nfs3_types::specs::Names::names))]
-    fn scan<V: Visit>(input: &mut Input, visitor: &mut V) -> Result<(), GetError>
-        ensures ok { OnOk result
-            (Scans V.stands mknod_args input.old input.new visitor.old visitor.new) }
-        ensures err { IfErr result (λ error. Stops mknod_args input.old error) }
-    {
+    fn scan<V: Visit>(input: &mut Input, visitor: &mut V) -> Result<(), GetError> {
         DirOp::scan(input, visitor)?;
         MkNodWhat::scan(input, visitor)
     }
 }
+
+/// CREATE3resok, MKDIR3resok, SYMLINK3resok and MKNOD3resok (RFC 1813, sections 3.3.8 to 3.3.11).
+pub(crate) struct CreateOk;
 
 impl Scan for CreateOk {
     ghost use Rattle.procs3.specs.Shapes.{create_ok};
@@ -327,6 +338,9 @@ impl Scan for CreateOk {
 
 // ---- directories (RFC 1813, sections 3.3.3 and 3.3.14 to 3.3.17)
 
+/// LOOKUP3resok (RFC 1813, section 3.3.3).
+pub(crate) struct LookupOk;
+
 impl Scan for LookupOk {
     ghost use Rattle.procs3.specs.Shapes.{lookup_ok};
 
@@ -340,21 +354,23 @@ impl Scan for LookupOk {
     }
 }
 
-impl<'a> Scan for RenameArgs<'a> {
+/// RENAME3args (RFC 1813, section 3.3.14).
+pub(crate) struct RenameArgs;
+
+impl Scan for RenameArgs {
     ghost use Rattle.procs3.specs.Shapes.{rename_args};
 
     ghost shape = { rename_args };
 
     #[tactic(auto, using(xdr3::proofs::ScanLemmas::scans), unfolding(crate::specs::Shapes::rename_args, nfs3_types::specs::Names::names))]
-    fn scan<V: Visit>(input: &mut Input, visitor: &mut V) -> Result<(), GetError>
-        ensures ok { OnOk result
-            (Scans V.stands rename_args input.old input.new visitor.old visitor.new) }
-        ensures err { IfErr result (λ error. Stops rename_args input.old error) }
-    {
+    fn scan<V: Visit>(input: &mut Input, visitor: &mut V) -> Result<(), GetError> {
         DirOp::scan(input, visitor)?;
         DirOp::scan(input, visitor)
     }
 }
+
+/// RENAME3resok and RENAME3resfail (RFC 1813, section 3.3.14).
+pub(crate) struct RenameWcc;
 
 impl Scan for RenameWcc {
     ghost use Rattle.procs3.specs.Shapes.{rename_wcc};
@@ -368,21 +384,23 @@ impl Scan for RenameWcc {
     }
 }
 
-impl<'a> Scan for LinkArgs<'a> {
+/// LINK3args (RFC 1813, section 3.3.15).
+pub(crate) struct LinkArgs;
+
+impl Scan for LinkArgs {
     ghost use Rattle.procs3.specs.Shapes.{link_args};
 
     ghost shape = { link_args };
 
     #[tactic(auto, using(xdr3::proofs::ScanLemmas::scans), unfolding(crate::specs::Shapes::link_args, nfs3_types::specs::Names::names))]
-    fn scan<V: Visit>(input: &mut Input, visitor: &mut V) -> Result<(), GetError>
-        ensures ok { OnOk result
-            (Scans V.stands link_args input.old input.new visitor.old visitor.new) }
-        ensures err { IfErr result (λ error. Stops link_args input.old error) }
-    {
+    fn scan<V: Visit>(input: &mut Input, visitor: &mut V) -> Result<(), GetError> {
         Handle::scan(input, visitor)?;
         DirOp::scan(input, visitor)
     }
 }
+
+/// LINK3resok and LINK3resfail (RFC 1813, section 3.3.15).
+pub(crate) struct LinkWcc;
 
 impl Scan for LinkWcc {
     ghost use Rattle.procs3.specs.Shapes.{link_wcc};
@@ -395,6 +413,9 @@ impl Scan for LinkWcc {
         Wcc::scan(input, visitor)
     }
 }
+
+/// READDIR3args (RFC 1813, section 3.3.16).
+pub(crate) struct ReadDirArgs;
 
 impl Scan for ReadDirArgs {
     ghost use Rattle.procs3.specs.Shapes.{readdir_args};
@@ -411,34 +432,32 @@ impl Scan for ReadDirArgs {
     }
 }
 
-impl<'a> Scan for Entry<'a> {
+/// entry3 (RFC 1813, section 3.3.16).
+struct Entry;
+
+impl Scan for Entry {
     ghost use Rattle.procs3.specs.Shapes.{entry};
 
     ghost shape = { entry };
 
     #[tactic(auto, using(xdr3::proofs::ScanLemmas::scans), unfolding(crate::specs::Shapes::entry, nfs3_types::specs::Names::names))]
-    fn scan<V: Visit>(input: &mut Input, visitor: &mut V) -> Result<(), GetError>
-        ensures ok { OnOk result
-            (Scans V.stands entry input.old input.new visitor.old visitor.new) }
-        ensures err { IfErr result (λ error. Stops entry input.old error) }
-    {
+    fn scan<V: Visit>(input: &mut Input, visitor: &mut V) -> Result<(), GetError> {
         scan_hyper("fileid", input, visitor)?;
         scan_text("name", u32::MAX, input, visitor)?;
         scan_hyper("cookie", input, visitor)
     }
 }
 
-impl<'a> Scan for ReadDirOk<'a> {
+/// READDIR3resok (RFC 1813, section 3.3.16).
+pub(crate) struct ReadDirOk;
+
+impl Scan for ReadDirOk {
     ghost use Rattle.procs3.specs.Shapes.{readdir_ok};
 
     ghost shape = { readdir_ok };
 
     #[tactic(auto, using(xdr3::proofs::ScanLemmas::scans), unfolding(crate::specs::Shapes::readdir_ok, nfs3_types::specs::Names::names))]
-    fn scan<V: Visit>(input: &mut Input, visitor: &mut V) -> Result<(), GetError>
-        ensures ok { OnOk result
-            (Scans V.stands readdir_ok input.old input.new visitor.old visitor.new) }
-        ensures err { IfErr result (λ error. Stops readdir_ok input.old error) }
-    {
+    fn scan<V: Visit>(input: &mut Input, visitor: &mut V) -> Result<(), GetError> {
         PostOpAttr::scan(input, visitor)?;
         scan_cookieverf(input, visitor)?;
         scan_linked::<Entry, V>("entry", input, visitor)?;
@@ -446,6 +465,9 @@ impl<'a> Scan for ReadDirOk<'a> {
         Ok(())
     }
 }
+
+/// READDIRPLUS3args (RFC 1813, section 3.3.17).
+pub(crate) struct ReadDirPlusArgs;
 
 impl Scan for ReadDirPlusArgs {
     ghost use Rattle.procs3.specs.Shapes.{readdirplus_args};
@@ -473,17 +495,16 @@ fn scan_directory_counts<V: Visit>(input: &mut Input, visitor: &mut V) -> Result
     Ok(())
 }
 
-impl<'a> Scan for EntryPlus<'a> {
+/// entryplus3 (RFC 1813, section 3.3.17).
+struct EntryPlus;
+
+impl Scan for EntryPlus {
     ghost use Rattle.procs3.specs.Shapes.{entry_plus};
 
     ghost shape = { entry_plus };
 
     #[tactic(auto, using(xdr3::proofs::ScanLemmas::scans), unfolding(crate::specs::Shapes::entry_plus, nfs3_types::specs::Names::names))]
-    fn scan<V: Visit>(input: &mut Input, visitor: &mut V) -> Result<(), GetError>
-        ensures ok { OnOk result
-            (Scans V.stands entry_plus input.old input.new visitor.old visitor.new) }
-        ensures err { IfErr result (λ error. Stops entry_plus input.old error) }
-    {
+    fn scan<V: Visit>(input: &mut Input, visitor: &mut V) -> Result<(), GetError> {
         scan_hyper("fileid", input, visitor)?;
         scan_text("name", u32::MAX, input, visitor)?;
         scan_hyper("cookie", input, visitor)?;
@@ -492,17 +513,16 @@ impl<'a> Scan for EntryPlus<'a> {
     }
 }
 
-impl<'a> Scan for ReadDirPlusOk<'a> {
+/// READDIRPLUS3resok (RFC 1813, section 3.3.17).
+pub(crate) struct ReadDirPlusOk;
+
+impl Scan for ReadDirPlusOk {
     ghost use Rattle.procs3.specs.Shapes.{readdirplus_ok};
 
     ghost shape = { readdirplus_ok };
 
     #[tactic(auto, using(xdr3::proofs::ScanLemmas::scans), unfolding(crate::specs::Shapes::readdirplus_ok, nfs3_types::specs::Names::names))]
-    fn scan<V: Visit>(input: &mut Input, visitor: &mut V) -> Result<(), GetError>
-        ensures ok { OnOk result
-            (Scans V.stands readdirplus_ok input.old input.new visitor.old visitor.new) }
-        ensures err { IfErr result (λ error. Stops readdirplus_ok input.old error) }
-    {
+    fn scan<V: Visit>(input: &mut Input, visitor: &mut V) -> Result<(), GetError> {
         PostOpAttr::scan(input, visitor)?;
         scan_cookieverf(input, visitor)?;
         scan_linked::<EntryPlus, V>("entry", input, visitor)?;
@@ -512,6 +532,9 @@ impl<'a> Scan for ReadDirPlusOk<'a> {
 }
 
 // ---- file systems (RFC 1813, sections 3.3.18 to 3.3.20)
+
+/// FSSTAT3resok (RFC 1813, section 3.3.18).
+pub(crate) struct FsStatOk;
 
 impl Scan for FsStatOk {
     ghost use Rattle.procs3.specs.Shapes.{fsstat_ok};
@@ -556,6 +579,9 @@ fn scan_fsstat_numbers<V: Visit>(input: &mut Input, visitor: &mut V) -> Result<(
     scan_plain(&FSSTAT, 52, input, visitor)?;
     Ok(())
 }
+
+/// FSINFO3resok (RFC 1813, section 3.3.19).
+pub(crate) struct FsInfoOk;
 
 impl Scan for FsInfoOk {
     ghost use Rattle.procs3.specs.Shapes.{fsinfo_ok};
@@ -604,6 +630,9 @@ fn scan_fsinfo_numbers<V: Visit>(input: &mut Input, visitor: &mut V) -> Result<(
     scan_plain(&FSINFO, 48, input, visitor)?;
     Ok(())
 }
+
+/// PATHCONF3resok (RFC 1813, section 3.3.20).
+pub(crate) struct PathConfOk;
 
 impl Scan for PathConfOk {
     ghost use Rattle.procs3.specs.Shapes.{pathconf_ok};
@@ -654,20 +683,22 @@ fn scan_pathconf_names<V: Visit>(input: &mut Input, visitor: &mut V) -> Result<(
 
 // ---- MOUNT version 3 (RFC 1813, section 5.2)
 
-impl<'a> Scan for DirPath<'a> {
+/// A dirpath, the arguments of MNT and of UMNT (RFC 1813, sections 5.2.1 and 5.2.3).
+pub(crate) struct DirPath;
+
+impl Scan for DirPath {
     ghost use Rattle.procs3.specs.Shapes.{dirpath};
 
     ghost shape = { dirpath };
 
     #[tactic(auto, using(xdr3::proofs::ScanLemmas::scans), unfolding(crate::specs::Shapes::dirpath, nfs3_types::specs::Names::names))]
-    fn scan<V: Visit>(input: &mut Input, visitor: &mut V) -> Result<(), GetError>
-        ensures ok { OnOk result
-            (Scans V.stands dirpath input.old input.new visitor.old visitor.new) }
-        ensures err { IfErr result (λ error. Stops dirpath input.old error) }
-    {
+    fn scan<V: Visit>(input: &mut Input, visitor: &mut V) -> Result<(), GetError> {
         scan_path("dirpath", input, visitor)
     }
 }
+
+/// mountres3 (RFC 1813, section 5.2.1).
+pub(crate) struct MountRes;
 
 impl Scan for MountRes {
     ghost use Rattle.procs3.specs.Shapes.{mount_results};

@@ -4,16 +4,12 @@ ghost use Rattle.std.specs.Prelude.{◌≤◌, IfErr, OnOk};
 ghost use Rattle.procs3.specs.Table.{arguments_of, mount_arguments, mount_results_of, nfs_arguments, nfs_results, results_of};
 ghost use Rattle.xdr3.specs.Scan.{ScansLayout, StopsLayout};
 
-use crate::creation::{CreateArgs, CreateOk, MkDirArgs, MkNodArgs, SymLinkArgs};
-use crate::directories::{
-    LinkArgs, LinkWcc, LookupOk, ReadDirArgs, ReadDirOk, ReadDirPlusArgs, ReadDirPlusOk,
-    RenameArgs, RenameWcc,
+use crate::scan::{
+    AccessArgs, AccessOk, CommitOk, CreateArgs, CreateOk, DirPath, FileRange, FsInfoOk, FsStatOk,
+    LinkArgs, LinkWcc, LookupOk, MkDirArgs, MkNodArgs, MountRes, PathConfOk, ReadDirArgs,
+    ReadDirOk, ReadDirPlusArgs, ReadDirPlusOk, ReadLinkOk, ReadOk, RenameArgs, RenameWcc,
+    SetAttrArgs, SymLinkArgs, WriteArgs, WriteOk,
 };
-use crate::file_system::{FsInfoOk, FsStatOk, PathConfOk};
-use crate::files::{
-    AccessArgs, AccessOk, CommitOk, FileRange, ReadLinkOk, ReadOk, SetAttrArgs, WriteArgs, WriteOk,
-};
-use crate::mounts::{DirPath, MountRes};
 use nfs3_types::mount3::{Exports, MountList};
 use nfs3_types::{DirOp, Fattr, Handle, PostOpAttr, Res, Void, Wcc};
 use rpc_head::ProcId;

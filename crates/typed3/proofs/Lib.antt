@@ -1,0 +1,2 @@
+-- Lemmas of messages as values.
+pub mod MessageLemmas

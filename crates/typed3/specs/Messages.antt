@@ -1,0 +1,53 @@
+-- Whole messages as values: their items, and where they have results (RFC 5531, section 9).
+use Rattle.std.specs.Prelude.{◌≡◌, ℕ, Bool, true, false, List, [], Option, Some, None}
+use Rattle.xdr3.specs.declared.reason.GetError.{GetError}
+use Rattle.xdr3.specs.declared.reason.GetError.TheVariants as errors
+use Rattle.xdr3.specs.declared.reason.Stop.{Stop}
+use Rattle.xdr3.specs.Item.{Item, followed_by}
+use Rattle.rpc_head.specs.declared.call.ProcId.{ProcId}
+use Rattle.rpc_head.specs.declared.reply.Accept.TheVariants.{Success, ProgUnavail, ProgMismatch, ProcUnavail, GarbageArgs, SystemErr}
+use Rattle.rpc_head.specs.declared.reply.ReplyHead.{ReplyHead}
+use Rattle.rpc_head.specs.declared.reply.ReplyHead.TheVariants.{Accepted, Denied}
+use Rattle.rpc_head.specs.Calls.{call_head_items}
+use Rattle.rpc_head.specs.Replies.{reply_head_items}
+use Rattle.rpc_head.specs.Starts.{start_items}
+use Rattle.capture3.specs.Bodies.{ReplyItems, IsCall, IsReply}
+use Rattle.typed3.specs.declared.message.CallMsg.{CallMsg}
+use Rattle.typed3.specs.declared.message.ReplyMsg.{ReplyMsg}
+use Rattle.typed3.specs.declared.results.Results.{Results}
+use Rattle.typed3.specs.Items.{args_items, results_items}
+
+-- a call's items
+abbrev pub call_items : CallMsg → List Item
+call_items m = followed_by (start_items (record { xid = m.xid; is_reply = false })) (followed_by (call_head_items m.head) (args_items m.args))
+
+abbrev pub items_after_head : Option Results → List Item
+items_after_head None = []
+items_after_head (Some results) = results_items results
+
+-- a reply's items
+abbrev pub reply_items : ReplyMsg → List Item
+reply_items m = followed_by (start_items (record { xid = m.xid; is_reply = true })) (followed_by (reply_head_items m.head) (items_after_head m.results))
+
+abbrev pub answered_items : ReplyMsg → ReplyItems
+answered_items m = record { id = m.id; items = reply_items m }
+
+-- the call was accepted, and it succeeded
+abbrev pub is_success : ReplyHead → Bool
+is_success (Accepted verf Success) = true
+is_success (Accepted verf ProgUnavail) = false
+is_success (Accepted verf (ProgMismatch low high)) = false
+is_success (Accepted verf ProcUnavail) = false
+is_success (Accepted verf GarbageArgs) = false
+is_success (Accepted verf SystemErr) = false
+is_success (Denied deny) = false
+
+-- ---- within the crate
+
+-- the body spells no call, unless memory ran out
+abbrev pub SpellsNoCall : GetError → List ℕ → Type 0
+SpellsNoCall error body = (stop : Stop) → error ≡ errors.Stop stop → (items : List Item) → IsCall body items → ⊥
+
+-- the body spells no reply with the results of this procedure, unless memory ran out
+abbrev pub SpellsNoReply : GetError → ProcId → List ℕ → Type 0
+SpellsNoReply error id body = (stop : Stop) → error ≡ errors.Stop stop → (items : List Item) → IsReply body (record { id = id; items = items }) → ⊥

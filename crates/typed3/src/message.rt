@@ -1,0 +1,64 @@
+// Whole messages, item by item (RFC 5531, section 9).
+
+use crate::args::Args;
+use crate::results::Results;
+use rpc_head::{CallHead, ProcId, ReplyHead};
+use std::alloc::AllocError;
+use xdr3::{Field, Visit, Walk, walk_fields};
+
+/// A call: its xid, its head and its arguments, which borrow from its body (RFC 5531, section 9).
+#[derive(Clone, Copy)]
+pub struct CallMsg<'a> {
+    pub xid: u32,
+    pub head: CallHead<'a>,
+    pub args: Args<'a>,
+}
+
+/// The xid first, then the mtype CALL, the head and the arguments (RFC 5531, section 9).
+impl Walk for CallMsg<'_> {
+    ghost use Rattle.typed3.specs.Messages.{call_items};
+
+    ghost items = { call_items };
+
+    #[tactic(auto, using(xdr3::proofs::Walks::steps), unfolding(rpc_head::specs::Names::names))]
+    fn walk<V: Visit>(&self, visitor: &mut V) -> Result<(), AllocError> {
+        walk_fields(
+            &[Field::Word("xid", self.xid), Field::Word("mtype", 0)],
+            visitor,
+        )?;
+        self.head.walk(visitor)?;
+        self.args.walk(visitor)?;
+        Ok(())
+    }
+}
+
+/// A reply: its xid, its procedure, which is that of its call, its head, and its results where it is an
+/// accepted success. Head and results borrow from its body (RFC 5531, section 9).
+#[derive(Drop)]
+pub struct ReplyMsg<'a> {
+    pub xid: u32,
+    pub id: ProcId,
+    pub head: ReplyHead<'a>,
+    pub results: Option<Results<'a>>,
+}
+
+/// The xid first, then the mtype REPLY, the head, and the results where there are some (RFC 5531,
+/// section 9).
+impl Walk for ReplyMsg<'_> {
+    ghost use Rattle.typed3.specs.Messages.{reply_items};
+
+    ghost items = { reply_items };
+
+    #[tactic(auto, using(xdr3::proofs::Walks::steps), unfolding(rpc_head::specs::Names::names))]
+    fn walk<V: Visit>(&self, visitor: &mut V) -> Result<(), AllocError> {
+        walk_fields(
+            &[Field::Word("xid", self.xid), Field::Word("mtype", 1)],
+            visitor,
+        )?;
+        self.head.walk(visitor)?;
+        if let Some(results) = &self.results {
+            results.walk(visitor)?;
+        }
+        Ok(())
+    }
+}

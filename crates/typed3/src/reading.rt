@@ -1,0 +1,143 @@
+// Lent messages, read as values.
+
+ghost use Rattle.std.specs.Prelude.{◌≡◌, ◌≤◌, length, is_some, IfErr, IfOk, IfSome};
+ghost use Rattle.procs3.specs.Names.{name_of};
+ghost use Rattle.xdr3.specs.Gives.{Gives};
+ghost use Rattle.xdr3.specs.Layout.{reading_layout};
+ghost use Rattle.xdr3.specs.View.{MovesOn};
+ghost use Rattle.capture3.specs.Bodies.{IsCall, IsReply};
+ghost use Rattle.capture3.specs.Messages.{results_after};
+ghost use Rattle.typed3.specs.Messages.{answered_items, call_items, is_success, items_after_head, SpellsNoCall, SpellsNoReply};
+ghost use Rattle.typed3.specs.Variants.{args_name, results_name};
+
+use crate::args::Args;
+use crate::message::{CallMsg, ReplyMsg};
+use crate::results::Results;
+use capture3::{CallRef, ReplyRef};
+use rpc_head::{Accept, CallHead, ProcId, ReplyHead, start};
+use std::alloc::{AllocError, Global};
+use xdr3::{GetError, Input, Reason, Stop, Xdr};
+
+/// The call that a lent call's body spells, with the arguments of its procedure (RFC 5531, section 9).
+/// It borrows from the body.
+///
+/// # Errors
+///
+/// `AllocError`, only where memory ran out.
+pub fn read_call<'a>(alloc: Global, call: CallRef<'a>) -> Result<CallMsg<'a>, AllocError>
+    ensures call { IfOk result (λ message. IsCall call.body.now (call_items message)) }
+    ensures procedure { IfOk result (λ message. message.head.id ≡ call.id) }
+    ensures variant { IfOk result
+        (λ message. args_name message.args ≡ name_of message.head.id) }
+{
+    match call_in(alloc, call.body) {
+        Ok(message) => Ok(message),
+        Err(GetError::Memory) => Err(AllocError),
+        Err(GetError::Stop(_)) => unreachable!(),
+    }
+}
+
+/// The reply that a lent reply's body spells, with the results of its procedure exactly where it is an
+/// accepted success (RFC 5531, section 9). It borrows from the body.
+///
+/// # Errors
+///
+/// `AllocError`, only where memory ran out.
+pub fn read_reply<'a>(alloc: Global, reply: ReplyRef<'a>) -> Result<ReplyMsg<'a>, AllocError>
+    ensures reply { IfOk result
+        (λ message. IsReply reply.body.now (answered_items message)) }
+    ensures procedure { IfOk result (λ message. message.id ≡ reply.id) }
+    ensures success { IfOk result
+        (λ message. is_some message.results ≡ is_success message.head) }
+    ensures variant { IfOk result (λ message. IfSome message.results
+        (λ results. results_name results ≡ name_of message.id)) }
+{
+    match reply_in(alloc, reply.id, reply.body) {
+        Ok(message) => Ok(message),
+        Err(GetError::Memory) => Err(AllocError),
+        Err(GetError::Stop(_)) => unreachable!(),
+    }
+}
+
+/// Reads a body as a call.
+fn call_in<'a>(alloc: Global, body: &'a [u8]) -> Result<CallMsg<'a>, GetError>
+    requires { length body.now ≤ 16777216 }
+    ensures call { IfOk result (λ call. IsCall body.now (call_items call)) }
+    ensures variant { IfOk result (λ call. args_name call.args ≡ name_of call.head.id) }
+    ensures err { IfErr result (λ error. SpellsNoCall error body.now) }
+{
+    let mut input = Input::new(body);
+    let start = start(&mut input)?;
+    if start.is_reply {
+        return Err(wrong_side());
+    }
+    let head = CallHead::get(alloc, &mut input)?;
+    let args = Args::get(alloc, head.id, &mut input)?;
+    input.end()?;
+    Ok(CallMsg {
+        xid: start.xid,
+        head,
+        args,
+    })
+}
+
+/// Reads a body as a reply to a call of this procedure.
+fn reply_in<'a>(alloc: Global, id: ProcId, body: &'a [u8]) -> Result<ReplyMsg<'a>, GetError>
+    requires { length body.now ≤ 16777216 }
+    ensures reply { IfOk result (λ reply. IsReply body.now (answered_items reply)) }
+    ensures procedure { IfOk result (λ reply. reply.id ≡ id) }
+    ensures success { IfOk result (λ reply. is_some reply.results ≡ is_success reply.head) }
+    ensures variant { IfOk result (λ reply. IfSome reply.results
+        (λ results. results_name results ≡ name_of id)) }
+    ensures err { IfErr result (λ error. SpellsNoReply error id body.now) }
+{
+    let mut input = Input::new(body);
+    let start = start(&mut input)?;
+    if !start.is_reply {
+        return Err(wrong_side());
+    }
+    let head = ReplyHead::get(alloc, &mut input)?;
+    let results = results_in(alloc, id, &head, &mut input)?;
+    input.end()?;
+    Ok(ReplyMsg {
+        xid: start.xid,
+        id,
+        head,
+        results,
+    })
+}
+
+/// The results after a reply's head: none but after an accepted success.
+#[tactic(auto, unfolding(xdr3::specs::Layout::reading_layout, xdr3::specs::Reading::reading))]
+fn results_in<'a>(
+    alloc: Global,
+    id: ProcId,
+    head: &ReplyHead<'a>,
+    input: &mut Input<'a>,
+) -> Result<Option<Results<'a>>, GetError>
+    ensures read { Gives items_after_head result input.new.at
+        (reading_layout (results_after (is_success head.now) id) input.old.body input.old.at) }
+    ensures success { IfOk result (λ results. is_some results ≡ is_success head.now) }
+    ensures variant { IfOk result
+        (λ results. IfSome results (λ results. results_name results ≡ name_of id)) }
+    ensures moves { MovesOn input.old input.new }
+{
+    input.at();
+    match head {
+        ReplyHead::Accepted(_, Accept::Success) => {
+            let results = Results::get(alloc, id, input)?;
+            Ok(Some(results))
+        }
+        _ => Ok(None),
+    }
+}
+
+/// The refusal of a reply among calls, or of a call among replies.
+fn wrong_side() -> GetError
+    ensures { result ≡ GetError.Stop (record { at = 4; reason = Reason.WrongSide }) }
+{
+    GetError::Stop(Stop {
+        at: 4,
+        reason: Reason::WrongSide,
+    })
+}
