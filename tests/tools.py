@@ -264,12 +264,15 @@ def examples_are_made_alike(tools):
 
 
 def pages_agree(tools):
-    """The reasons have the same names in docs/FORMATS.md, the man page and tools/explain, and the dump is that of the example."""
+    """The reasons have the same names in docs/FORMATS.md, the man page and tools/explain, each has a row in captures.rows, and the
+    dump is that of the example."""
     formats = (TOP / 'docs/FORMATS.md').read_text()
     reasons = re.findall(r'^\| \d+ \| `(\w+)` \|', formats, re.M)
     tools.want('reasons', len(reasons), 19)
     tools.want('man page', re.findall(r'^(\w+)\|', (TOP / 'man/nfs3canon.1').read_text(), re.M), reasons)
     tools.want('explain', re.findall(r"'([A-Z]\w+)': ", (TOP / 'tools/explain').read_text()), reasons)
+    told = {row['line'].rpartition(' ')[2] for _, row in rows_of('captures.rows') if not row['line'].startswith('ok ')}
+    tools.want('rows', sorted(told), sorted(reasons))
     dump = re.findall(r'^\| (\d+) \| ((?:[0-9a-f]{8} ?)+) \|', formats, re.M)
     tools.want('dump', bytes.fromhex(''.join(words for _, words in dump)), (TOP / 'examples/null.nfs3cap').read_bytes())
     sizes = [len(bytes.fromhex(words)) for _, words in dump]
