@@ -282,10 +282,29 @@ def pages_agree(tools):
         tools.want('warnings of man', done.stderr, b'')
 
 
+def what_is_believed(tools):
+    """docs/PROOFS.md has the counts of tools/believed, which prints each definition once."""
+    rows = re.findall(r'^\| `(\w+::\w+)` \| \d+ \| [\d,]+ \| \d+ \|$', (TOP / 'docs/PROOFS.md').read_text(), re.M)
+    tools.want('calls', rows, ['canon3::check', 'canon3::canon', 'canon3::same', 'listing3::show', 'packing3::Packing'])
+    counted = tools.tool('believed', '--count', *rows)
+    tools.want('counts', (counted[0], counted[1] in (TOP / 'docs/PROOFS.md').read_text(), counted[2]), (0, True, ''))
+    for call, row in zip(rows, counted[1].splitlines()):
+        status, out, error = tools.tool('believed', call)
+        heads = re.findall(r'^(?:  )?(?:abbrev pub|unfoldable pub|pub record|pub data) ', out, re.M)
+        tools.want(call, (status, error, len(heads)), (0, '', int(row.split()[3])))
+        tools.want('the count of ' + call, out.splitlines()[-1].split()[0], row.split()[3])
+    told = tools.tool('believed', 'canon3::check')[1]
+    for name in ('Typed', 'FirstFault', 'IsSummary', 'status_words', 'Shape', 'in_window', 'handles', 'CountsReading'):
+        tools.want(name, len(re.findall(r'^ *(?:abbrev|unfoldable|pub) .*\b%s\b.* :' % name, told, re.M)) > 0, True)
+    for name in ('StandsFor', 'IsMetBy', 'Tallies'):
+        tools.want(name + ', which proofs use', name in told, False)
+    tools.want('a call that is not there', tools.tool('believed', 'canon3::absent')[0], 1)
+
+
 STRINGS = ('name', 'path', 'machinename', 'dirpath', 'hostname', 'directory')
 OF_TSHARK = [recordings_of_all_kinds, segments_in_any_order, who_is_the_client, what_is_left_out, recordings_of_the_readme]
 TESTS = [*OF_TSHARK, explained, explained_as_documented, layouts_agree_with_the_listing, commands_of_the_readme,
-         answers_of_the_examples, examples_are_made_alike, pages_agree]
+         answers_of_the_examples, examples_are_made_alike, pages_agree, what_is_believed]
 
 
 def tried(program, test):
