@@ -138,12 +138,12 @@ def dirop(directory, name):
 # --- NFS version 3: arguments and results of procedures (RFC 1813, section 3.3) ---
 
 def ok(*parts):
-    """The status NFS3_OK or MNT3_OK and what stands behind it."""
+    """The status NFS3_OK or MNT3_OK and what stands after it."""
     return word(0) + b''.join(parts)
 
 
 def failed(status, *parts):
-    """Another status and what stands behind it."""
+    """Another status and what stands after it."""
     return word(status) + b''.join(parts)
 
 

@@ -13,7 +13,7 @@ import subprocess
 import tempfile
 
 from running import try_all, words_of
-from texts import bytes_of, capture_of, word
+from texts import bytes_of, capture_of, one_fragment, word
 
 HERE = pathlib.Path(__file__).resolve().parent
 TIMEOUT = 60
@@ -92,10 +92,68 @@ def accepted(runs, line, form):
     runs.want('lines', listing.count('\n'), sum(int(n) for n in COUNTS.fullmatch(line).groups()))
 
 
-def refused(runs, line):
-    """Of a capture `a` that is refused."""
-    status, _, error = runs.run('show', 'a')
-    runs.want('show', (status, error), (2, line + '\n'))
+def front_of(capture, line):
+    """What comes before the fault that the line tells, as a capture of its own, and how many of its last bytes are not reached.
+    The fault is in the record after it, or at the byte of the file."""
+    place = re.match(r'(?:connection (\d+) (client|server) record (\d+)|file (\d+))', line)
+    last = int(place[4]) if place[4] else len(capture)
+    record = place[4] is None and (int(place[1]), place[2], int(place[3]))
+    out, at, number = bytearray(bytes_of('MAGIC')), 8, 0
+    while last >= at + 4 and capture[at:at + 4] == word(1):
+        out, at, number = out + word(1), at + 4, number + 1
+        for side in ('client', 'server'):
+            stream, at, is_whole = stream_of(capture, at, last)
+            bodies = bodies_of(stream)
+            if record and record[:2] == (number, side):
+                bodies, is_whole = bodies[:record[2] - 1], False
+            out += b''.join(one_fragment(body) for body in bodies)
+            if not is_whole:
+                return bytes(out) + word(0) * (3 if side == 'client' else 2), 12 if side == 'client' else 8
+            out += word(0)
+    # The last word 0 is reached where nothing stands after it, and the magic with the first connection.
+    return bytes(out) + word(0), 4 if number else 12
+
+
+def stream_of(capture, at, last):
+    """The bytes of a stream's chunks up to a place, where it ends, and whether its word 0 is there."""
+    stream = b''
+    while last >= at + 4:
+        size = int.from_bytes(capture[at:at + 4], 'big')
+        if size == 0:
+            return stream, at + 4, True
+        stream += capture[at + 4:min(at + 4 + size, last)]
+        at += 4 + size
+    return stream, at, False
+
+
+def bodies_of(stream):
+    """The bodies of the whole records."""
+    bodies, body, at = [], b'', 0
+    while at + 4 <= len(stream):
+        head = int.from_bytes(stream[at:at + 4], 'big')
+        size = head & 0x7fffffff
+        if at + 4 + size > len(stream):
+            break
+        body, at = body + stream[at + 4:at + 4 + size], at + 4 + size
+        if head >> 31:
+            bodies, body = bodies + [body], b''
+    return bodies
+
+
+def refused(runs, capture, line):
+    """Of a capture `a` that is refused. What comes before the fault is listed and written, and nothing else."""
+    front, missing = front_of(capture, line)
+    runs.write('front', front)
+    status, listing, error = runs.run('show', 'front')
+    runs.want('show front', (status, error), (0, ''))
+    runs.want('show', runs.run('show', 'a'), (2, listing, line + '\n'))
+    runs.want('canon front', runs.run('canon', 'front', 'front.out')[0], 0)
+    form = runs.read('front.out') or b''
+    with open(os.path.join(runs.folder, 'device'), 'wb') as out:
+        done = subprocess.run([runs.program, 'canon', 'a', '/dev/stdout'], cwd=runs.folder, stdout=out, stderr=subprocess.PIPE,
+                              timeout=TIMEOUT)
+    runs.want('canon to a device', (done.returncode, done.stderr.decode()), (2, line + '\n'))
+    runs.want('what canon wrote to it', runs.read('device'), form[:len(form) - missing])
     runs.write('good', bytes_of('MAGIC 00000000'))
     runs.want('same a good', runs.run('same', 'a', 'good'), (2, '', 'first: ' + line + '\n'))
     runs.want('same good a', runs.run('same', 'good', 'a'), (2, '', 'second: ' + line + '\n'))
@@ -121,7 +179,7 @@ def try_capture(program, row):
         runs.write('a', capture)
         form = runs.same_answer('a', line)
         if form is None:
-            refused(runs, line)
+            refused(runs, capture, line)
         else:
             accepted(runs, line, form)
         if len(capture) <= SMALL:

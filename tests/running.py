@@ -1,6 +1,7 @@
 """What the scripts of this folder share that try many things on the built program: their words, and their count."""
 import argparse
 import concurrent.futures
+import functools
 import os
 import pathlib
 import sys
@@ -19,12 +20,16 @@ def words_of(text):
     return words
 
 
-def try_all(words, tries, threads):
+def one(program, it):
+    return it[1](program, *it[2:])
+
+
+def try_all(words, tries, count, make_pool=concurrent.futures.ThreadPoolExecutor):
     """Tries those whose name has the text of `--only`, so many at once, and ends the script. Each is its name, what to call, which
     answers the list of what is wrong, and what to call it with, after the program."""
     tries, failed = [it for it in tries if words.only in it[0]], 0
-    with concurrent.futures.ThreadPoolExecutor(threads) as pool:
-        for (name, *_), wrong in zip(tries, pool.map(lambda it: it[1](words.program, *it[2:]), tries)):
+    with make_pool(count) as pool:
+        for (name, *_), wrong in zip(tries, pool.map(functools.partial(one, words.program), tries)):
             failed += bool(wrong)
             if wrong:
                 print('FAILED %s: %s' % (name, '; '.join(wrong[:9])), flush=True)

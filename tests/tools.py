@@ -26,6 +26,7 @@ from layouts import Message, procedure_of  # noqa: E402
 
 HERE = pathlib.Path(__file__).resolve().parent
 TOP = HERE.parent
+README = (TOP / 'README.md').read_text()
 CALLS = [call(number, NFS, 3, 0) for number in range(1, 40)]
 REPLIES = [success(number) for number in range(1, 40)]
 
@@ -217,7 +218,7 @@ def listed(piece, item):
 
 def lines_of_the_readme(tools, chosen):
     """Its command lines, each with what its first line of output begins with and, where it is not 0, its status."""
-    for line in (TOP / 'README.md').read_text().splitlines():
+    for line in README.splitlines():
         command, _, wanted = line.partition('  # ')
         if not line.startswith('    ') or not wanted or ('knfsd' in command or '/tmp/a' in command) != chosen:
             continue
@@ -244,9 +245,37 @@ def recordings_of_the_readme(tools):
         tools.want('check', answer, (0, 'ok connections=18 calls=276 replies=276 handles=53\n', ''))
 
 
+def lines_for_many_captures(tools):
+    """The README's lines without a comment, but `./test`, check the examples; the second where GNU parallel is there."""
+    lines = [line.strip() for line in README.splitlines() if line.startswith('    ') and '  # ' not in line]
+    tools.want('lines', [line.split()[0] for line in lines], ['printf', 'parallel', './test'])
+    answers = [('examples/' + name, line) for name, line, _ in rows_of_the_examples()]
+    version = ['sh', '-c', 'parallel --version 2>&1 </dev/null']
+    for line, mark in zip(lines, (': ', '\t')):
+        if mark == '\t' and b'GNU' not in subprocess.run(version, stdout=subprocess.PIPE).stdout:
+            continue
+        done = subprocess.run(['sh', '-c', line.replace('./nfs3canon', tools.program)], cwd=TOP, stdout=subprocess.PIPE,
+                              stderr=subprocess.STDOUT, text=True)
+        tools.want(line, sorted(done.stdout.splitlines()), sorted(map(mark.join, answers)))
+
+
+def rows_of_the_examples():
+    """Of each capture of examples/README.md its name, what `check` prints, and the status."""
+    return re.findall(r'^\| `(\w+\.nfs3cap)` \| .* \| `([^`]*)` \| (\d) \|$', (TOP / 'examples/README.md').read_text(), re.M)
+
+
+def examples_are_used(tools):
+    """Each file of examples/ is checked by its row there, is run or imported by examples_are_made_alike, or is in a command line of
+    the top README that is run."""
+    used = {name for name, _, _ in rows_of_the_examples()} | {'README.md', 'make.py', 'messages.py'}
+    used |= {name for line in README.splitlines() if '  # ' in line for name in re.findall(r'examples/(\w+\.\w+)', line)}
+    there = {path.name for path in (TOP / 'examples').iterdir()} - {'__pycache__'}
+    tools.want('files', sorted(there), sorted(used))
+
+
 def answers_of_the_examples(tools):
     """Each file of examples/ stands in its README with what `check` prints, and no other does."""
-    rows = re.findall(r'^\| `(\w+\.nfs3cap)` \| .* \| `([^`]*)` \| (\d) \|$', (TOP / 'examples/README.md').read_text(), re.M)
+    rows = rows_of_the_examples()
     tools.want('files', sorted(name for name, _, _ in rows), sorted(path.name for path in (TOP / 'examples').glob('*.nfs3cap')))
     for name, line, status in rows:
         found, out, error = tools.run('check', str(TOP / 'examples' / name))
@@ -264,12 +293,15 @@ def examples_are_made_alike(tools):
 
 
 def pages_agree(tools):
-    """The reasons have the same names in docs/FORMATS.md, the man page and tools/explain, and the dump is that of the example."""
+    """The reasons have the same names in docs/FORMATS.md, the man page and tools/explain, each has a row in captures.rows, and the
+    dump is that of the example."""
     formats = (TOP / 'docs/FORMATS.md').read_text()
     reasons = re.findall(r'^\| \d+ \| `(\w+)` \|', formats, re.M)
     tools.want('reasons', len(reasons), 19)
     tools.want('man page', re.findall(r'^(\w+)\|', (TOP / 'man/nfs3canon.1').read_text(), re.M), reasons)
     tools.want('explain', re.findall(r"'([A-Z]\w+)': ", (TOP / 'tools/explain').read_text()), reasons)
+    told = {row['line'].rpartition(' ')[2] for _, row in rows_of('captures.rows') if not row['line'].startswith('ok ')}
+    tools.want('rows', sorted(told), sorted(reasons))
     dump = re.findall(r'^\| (\d+) \| ((?:[0-9a-f]{8} ?)+) \|', formats, re.M)
     tools.want('dump', bytes.fromhex(''.join(words for _, words in dump)), (TOP / 'examples/null.nfs3cap').read_bytes())
     sizes = [len(bytes.fromhex(words)) for _, words in dump]
@@ -279,10 +311,29 @@ def pages_agree(tools):
         tools.want('warnings of man', done.stderr, b'')
 
 
+def what_is_believed(tools):
+    """docs/PROOFS.md has the counts of tools/believed, which prints each definition once."""
+    rows = re.findall(r'^\| `(\w+::\w+)` \| \d+ \| [\d,]+ \| \d+ \|$', (TOP / 'docs/PROOFS.md').read_text(), re.M)
+    tools.want('calls', rows, ['canon3::check', 'canon3::canon', 'canon3::same', 'listing3::show', 'packing3::Packing'])
+    counted = tools.tool('believed', '--count', *rows)
+    tools.want('counts', (counted[0], counted[1] in (TOP / 'docs/PROOFS.md').read_text(), counted[2]), (0, True, ''))
+    for call, row in zip(rows, counted[1].splitlines()):
+        status, out, error = tools.tool('believed', call)
+        heads = re.findall(r'^(?:  )?(?:abbrev pub|unfoldable pub|pub record|pub data) ', out, re.M)
+        tools.want(call, (status, error, len(heads)), (0, '', int(row.split()[3])))
+        tools.want('the count of ' + call, out.splitlines()[-1].split()[0], row.split()[3])
+    told = tools.tool('believed', 'canon3::check')[1]
+    for name in ('Typed', 'FirstFault', 'IsSummary', 'status_words', 'Shape', 'in_window', 'handles', 'CountsReading'):
+        tools.want(name, len(re.findall(r'^ *(?:abbrev|unfoldable|pub) .*\b%s\b.* :' % name, told, re.M)) > 0, True)
+    for name in ('StandsFor', 'IsMetBy', 'Tallies'):
+        tools.want(name + ', which proofs use', name in told, False)
+    tools.want('a call that is not there', tools.tool('believed', 'canon3::absent')[0], 1)
+
+
 STRINGS = ('name', 'path', 'machinename', 'dirpath', 'hostname', 'directory')
 OF_TSHARK = [recordings_of_all_kinds, segments_in_any_order, who_is_the_client, what_is_left_out, recordings_of_the_readme]
 TESTS = [*OF_TSHARK, explained, explained_as_documented, layouts_agree_with_the_listing, commands_of_the_readme,
-         answers_of_the_examples, examples_are_made_alike, pages_agree]
+         lines_for_many_captures, examples_are_used, answers_of_the_examples, examples_are_made_alike, pages_agree, what_is_believed]
 
 
 def tried(program, test):

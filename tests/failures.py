@@ -1,0 +1,242 @@
+#!/usr/bin/env python3
+"""Refuses each growth of memory of the built program in turn, makes each read, write and sync fail, and counts the reads.
+
+    python3 tests/failures.py [PROGRAM] [--only TEXT] [-v]
+
+PROGRAM is crates/nfs3canon/out/nfs3canon where none is named. Each try has a folder of its own, in which the program runs
+traced (tracing.py); that takes Linux on x86-64, and elsewhere all is skipped, with a word. The last line is
+'N passed, M failed', and the status is 1 where any failed.
+"""
+import concurrent.futures
+import errno
+import os
+import pathlib
+import random
+import tempfile
+
+import tracing
+from captures import Runs
+from running import try_all, words_of
+from tracing import Fault
+from traffic import NFSACL, Names, Traffic, call, messages
+
+EXAMPLES = pathlib.Path(__file__).resolve().parent.parent / 'examples'
+AS_IT_WAS = b'as it was'
+OUT_OF_MEMORY, READ_FAILED, WRITE_FAILED = 'out of memory\n', 'read failed\n', 'write failed\n'
+BLOCK = 65_536
+# The last growths of a run are those of its line, which is not printed where one of them is refused.
+GROWTHS_OF_THE_LINE = 6
+NAMES_OUT = ('canon a out', 'canon a new', 'pack out', 'pack new')
+COMMANDS = ['check a', 'show a', 'canon a out', 'canon a /dev/stdout', 'same a a', 'pack out a a', 'pack /dev/stdout a a']
+OTHER_LINES = ['check absent', 'same a absent', 'canon a ./a', 'canon a new', 'pack new a a',
+               'pack out a', 'check', 'shou a', '--help']
+# Examples, and how many bytes of each the system gives at once where reads are to fail.
+GIVEN_AT_ONCE = {'getattr': 3, 'two_connections': 7, 'bad_bool': 1, 'bad_server_record': 5, 'bad_file_length': 9,
+                 'every_procedure': 997}
+WRITTEN_AT_ONCE = 499
+
+
+class Place(Runs):
+    """A folder with a capture `a`, and traced runs of the program there. `out` is there before each, as it was."""
+
+    def put(self, capture):
+        self.capture = capture
+        self.write('a', capture)
+
+    def fail(self, line, fault=None, pieces=None):
+        self.write('out', AS_IT_WAS)
+        if os.path.exists(os.path.join(self.folder, 'new')):
+            os.remove(os.path.join(self.folder, 'new'))
+        return tracing.run(self.program, line.split(), self.folder, fault, pieces)
+
+    def files(self):
+        return {name: self.read(name) for name in os.listdir(self.folder)}
+
+    def as_before(self):
+        """The files where a command wrote none."""
+        return {'a': self.capture, 'out': AS_IT_WAS}
+
+    def ended(self, what, answer, status, out, error):
+        self.want(what, (answer.status, answer.out, answer.error), (status, out, error))
+
+
+def example(name):
+    return (EXAMPLES / (name + '.nfs3cap')).read_bytes()
+
+
+def drawn(seed):
+    """A random capture."""
+    traffic = Traffic(seed, Names.drawn(random.Random(seed)))
+    return messages.capture(*traffic.connections)
+
+
+# --- Memory ---
+
+def growths(line, capture, place):
+    """Where one growth is refused the program ends as if there were memory, since it can do without it, or memory ran out."""
+    place.put(capture)
+    plain = place.fail(line, Fault('growth', 0))
+    written, last = place.files(), plain.counts['growth']
+    opened = not line.startswith(NAMES_OUT)  # The growth for the name of OUT is told as OUT that cannot be opened.
+    harmless = 0
+    place.want('growths of ' + line, last > 40, True)
+    for number in range(1, last + 1):
+        answer = place.fail(line, Fault('growth', number))
+        what = '%s without its growth %d of %d' % (line, number, last)
+        if (answer.status, answer.out, answer.error) == (plain.status, plain.out, plain.error):
+            place.want(what + ': files', place.files() == written, True)
+            harmless += 1
+        elif answer.error.startswith('open failed: ') and not opened:
+            opened = True
+            place.want(what + ': files', place.files(), place.as_before())
+        else:
+            ran_out(place, what, answer, plain, last - number < GROWTHS_OF_THE_LINE, written)
+    place.want('growths without which %s ends alike' % line, harmless <= 1 or line not in COMMANDS, True)
+
+
+def ran_out(place, what, answer, plain, is_of_the_line, written):
+    """Memory ran out, what was listed or written before is a front, and no file is left half written."""
+    place.want(what, answer.status, 3)
+    prefixes = ('first: ', 'second: ') if what.startswith('same') else ()
+    lines = [prefix + OUT_OF_MEMORY for prefix in ('', *prefixes)] + [''] * is_of_the_line
+    place.want(what, answer.error if answer.error not in lines else lines[0], lines[0])
+    place.want(what + ': a front', answer.out, plain.out[:len(answer.out)] if is_streamed(what) else '')
+    place.want(what + ': files', place.files() == (place.as_before() if answer.error else written), True)
+
+
+def is_streamed(line):
+    """What is on standard output was written as the capture was read."""
+    return line.startswith('show') or '/dev/stdout' in line
+
+
+# --- Devices ---
+
+def reads(line, capture, piece, place):
+    """Where one read fails, and where one takes a byte."""
+    place.put(capture)
+    pieces, last = {'read': piece}, 0
+    plain = place.fail(line, pieces=pieces)
+    written = place.files()
+    for number in range(1, plain.counts['read'] + 1):
+        answer = place.fail(line, Fault('read', number), pieces)
+        what = '%s with read %d failed' % (line, number)
+        place.want(what + ': files', place.files(), place.as_before())
+        place.want(what + ': no read after it', answer.counts['read'], number)
+        prefix = {3: 'first: ', 4: 'second: '}[answer.file] if line.startswith('same') else ''
+        out = before_the_read(place, line, (number - 1) * piece, plain, answer)
+        place.ended(what, answer, 3, out, prefix + READ_FAILED)
+    answer = place.fail(line, Fault('read', 1, takes=1), pieces)
+    place.ended(line + ' with a read of a byte', answer, plain.status, plain.out, plain.error)
+    place.want('files', place.files() == written, True)
+
+
+def before_the_read(place, line, count, plain, answer):
+    """What is on standard output: what is there of a capture that ends with the bytes read."""
+    if line.startswith('pack'):
+        return plain.out[:len(answer.out)]
+    if not is_streamed(line):
+        return ''
+    if count >= len(place.capture):
+        # That nothing stands after the last word 0 is not known yet, so its like is not written.
+        return plain.out[:-4] if line.startswith('canon') and plain.status == 0 else plain.out
+    place.write('a', place.capture[:count])
+    out = place.fail(line).out
+    place.write('a', place.capture)
+    return out
+
+
+def writes(line, capture, place):
+    """Where one write fails, takes nothing, or takes a byte."""
+    place.put(capture)
+    pieces = {'write': WRITTEN_AT_ONCE}
+    plain = place.fail(line, pieces=pieces)
+    written = place.files()
+    # What `canon` has gathered of a refused capture is written last; the refusal is told also where that fails.
+    is_refused = line.startswith('canon') and plain.status == 2
+    for number in range(1, plain.counts['write'] + 1):
+        what = '%s with write %d ' % (line, number)
+        for way, fault in (('failed', Fault('write', number)), ('on a full disk', Fault('write', number, errno.ENOSPC)),
+                           ('of nothing', Fault('write', number, takes=0))):
+            answer = place.fail(line, fault, pieces)
+            wanted = (2, plain.error) if is_refused else (3, WRITE_FAILED)
+            place.ended(what + way, answer, wanted[0], plain.out[:len(answer.out)], wanted[1])
+            is_of_the_line = answer.file == 1 and not is_streamed(line)
+            place.want(what + way + ': files', place.files() == (written if is_of_the_line else place.as_before()), True)
+        answer = place.fail(line, Fault('write', number, takes=1), pieces)
+        place.ended(what + 'of a byte', answer, plain.status, plain.out, plain.error)
+        place.want(what + 'of a byte: files', place.files() == written, True)
+
+
+def syncs(line, place):
+    """What cannot be made safe on the disk does not get the name."""
+    place.put(example('getattr'))
+    answer = place.fail(line, Fault('sync', 1))
+    place.ended(line, answer, 3, '', WRITE_FAILED)
+    place.want('calls', answer.counts['sync'], 1)
+    place.want('files', place.files(), place.as_before())
+
+
+# --- How often is read ---
+
+def of_size(size):
+    """A capture of so many bytes, at least 100."""
+    empty = len(messages.capture(([call(1, NFSACL, 3, 1)], [])))
+    return messages.capture(([call(1, NFSACL, 3, 1, bytes(size - empty))], []))
+
+
+def number_of_reads(place):
+    """One for each 65,536 bytes, and one that finds the end; none after the first fault."""
+    for size in (100, BLOCK - 1, BLOCK, BLOCK + 1, 5 * BLOCK, 1_000_000):
+        most = -(-size // BLOCK) + 1
+        place.put(of_size(size))
+        for line, files in (('check a', 1), ('show a', 1), ('canon a new', 1), ('same a a', 2), ('pack new a a', 2)):
+            answer = place.fail(line)
+            place.want('%s of %d bytes' % (line, size), (answer.status, answer.counts['read']), (0, files * most))
+        place.put(of_size(size) + bytes(3 * BLOCK))
+        for line in ('check a', 'show a', 'canon a out'):
+            answer = place.fail(line)
+            place.ended(line, answer, 2, answer.out if line == 'show a' else '', 'file %d: AfterEnd\n' % size)
+            place.want('%s, refused at %d' % (line, size), answer.counts['read'], size // BLOCK + 1)
+    for line in ('check /dev/zero', 'show /dev/zero', 'canon /dev/zero out'):
+        answer = place.fail(line)
+        place.ended(line, answer, 2, '', 'file 0: BadMagic\n')
+        place.want(line, answer.counts['read'], 1)
+
+
+def tries():
+    """Each a name, what to call, and what to call it with before its place."""
+    examples = {name: example(name) for name in GIVEN_AT_ONCE}
+    captures = {name: examples[name] for name in ('getattr', 'bad_server_record', 'every_procedure')}
+    captures.update({'drawn%d' % seed: drawn(seed) for seed in (1, 169)})  # The second has more than a block.
+    for name, capture in captures.items():
+        for line in COMMANDS:
+            yield 'growths: %s of %s' % (line, name), growths, line, capture
+    for line in OTHER_LINES:
+        yield 'growths: ' + line, growths, line, captures['getattr']
+    for name, piece in GIVEN_AT_ONCE.items():
+        for line in COMMANDS:
+            yield 'reads: %s of %s' % (line, name), reads, line, examples[name], piece
+            yield 'writes: %s of %s' % (line, name), writes, line, examples[name]
+    for line in ('canon a out', 'canon a new', 'pack out a a', 'pack new a a'):
+        yield 'syncs: ' + line, syncs, line
+    yield 'number of reads', number_of_reads
+
+
+def tried(program, test, *given):
+    with tempfile.TemporaryDirectory(prefix='nfs3canon') as folder:
+        place = Place(program, folder)
+        test(*given, place)
+        return place.wrong
+
+
+def main():
+    words, why = words_of(__doc__), tracing.why_not()
+    if why:
+        print('skipped, since ' + why)
+        print('0 passed, 0 failed')
+        return
+    try_all(words, [(name, tried, *rest) for name, *rest in tries()], os.cpu_count(), concurrent.futures.ProcessPoolExecutor)
+
+
+if __name__ == '__main__':
+    main()
