@@ -3,7 +3,7 @@ use Rattle.std.proofs.Common.{◌≡◌, ◌≤◌, ⊎_elim, ℕ, ◌+◌, Bool
 use Rattle.std.specs.Prelude.{bytes_eq}
 use Rattle.std.specs.Cmp.Lexicographic.{nat_list_eq_equiv}
 use Rattle.std.specs.Io.KnownBytes.{Consumes, IsAtEnd}
-use Rattle.std.proofs.KnownBytes.{Consumes-all}
+use Rattle.std.proofs.KnownBytes.{Consumes-all, Consumes-nil}
 use Rattle.std.proofs.lemmas.Grind.{flat_map-append}
 use Rattle.std.proofs.lemmas.List.Sums.{sum_by-append, sum_by-cons}
 use Rattle.std.specs.declared.hash.BuildHasher as BuildHasher
@@ -17,13 +17,14 @@ use Rattle.capture3.specs.Entry.{Entry, items_of}
 use Rattle.capture3.specs.FirstFault.{FirstFault}
 use Rattle.capture3.specs.Reached.{Reached}
 use Rattle.capture3.specs.Typed.{Typed}
+use Rattle.capture3.proofs.Emits.{reached_by_machine}
 use Rattle.canon3.specs.declared.summary.Counts.{Counts}
 use Rattle.canon3.specs.declared.summary.Summary.{Summary}
 use Rattle.canon3.specs.declared.summary.Tally.{Tally}
 use Rattle.capture3.specs.declared.entry.Kind.{Kind}
 use Rattle.capture3.specs.declared.entry.Kind.TheVariants as kinds
 use Rattle.canon3.specs.Rank.{distinct, number_limit}
-use Rattle.canon3.specs.Summing.{all_items, AreCounted, begins, calls, Concludes, GoesOn, IsDone, is_begin, is_call, is_reply, IsSummary, replies, Sums}
+use Rattle.canon3.specs.Summing.{all_items, AreCounted, begins, calls, ConcludesGiven, GoesOn, IsDone, is_begin, is_call, is_reply, IsSummary, replies, Sums}
 use Rattle.capture3.specs.Kept.{IsOfKind}
 use Rattle.canon3.specs.Values.{handles}
 use Rattle.canon3.proofs.InOrder.{typed_in_order}
@@ -103,10 +104,10 @@ summary_is bytes summary entries typed sums = record {
 }
 
 -- where all bytes are told
-pub summary_of : (bytes : List ℕ) (old new : Option (List ℕ)) (result : Result Summary Error) → old ≡ Some bytes → Concludes old new result → IfOk result (IsSummary bytes)
-summary_of bytes old new (Ok summary) tells (given, entries, consumed, ended, typed, sums) =
+pub summary_of : (bytes : List ℕ) (old new : Option (List ℕ)) (result : Result Summary Error) → old ≡ Some bytes → ConcludesGiven old new result → IfOk result (IsSummary bytes)
+summary_of bytes old new (Ok summary) tells (given, consumed, (ended, is)) =
     let all : given ≡ bytes = Consumes-all (Some bytes) new given [] given (subst (λ (o : Option (List ℕ)). Consumes o new given) tells consumed) ended refl in
-    subst (λ (b : List ℕ). IsSummary b summary) all (summary_is given summary entries typed sums)
+    subst (λ (b : List ℕ). IsSummary b summary) all is
 summary_of bytes old new (Err error) tells c = tt
 
 rest_of : (bytes given : List ℕ) (new : Option (List ℕ)) → Consumes (Some bytes) new given → (rest : List ℕ) × (new ≡ Some rest) × (bytes ≡ given ++ rest)
@@ -114,10 +115,10 @@ rest_of bytes given None consumed = absurd consumed
 rest_of bytes given (Some rest) consumed = (rest, refl, consumed)
 
 -- the fault that is met is the first of all bytes
-pub faults_of : (bytes : List ℕ) (old new : Option (List ℕ)) (result : Result Summary Error) → old ≡ Some bytes → Concludes old new result
+pub faults_of : (bytes : List ℕ) (old new : Option (List ℕ)) (result : Result Summary Error) → old ≡ Some bytes → ConcludesGiven old new result
     → IfErr result (λ error. (fault : Fault) → error ≡ errors.Refused fault → FirstFault bytes fault)
 faults_of bytes old new (Ok summary) tells c = tt
-faults_of bytes old new (Err (errors.Refused met)) tells (given, entries, consumed, is) =
+faults_of bytes old new (Err (errors.Refused met)) tells (given, consumed, (entries, is)) =
     let from = subst (λ (o : Option (List ℕ)). Consumes o new given) tells consumed in
     let r = rest_of bytes given new from in
     let first : FirstFault bytes met =
@@ -132,3 +133,7 @@ faults_of bytes old new (Err (errors.Refused met)) tells (given, entries, consum
 faults_of bytes old new (Err errors.Read) tells c = λ fault e. absurd (cc)
 faults_of bytes old new (Err errors.Write) tells c = λ fault e. absurd (cc)
 faults_of bytes old new (Err errors.Memory) tells c = λ fault e. absurd (cc)
+
+-- before any byte was read
+pub nothing_concluded : (left : Option (List ℕ)) → ConcludesGiven left left (Err errors.Memory)
+nothing_concluded left = ([], Consumes-nil left, ([], (_, reached_by_machine [] (λ k. omega arith))))

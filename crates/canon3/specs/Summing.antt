@@ -40,6 +40,16 @@ pub record IsSummary (bytes : List ℕ) (summary : Summary) : Type 0 where
   pub replies : summary.replies ≡ count_by is_reply entries
   pub handles : summary.handles ≡ length (distinct bytes_eq (handles entries))
 
+-- What is concluded of the bytes that the source gave, where it has so much left: all were a capture's, and this is its summary; or they met the
+-- error, after just these entries.
+abbrev pub Concludes : (left : Option (List ℕ)) (given : List ℕ) → Result Summary Error → Type 0
+Concludes left given (Ok summary) = IsAtEnd left × IsSummary given summary
+Concludes left given (Err error) = (entries : List Entry) × IsMetBy error left given entries
+
+-- the source gave some bytes, and this is concluded of them
+abbrev pub ConcludesGiven : (before left : Option (List ℕ)) → Result Summary Error → Type 0
+ConcludesGiven before left result = (given : List ℕ) × Consumes before left given × Concludes left given result
+
 -- ---- within the crate
 
 -- the items of all messages, in order
@@ -113,9 +123,3 @@ module _ {R S H : Type 0} {builds : BuildHasher.Ghosts S H} {hashes : Hasher.Gho
   abbrev pub IsOver : {X : Type 0} → Entries R S H builds hashes → Tally S H → Result X Error → Type 0
   IsOver reader tally (Ok x) = IsDone reader tally
   IsOver reader tally (Err error) = HasFailed left first reader error
-
--- What is told of bytes of which so much was left, and so much is left now: all were a capture's, and this is its summary; or those given met
--- an error.
-abbrev pub Concludes : (old new : Option (List ℕ)) → Result Summary Error → Type 0
-Concludes old new (Ok summary) = (given : List ℕ) × (entries : List Entry) × Consumes old new given × IsAtEnd new × Typed given entries × Sums summary entries
-Concludes old new (Err error) = (given : List ℕ) × (entries : List Entry) × Consumes old new given × IsMetBy error new given entries

@@ -7,7 +7,7 @@ ghost use Rattle.capture3.specs.Entry as spec;
 ghost use Rattle.capture3.specs.FirstFault.{FirstFault};
 ghost use Rattle.capture3.specs.Position.{most_entries};
 ghost use Rattle.canon3.specs.Rank.{distinct, number_limit};
-ghost use Rattle.canon3.specs.Summing.{AreCounted, begins, calls, Concludes, GoesOn, IsOver, IsSummary, IsUnderWay, replies, Sums, Tallies, total};
+ghost use Rattle.canon3.specs.Summing.{AreCounted, begins, calls, ConcludesGiven, GoesOn, IsOver, IsSummary, IsUnderWay, replies, Sums, Tallies, total};
 ghost use Rattle.capture3.specs.Kept.{IsOfKind};
 ghost use Rattle.canon3.specs.Values as values;
 
@@ -39,10 +39,14 @@ pub fn check<R: Source, S: BuildHasher + Drop>(
 ) -> Result<Summary, Error>
     ensures ok { (bytes : List ℕ) → R.left source.old ≡ Some bytes → IfOk result (IsSummary bytes) }
     ensures refused { (bytes : List ℕ) → R.left source.old ≡ Some bytes → IfErr result (λ error. (fault : Fault) → error ≡ Error.Refused fault → FirstFault bytes fault) }
+    ensures concludes { ConcludesGiven (R.left source.old) (R.left source.new) result }
     ensures read { CountsReading (R.failures source.old) (R.failures source.new) result }
     ensures write { IfErr result (λ error. error ≢ Error.Write) }
 {
-    let block = new_block(alloc)?;
+    let block = match new_block(alloc) {
+        Ok(block) => block,
+        Err(_) => return Err(Error::Memory),
+    };
     let mut entries = Entries::through(alloc, hashers.calls, source, block);
     let result = summed(alloc, hashers.handles, &mut entries);
     entries.into_source();
@@ -57,7 +61,8 @@ fn summed<R: Source, S: BuildHasher + Drop>(
 ) -> Result<Summary, Error>
     requires fresh { StandsFor R.left entries.old [] [] }
     requires going { failure_of entries.old ≡ None }
-    ensures concludes { Concludes (R.left entries.old.source.now) (R.left entries.new.source.now) result }
+    ensures concludes { ConcludesGiven (R.left entries.old.source.now)
+        (R.left entries.new.source.now) result }
     ensures read { CountsReading (R.failures entries.old.source.now) (R.failures entries.new.source.now) result }
     ensures write { IfErr result (λ error. error ≢ Error.Write) }
     ensures same_reference { entries.new.source.ghost_name ≡ entries.old.source.ghost_name }
