@@ -12,6 +12,7 @@ pub mod Parting
 pub mod Laws
 pub mod Examples
 pub mod Written
+pub mod Memory
 pub mod Numbered
 pub mod Writing
 pub mod EntryWriter
