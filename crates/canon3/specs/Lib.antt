@@ -11,6 +11,7 @@ pub mod Following
 pub mod Parting
 pub mod Laws
 pub mod Examples
+pub mod Vectors
 pub mod Written
 pub mod Memory
 pub mod Numbered
