@@ -20,5 +20,6 @@ pub mod EntryWriter
 pub mod Rewriting
 pub mod Progress
 pub mod Passed
+pub mod Tallying
 pub mod Spelling
 pub mod Comparison
