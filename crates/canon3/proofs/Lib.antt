@@ -26,6 +26,7 @@ pub mod First
 pub mod Laid
 pub mod Reaching
 pub mod Checks
+pub mod Vectors
 pub mod Ends
 pub mod Parted
 pub mod Written

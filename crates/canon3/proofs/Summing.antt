@@ -3,7 +3,7 @@ use Rattle.std.proofs.Common.{◌≡◌, ◌≤◌, ⊎_elim, ℕ, ◌+◌, Bool
 use Rattle.std.specs.Prelude.{bytes_eq}
 use Rattle.std.specs.Cmp.Lexicographic.{nat_list_eq_equiv}
 use Rattle.std.specs.Io.KnownBytes.{Consumes, IsAtEnd}
-use Rattle.std.proofs.KnownBytes.{Consumes-all}
+use Rattle.std.proofs.KnownBytes.{Consumes-all, Consumes-nil}
 use Rattle.std.proofs.lemmas.Grind.{flat_map-append}
 use Rattle.std.proofs.lemmas.List.Sums.{sum_by-append, sum_by-cons}
 use Rattle.std.specs.declared.hash.BuildHasher as BuildHasher
@@ -13,17 +13,22 @@ use Rattle.capture3.specs.declared.entries.Entries.{Entries}
 use Rattle.capture3.specs.declared.fault.Error.{Error}
 use Rattle.capture3.specs.declared.fault.Error.TheVariants as errors
 use Rattle.capture3.specs.declared.fault.Fault.{Fault}
-use Rattle.capture3.specs.Entry.{Entry, items_of}
+use Rattle.capture3.specs.Entry.{Entry, Begin, Call, Turn, Reply, Close, End, items_of}
 use Rattle.capture3.specs.FirstFault.{FirstFault}
 use Rattle.capture3.specs.Reached.{Reached}
 use Rattle.capture3.specs.Typed.{Typed}
-use Rattle.canon3.specs.declared.summary.Counts.{Counts}
+use Rattle.capture3.proofs.Emits.{reached_by_machine}
+use Rattle.canon3.specs.declared.passed.Passed.{Passed}
 use Rattle.canon3.specs.declared.summary.Summary.{Summary}
 use Rattle.canon3.specs.declared.summary.Tally.{Tally}
 use Rattle.capture3.specs.declared.entry.Kind.{Kind}
 use Rattle.capture3.specs.declared.entry.Kind.TheVariants as kinds
 use Rattle.canon3.specs.Rank.{distinct, number_limit}
-use Rattle.canon3.specs.Summing.{all_items, AreCounted, begins, calls, Concludes, GoesOn, IsDone, is_begin, is_call, is_reply, IsSummary, replies, Sums}
+use Rattle.canon3.specs.Parting.{connections}
+use Rattle.canon3.specs.Passed.{ArePassed, calls, replies}
+use Rattle.canon3.specs.Progress.{HasPassed}
+use Rattle.canon3.specs.Summing.{all_items, ConcludesGiven, is_begin, is_call, is_reply, IsSummary, Sums}
+use Rattle.canon3.specs.Tallying.{GoesOn, IsDone}
 use Rattle.capture3.specs.Kept.{IsOfKind}
 use Rattle.canon3.specs.Values.{handles}
 use Rattle.canon3.proofs.InOrder.{typed_in_order}
@@ -38,23 +43,6 @@ counts_behind p n m items one more is =
 
 pub items_behind : (front : List Entry) (last : Entry) → all_items (front ++ last ∷ []) ≡ all_items front ++ items_of last
 items_behind front last = flat_map-append items_of front (last ∷ []) ∙ ap (λ (l : List Item). all_items front ++ l) (append-nil (items_of last))
-
--- an entry is one of these at most
-pub counts_once : (kind : Kind) → cond (begins kind) 1 0 + cond (calls kind) 1 0 + cond (replies kind) 1 0 ≤ 1
-counts_once kinds.Begin = omega arith
-counts_once (kinds.Call id) = omega arith
-counts_once kinds.Turn = omega arith
-counts_once (kinds.Reply id) = omega arith
-counts_once kinds.Close = omega arith
-counts_once kinds.End = omega arith
-
-begin_same : (kind : Kind) (entry : Entry) → IsOfKind kind entry → begins kind ≡ is_begin entry
-begin_same kinds.Begin entry is = sym (ap is_begin is)
-begin_same (kinds.Call id) entry is = sym (ap is_begin is.2)
-begin_same kinds.Turn entry is = sym (ap is_begin is)
-begin_same (kinds.Reply id) entry is = sym (ap is_begin is.1)
-begin_same kinds.Close entry is = sym (ap is_begin is)
-begin_same kinds.End entry is = sym (ap is_begin is)
 
 call_same : (kind : Kind) (entry : Entry) → IsOfKind kind entry → calls kind ≡ is_call entry
 call_same kinds.Begin entry is = sym (ap is_call is)
@@ -72,14 +60,34 @@ reply_same (kinds.Reply id) entry is = sym (ap is_reply is.1)
 reply_same kinds.Close entry is = sym (ap is_reply is)
 reply_same kinds.End entry is = sym (ap is_reply is)
 
--- an entry is counted
-pub counted_more : (old new : Counts) (kind : Kind) (entry : Entry) (entries : List Entry) → IsOfKind kind entry → new.connections ≡ old.connections + cond (begins kind) 1 0 → new.calls ≡ old.calls + cond (calls kind) 1 0
-    → new.replies ≡ old.replies + cond (replies kind) 1 0 → AreCounted old entries → AreCounted new (entries ++ entry ∷ [])
-counted_more old new kind entry entries is begun called replied t = record {
-  connections = counts_behind is_begin old.connections new.connections entries entry (begun ∙ ap (λ b. old.connections + cond b 1 0) (begin_same kind entry is)) t.connections;
-  calls = counts_behind is_call old.calls new.calls entries entry (called ∙ ap (λ b. old.calls + cond b 1 0) (call_same kind entry is)) t.calls;
-  replies = counts_behind is_reply old.replies new.replies entries entry (replied ∙ ap (λ b. old.replies + cond b 1 0) (reply_same kind entry is)) t.replies;
+-- an entry is counted, after its place in the capture
+pub passed_more : (old new : Passed) (kind : Kind) (entry : Entry) (entries : List Entry) → IsOfKind kind entry → HasPassed new.progress (entries ++ entry ∷ [])
+    → new.calls ≡ old.calls + cond (calls kind) 1 0 → new.replies ≡ old.replies + cond (replies kind) 1 0 → ArePassed old entries → ArePassed new (entries ++ entry ∷ [])
+passed_more old new kind entry entries is progress called replied t = record {
+  progress = progress;
+  calls_are = counts_behind is_call old.calls new.calls entries entry (called ∙ ap (λ b. old.calls + cond b 1 0) (call_same kind entry is)) t.calls_are;
+  replies_are = counts_behind is_reply old.replies new.replies entries entry (replied ∙ ap (λ b. old.replies + cond b 1 0) (reply_same kind entry is)) t.replies_are;
 }
+
+-- an entry is a call or a reply at most
+pub counts_once : (kind : Kind) → cond (calls kind) 1 0 + cond (replies kind) 1 0 ≤ 1
+counts_once kinds.Begin = omega arith
+counts_once (kinds.Call id) = omega arith
+counts_once kinds.Turn = omega arith
+counts_once (kinds.Reply id) = omega arith
+counts_once kinds.Close = omega arith
+counts_once kinds.End = omega arith
+
+pub connections_counted : (entries : List Entry) → connections entries ≡ count_by is_begin entries
+connections_counted [] = refl
+connections_counted (Begin ∷ entries) =
+    let whole : count_by is_begin (Begin ∷ entries) ≡ 1 + count_by is_begin entries = sum_by-cons (λ entry. cond (is_begin entry) 1 0) Begin entries in
+    omega (arith, whole, connections_counted entries)
+connections_counted (Call items ∷ entries) = connections_counted entries
+connections_counted (Turn ∷ entries) = connections_counted entries
+connections_counted (Reply id items ∷ entries) = connections_counted entries
+connections_counted (Close ∷ entries) = connections_counted entries
+connections_counted (End ∷ entries) = connections_counted entries
 
 -- ---- along a reader
 
@@ -103,10 +111,10 @@ summary_is bytes summary entries typed sums = record {
 }
 
 -- where all bytes are told
-pub summary_of : (bytes : List ℕ) (old new : Option (List ℕ)) (result : Result Summary Error) → old ≡ Some bytes → Concludes old new result → IfOk result (IsSummary bytes)
-summary_of bytes old new (Ok summary) tells (given, entries, consumed, ended, typed, sums) =
+pub summary_of : (bytes : List ℕ) (old new : Option (List ℕ)) (result : Result Summary Error) → old ≡ Some bytes → ConcludesGiven old new result → IfOk result (IsSummary bytes)
+summary_of bytes old new (Ok summary) tells (given, consumed, (ended, is)) =
     let all : given ≡ bytes = Consumes-all (Some bytes) new given [] given (subst (λ (o : Option (List ℕ)). Consumes o new given) tells consumed) ended refl in
-    subst (λ (b : List ℕ). IsSummary b summary) all (summary_is given summary entries typed sums)
+    subst (λ (b : List ℕ). IsSummary b summary) all is
 summary_of bytes old new (Err error) tells c = tt
 
 rest_of : (bytes given : List ℕ) (new : Option (List ℕ)) → Consumes (Some bytes) new given → (rest : List ℕ) × (new ≡ Some rest) × (bytes ≡ given ++ rest)
@@ -114,10 +122,10 @@ rest_of bytes given None consumed = absurd consumed
 rest_of bytes given (Some rest) consumed = (rest, refl, consumed)
 
 -- the fault that is met is the first of all bytes
-pub faults_of : (bytes : List ℕ) (old new : Option (List ℕ)) (result : Result Summary Error) → old ≡ Some bytes → Concludes old new result
+pub faults_of : (bytes : List ℕ) (old new : Option (List ℕ)) (result : Result Summary Error) → old ≡ Some bytes → ConcludesGiven old new result
     → IfErr result (λ error. (fault : Fault) → error ≡ errors.Refused fault → FirstFault bytes fault)
 faults_of bytes old new (Ok summary) tells c = tt
-faults_of bytes old new (Err (errors.Refused met)) tells (given, entries, consumed, is) =
+faults_of bytes old new (Err (errors.Refused met)) tells (given, consumed, (entries, is)) =
     let from = subst (λ (o : Option (List ℕ)). Consumes o new given) tells consumed in
     let r = rest_of bytes given new from in
     let first : FirstFault bytes met =
@@ -132,3 +140,7 @@ faults_of bytes old new (Err (errors.Refused met)) tells (given, entries, consum
 faults_of bytes old new (Err errors.Read) tells c = λ fault e. absurd (cc)
 faults_of bytes old new (Err errors.Write) tells c = λ fault e. absurd (cc)
 faults_of bytes old new (Err errors.Memory) tells c = λ fault e. absurd (cc)
+
+-- before any byte was read
+pub nothing_concluded : (left : Option (List ℕ)) → ConcludesGiven left left (Err errors.Memory)
+nothing_concluded left = ([], Consumes-nil left, ([], (_, reached_by_machine [] (λ k. omega arith))))

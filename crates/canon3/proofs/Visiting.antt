@@ -261,6 +261,41 @@ module _ {S H : Type 0} where
       let is : bytes ≡ n.writer ++ zero_spelling (run_items all run) = write (Rest [] n.writer ∷ []) (sym (append-nil n.writer)) in
       subst (λ (b : List ℕ). Adds Stands n (with_writer n b) (run_items all run)) (sym is) (adds_fields n all run goes)
 
+  -- a run of no fields
+  pub adds_nothing : (n : Numbering S H) (all : List PlainField) (run : List ℕ) → length all ≡ 0 → Adds Stands n n (run_items all run)
+  unfolding Adds
+  adds_nothing n [] run none = λ before stands. subst (Stands n) (sym (append-nil before)) stands
+  adds_nothing n (field ∷ all) run none = absurd (omega (arith, none))
+
+  -- a run that begins with the xid
+  pub adds_xid_run : (n mid : Numbering S H) (bytes : List ℕ) (name : List ℕ) (all : List PlainField) (run : List ℕ) → Adds Stands n mid (Word name (big_number 4 run) ∷ []) → mid.stage ≡ Goes
+      → Adds Spells mid.writer bytes (run_items all (drop 4 run)) → Adds Stands n (with_writer mid bytes) (Word name (big_number 4 run) ∷ run_items all (drop 4 run))
+  adds_xid_run n mid bytes name all run first goes write =
+      adds_both Stands n mid (with_writer mid bytes) (Word name (big_number 4 run) ∷ []) (run_items all (drop 4 run)) first (adds_run mid bytes all (drop 4 run) (behind_xid mid bytes (inl goes)) write)
+
+  number_spelled : (n : Numbering S H) (bytes : List ℕ) (name : List ℕ) (x : ℕ) (before : Before) (items : List Item) → n.stage ≡ Begins → IsSpelled n.stage n.xids n.writer before items → IsSpelled Goes n.xids bytes before (items ++ Hyper name x ∷ [])
+  number_spelled n bytes name x before [] begins s = tt
+  number_spelled n bytes name x before (Word other y ∷ items) begins s =
+      let stage : n.stage ≡ Goes = s.0 in
+      absurd cc
+  number_spelled n bytes name x before (_ ∷ items) begins s = tt
+
+  -- nothing is said of a message that begins with a number
+  pub adds_number_run : (n : Numbering S H) (bytes : List ℕ) (name : List ℕ) (all : List PlainField) (run : List ℕ) → n.stage ≡ Begins
+      → Adds Spells n.writer bytes (Hyper name (big_number 8 run) ∷ run_items all (drop 8 run))
+      → Adds Stands n (record { handles = n.handles; verfs = n.verfs; xids = n.xids; writer = bytes; stage = Goes }) (Hyper name (big_number 8 run) ∷ run_items all (drop 8 run))
+  unfolding Adds
+  adds_number_run n bytes name all run begins write =
+      let item : Item = Hyper name (big_number 8 run) in
+      let mid : List ℕ = n.writer ++ zero_spelling (item ∷ []) in
+      let went : Numbering S H = record { handles = n.handles; verfs = n.verfs; xids = n.xids; writer = mid; stage = Goes } in
+      let rest : List Item = run_items all (drop 8 run) in
+      let is : bytes ≡ mid ++ zero_spelling rest =
+      write (Rest [] n.writer ∷ []) (sym (append-nil n.writer)) ∙ ap (λ (l : List ℕ). n.writer ++ l) (flat_map-append zero_spelling_of (item ∷ []) rest) ∙ sym (append_assoc n.writer (zero_spelling (item ∷ [])) (zero_spelling rest)) in
+      adds_both Stands n went (with_writer went bytes) (item ∷ []) rest
+      (adds_by n went item (follows_plain n mid item n.xids Goes tt) (λ going e. absurd cc) (λ before items going u. number_spelled n mid name (big_number 8 run) before items begins u.spelled))
+      (subst (λ (b : List ℕ). Adds Stands went (with_writer went b) rest) (sym is) (adds_fields went all (drop 8 run) (λ b. absurd cc)))
+
 -- ---- numbers in place of values
 
 module _ {S H : Type 0} (n : Numbering S H) (bytes : List ℕ) where

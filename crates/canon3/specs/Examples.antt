@@ -1,7 +1,7 @@
 -- Small captures worked by hand: what the definitions say of them, and what other ways of numbering would say.
 use Rattle.std.specs.Prelude.{◌≡◌, ◌≢◌, ℕ, ◌+◌, List, [], ◌∷◌, ◌++◌, length, map, bytes_eq, nat_lt, codes, filter}
 use Rattle.std.specs.List.{flat_map}
-use Rattle.xdr3.specs.Item.{Item, Word, Fixed, Opaque, WriteVerf, Var, Text, Handle, word_bytes}
+use Rattle.xdr3.specs.Item.{Item, Word, Hyper, Fixed, Opaque, WriteVerf, Var, Text, Handle, word_bytes}
 use Rattle.capture3.specs.declared.fault.Side.TheVariants.{Client, Server}
 use Rattle.capture3.specs.declared.fault.Place.{Place}
 use Rattle.capture3.specs.declared.fault.Place.TheVariants as places
@@ -12,6 +12,29 @@ use Rattle.canon3.specs.Canonical.{numbered_message, canonical}
 use Rattle.canon3.specs.Bytes.{bytes_of}
 use Rattle.canon3.specs.Renaming.{Same}
 use Rattle.canon3.specs.Parting.{Parting}
+
+-- ---- values
+
+abbrev pub aa : List ℕ
+aa = 0xaa ∷ []
+
+abbrev pub bb : List ℕ
+bb = 0xbb ∷ []
+
+abbrev pub cc : List ℕ
+cc = 0xcc ∷ []
+
+abbrev pub handle_number : ℕ → List ℕ
+handle_number n = 0 ∷ 0 ∷ 0 ∷ n ∷ []
+
+abbrev pub verifier_number : ℕ → List ℕ
+verifier_number n = 0 ∷ 0 ∷ 0 ∷ 0 ∷ 0 ∷ 0 ∷ 0 ∷ n ∷ []
+
+abbrev pub long : List ℕ
+long = 1 ∷ 2 ∷ 3 ∷ 4 ∷ 5 ∷ 6 ∷ 7 ∷ 8 ∷ []
+
+abbrev pub zero_verifier : List ℕ
+zero_verifier = 0 ∷ 0 ∷ 0 ∷ 0 ∷ 0 ∷ 0 ∷ 0 ∷ 0 ∷ []
 
 -- ---- entries
 
@@ -40,12 +63,15 @@ mounted xid handle = reply_of 100005 1 xid (Word (codes "status") 0 ∷ Opaque H
 
 -- COMMIT and what it gives (RFC 1813, section 3.3.21)
 abbrev pub commit : ℕ → Entry
-commit xid = call_of 100003 21 xid (Opaque Handle (codes "fh") [] ∷ [])
+commit xid = call_of 100003 21 xid (Opaque Handle (codes "fh") [] ∷ Hyper (codes "offset") 0 ∷ Word (codes "count") 0 ∷ [])
 
 abbrev pub committed : ℕ → List ℕ → Entry
-committed xid verifier = reply_of 100003 21 xid (Word (codes "status") 0 ∷ Word (codes "before") 0 ∷ Word (codes "after") 0 ∷ WriteVerf (codes "verf") verifier ∷ [])
+committed xid verifier = reply_of 100003 21 xid (Word (codes "status") 0 ∷ Word (codes "before") 0 ∷ Word (codes "attr") 0 ∷ WriteVerf (codes "verf") verifier ∷ [])
 
--- a cookie verifier is not a write verifier (RFC 1813, section 3.3.16)
+-- READDIR from the beginning and what it gives of an empty directory (RFC 1813, section 3.3.16)
+abbrev pub list_directory : ℕ → Entry
+list_directory xid = call_of 100003 16 xid (Opaque Handle (codes "fh") [] ∷ Hyper (codes "cookie") 0 ∷ Fixed (codes "cookieverf") zero_verifier ∷ Word (codes "count") 512 ∷ [])
+
 abbrev pub listed : ℕ → List ℕ → Entry
 listed xid verifier = reply_of 100003 16 xid (Word (codes "status") 0 ∷ Word (codes "attr") 0 ∷ Fixed (codes "cookieverf") verifier ∷ Word (codes "entry") 0 ∷ Word (codes "eof") 1 ∷ [])
 
@@ -58,29 +84,6 @@ one calls replies = connection calls replies ++ (End ∷ [])
 -- two connections with a call each
 abbrev pub two : Entry → Entry → List Entry
 two a b = connection (a ∷ []) [] ++ one (b ∷ []) []
-
--- ---- values
-
-abbrev pub aa : List ℕ
-aa = 0xaa ∷ []
-
-abbrev pub bb : List ℕ
-bb = 0xbb ∷ []
-
-abbrev pub cc : List ℕ
-cc = 0xcc ∷ []
-
-abbrev pub handle_number : ℕ → List ℕ
-handle_number n = 0 ∷ 0 ∷ 0 ∷ n ∷ []
-
-abbrev pub verifier_number : ℕ → List ℕ
-verifier_number n = 0 ∷ 0 ∷ 0 ∷ 0 ∷ 0 ∷ 0 ∷ 0 ∷ n ∷ []
-
-abbrev pub long : List ℕ
-long = 1 ∷ 2 ∷ 3 ∷ 4 ∷ 5 ∷ 6 ∷ 7 ∷ 8 ∷ []
-
-abbrev pub zero_verifier : List ℕ
-zero_verifier = 0 ∷ 0 ∷ 0 ∷ 0 ∷ 0 ∷ 0 ∷ 0 ∷ 0 ∷ []
 
 abbrev pub in_client : (connection_number record_number : ℕ) → Place
 in_client connection_number record_number = places.Record connection_number Client record_number 0
@@ -103,8 +106,6 @@ abbrev pub r : List Entry
 r = one (getattr 5 cc ∷ getattr 6 cc ∷ []) []
 
 pub record TwoGetattrs : Type 0 where
-  pub form_of_p : canonical p ≡ one (getattr 1 (handle_number 1) ∷ getattr 2 (handle_number 2) ∷ []) []
-  pub form_of_q : canonical q ≡ canonical p
   pub form_of_r : canonical r ≡ one (getattr 1 (handle_number 1) ∷ getattr 2 (handle_number 1) ∷ []) []
   pub p_and_q : Same p q
   pub p_and_r : Parting p r (in_client 1 2)
@@ -124,12 +125,6 @@ pub record Connections : Type 0 where
   pub none : Parting (End ∷ []) (one [] []) (in_client 1 0)
   pub no_call : Parting (one [] []) (one (call_of 100003 0 7 [] ∷ []) []) (in_client 1 1)
 
--- ---- a handle from MNT, and then GETATTR of it
-
-pub record MountThenGetattr : Type 0 where
-  pub form : canonical (connection (mount 1 ∷ []) (mounted 1 long ∷ []) ++ one (getattr 9 long ∷ []) [])
-      ≡ connection (mount 1 ∷ []) (mounted 1 (handle_number 1) ∷ []) ++ one (getattr 1 (handle_number 1) ∷ []) []
-
 -- ---- write verifiers
 
 -- two COMMIT calls in one connection that gave these
@@ -148,7 +143,8 @@ pub record Commits : Type 0 where
   pub zeros : canonical (two_commits long zero_verifier) ≡ two_commits (verifier_number 1) (verifier_number 2)
   pub swapped : Same (commits long zero_verifier) (commits zero_verifier long)
   pub parted : Parting (commits long long) (commits long zero_verifier) (in_server 1 2)
-  pub cookie_stays : canonical (one (call_of 100003 16 1 [] ∷ []) (listed 1 long ∷ [])) ≡ one (call_of 100003 16 1 [] ∷ []) (listed 1 long ∷ [])
+  -- a cookie verifier is not a write verifier
+  pub cookie_stays : canonical (one (list_directory 1 ∷ []) (listed 1 long ∷ [])) ≡ one (list_directory 1 ∷ []) (listed 1 long ∷ [])
 
 -- ---- other ways of numbering
 

@@ -11,12 +11,15 @@ pub mod Following
 pub mod Parting
 pub mod Laws
 pub mod Examples
+pub mod Vectors
 pub mod Written
+pub mod Memory
 pub mod Numbered
 pub mod Writing
 pub mod EntryWriter
 pub mod Rewriting
 pub mod Progress
 pub mod Passed
+pub mod Tallying
 pub mod Spelling
 pub mod Comparison

@@ -1,15 +1,26 @@
 -- What came of a capture so far.
-use Rattle.std.specs.Prelude.{ℕ, List, max}
+use Rattle.std.specs.Prelude.{◌≡◌, ℕ, ◌+◌, Bool, true, false, List, count_by, max}
 use Rattle.capture3.specs.Entry.{Entry}
+use Rattle.capture3.specs.declared.entry.Kind.{Kind}
+use Rattle.capture3.specs.declared.entry.Kind.TheVariants as kinds
 use Rattle.canon3.specs.declared.passed.Passed.{Passed}
 use Rattle.canon3.specs.Progress.{HasPassed, steps_of}
-use Rattle.canon3.specs.Summing.{AreCounted, total}
+use Rattle.canon3.specs.Summing.{is_call, is_reply}
+
+abbrev pub calls : Kind → Bool
+calls (kinds.Call id) = true
+calls _ = false
+
+abbrev pub replies : Kind → Bool
+replies (kinds.Reply id) = true
+replies _ = false
 
 -- these entries came
 pub record ArePassed (passed : Passed) (entries : List Entry) : Type 0 where
-  pub counted : AreCounted passed.counts entries
   pub progress : HasPassed passed.progress entries
+  pub calls_are : passed.calls ≡ count_by is_call entries
+  pub replies_are : passed.replies ≡ count_by is_reply entries
 
 -- no more than one for each entry
 abbrev pub passed_steps : Passed → ℕ
-passed_steps passed = max (total passed.counts) (steps_of passed.progress)
+passed_steps passed = max (steps_of passed.progress) (passed.calls + passed.replies)

@@ -10,6 +10,7 @@ ghost use Rattle.canon3.specs.Passed.{ArePassed, passed_steps};
 ghost use Rattle.canon3.specs.Rank.{distinct, number_limit};
 ghost use Rattle.canon3.specs.Values as values;
 ghost use Rattle.canon3.specs.Writing.{CountsWriting, IsOfWriting};
+ghost use Rattle.canon3.specs.Written.{IsFlushed};
 
 use crate::passed::Passed;
 use crate::sink::Sink;
@@ -72,6 +73,7 @@ pub fn write_entries<R: Source, W: Sink, E: EntryWriter, S: BuildHasher + Drop>(
     requires prefixes { KeepsPrefixes E.form }
     ensures writes { WritesGiven E.form (R.left source.old) (R.left source.new) (W.written sink.old)
         (W.written sink.new) result }
+    ensures flushes { OnOk result (IsFlushed (W.written sink.new) (W.flushed sink.new)) }
     ensures read { CountsReading (R.failures source.old) (R.failures source.new) result }
     ensures write { CountsWriting (W.failures sink.old) (W.failures sink.new) result }
 {
@@ -100,6 +102,7 @@ fn write_new<R: Source, W: Sink, E: EntryWriter, S: BuildHasher + Drop>(
     ensures writes { WritesGiven E.form (R.left entries.old.source.now)
         (R.left entries.new.source.now)
         (W.written sink.old) (W.written sink.new) result }
+    ensures flushes { OnOk result (IsFlushed (W.written sink.new) (W.flushed sink.new)) }
     ensures read { CountsReading (R.failures entries.old.source.now)
         (R.failures entries.new.source.now) result }
     ensures write { CountsWriting (W.failures sink.old) (W.failures sink.new) result }
@@ -122,6 +125,7 @@ fn close<W: Sink, E: EntryWriter>(
         → IsEnded first left given entries
         → HasWritten E.form E.before E.stands E.going writer.now passed.now old (W.written sink.old) entries
         → WritesGiven E.form first left old (W.written sink.new) result }
+    ensures flushes { OnOk result (IsFlushed (W.written sink.new) (W.flushed sink.new)) }
     ensures write { CountsWriting (W.failures sink.old) (W.failures sink.new) result }
     ensures error { IfErr result (λ error. error ≡ Error.Write) }
 {

@@ -97,6 +97,7 @@ impl<S: BuildHasher + Drop> Numbering<S> {
     fn write_xid(&mut self, name: &'static str, n: u32) -> Result<(), AllocError>
         requires { self.old.stage ≡ Stage.Begins }
         ensures ok { OnOk result (Adds Stands self.old self.new (Word name.now n ∷ [])) }
+        ensures goes { OnOk result (self.new.stage ≡ Stage.Goes) }
     {
         let number = match self.xids.number_of(n) {
             Ok(number) => number,
@@ -134,25 +135,25 @@ impl<S: BuildHasher + Drop> Numbering<S> {
         self.writer.write_verf(name, &hyper)
     }
 
-    /// Takes the fields one by one, of which the first may be the xid.
-    fn tell_each(&mut self, fields: &[PlainField], bytes: &[u8]) -> Result<(), AllocError>
-        requires { length bytes.now ≡ run_size fields.now }
+    /// Takes the first field, which may be the xid, and then the others at once.
+    fn write_first(&mut self, fields: &[PlainField], bytes: &[u8]) -> Result<(), AllocError>
+        requires size { length bytes.now ≡ run_size fields.now }
+        requires begins { self.old.stage ≡ Stage.Begins }
         ensures ok { OnOk result (Adds Stands self.old self.new (run_items fields.now bytes.now)) }
     {
-        let mut rest = bytes;
-        for field in fields {
-            match *field {
-                PlainField::Word(name) => {
-                    self.word(name, BigEndian::read_u32(rest))?;
-                    rest = &rest[4..];
-                }
-                PlainField::Hyper(name) => {
-                    self.hyper(name, BigEndian::read_u64(rest))?;
-                    rest = &rest[8..];
-                }
+        let Some((first, more)) = fields.split_first() else {
+            return Ok(());
+        };
+        match *first {
+            PlainField::Word(name) => {
+                self.write_xid(name, BigEndian::read_u32(bytes))?;
+                self.writer.plain(more, &bytes[4..])
+            }
+            PlainField::Hyper(_) => {
+                self.stage = Stage::Goes;
+                self.writer.plain(fields, bytes)
             }
         }
-        Ok(())
     }
 
     /// Says nothing more of the tables after an error.
@@ -219,7 +220,10 @@ impl<S: BuildHasher + Drop> Visit for Numbering<S> {
 
     fn plain(&mut self, fields: &[PlainField], bytes: &[u8]) -> Result<(), AllocError> {
         match self.stage {
-            Stage::Begins => self.tell_each(fields, bytes),
+            Stage::Begins => {
+                let written = self.write_first(fields, bytes);
+                self.settle(written)
+            }
             Stage::Goes | Stage::Failed => self.writer.plain(fields, bytes),
         }
     }

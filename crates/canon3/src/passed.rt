@@ -1,22 +1,23 @@
 // What came of a capture so far.
 
-ghost use Rattle.std.specs.Prelude.{◌≡◌, ◌<◌, ◌≤◌, ◌+◌, ◌^◌, ◌++◌, ◌∷◌, List, [], bytes_eq, length, min};
+ghost use Rattle.std.specs.Prelude.{◌≡◌, ◌<◌, ◌≤◌, ◌+◌, ◌^◌, ◌++◌, ◌∷◌, List, [], bytes_eq, cond, length, min};
 ghost use Rattle.capture3.specs.Entry as spec;
-ghost use Rattle.canon3.specs.Passed.{ArePassed, passed_steps};
+ghost use Rattle.canon3.specs.Passed.{ArePassed, calls, passed_steps, replies};
 ghost use Rattle.canon3.specs.Rank.{distinct, number_limit};
 ghost use Rattle.canon3.specs.Summing.{Sums};
 ghost use Rattle.capture3.specs.Kept.{IsOfKind};
 ghost use Rattle.canon3.specs.Values as values;
 
 use crate::progress::Progress;
-use crate::summary::{Counts, Summary};
+use crate::summary::Summary;
 use capture3::Kind;
 
 /// How many entries of each kind came, and where the next one stands.
 #[derive(Drop)]
 pub struct Passed {
-    counts: Counts,
     progress: Progress,
+    calls: u32,
+    replies: u32,
 }
 
 impl Passed {
@@ -26,8 +27,9 @@ impl Passed {
         ensures none { passed_steps result ≡ 0 }
     {
         Passed {
-            counts: Counts::new(),
             progress: Progress::new(),
+            calls: 0,
+            replies: 0,
         }
     }
 
@@ -52,8 +54,22 @@ impl Passed {
         ensures passed { (entries : List spec.Entry) (one : spec.Entry) → IsOfKind kind one
             → ArePassed self.old entries → ArePassed self.new (entries ++ one ∷ []) }
     {
-        self.counts.add(kind);
         self.progress.pass(kind);
+        self.count(kind);
+    }
+
+    /// One message more, where the entry is one.
+    fn count(&mut self, kind: Kind)
+        requires { self.old.calls + self.old.replies + 1 < 2 ^ 32 }
+        ensures calls { self.new.calls ≡ self.old.calls + cond (calls kind) 1 0 }
+        ensures replies { self.new.replies ≡ self.old.replies + cond (replies kind) 1 0 }
+        ensures progress { self.new.progress ≡ self.old.progress }
+    {
+        match kind {
+            Kind::Call(_) => self.calls += 1,
+            Kind::Reply(_) => self.replies += 1,
+            Kind::Begin | Kind::Turn | Kind::Close | Kind::End => {}
+        }
     }
 
     /// The summary with so many distinct handles.
@@ -62,6 +78,11 @@ impl Passed {
             → handles ≡ min (length (distinct bytes_eq (values.handles entries))) number_limit
             → Sums result entries }
     {
-        self.counts.summary(handles)
+        Summary {
+            connections: self.progress.connections(),
+            calls: self.calls,
+            replies: self.replies,
+            handles,
+        }
     }
 }

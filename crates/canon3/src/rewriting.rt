@@ -10,7 +10,7 @@ ghost use Rattle.canon3.specs.Rewriting.{Follows, magic_before, RewritesGiven};
 ghost use Rattle.capture3.specs.Kept.{IsOfKind};
 ghost use Rattle.capture3.specs.Entry.{items_of};
 ghost use Rattle.canon3.specs.Writing.{CountsWriting, IsOfWriting};
-ghost use Rattle.canon3.specs.Written.{AppendsFront};
+ghost use Rattle.canon3.specs.Written.{AppendsFront, IsFlushed};
 
 use crate::entry_writer::{EntryWriter, write_entries};
 use crate::form::write_spelling;
@@ -42,6 +42,7 @@ pub fn canon<R: Source, W: Sink, S: BuildHasher + Drop>(
 ) -> Result<Summary, Error>
     ensures rewrites { RewritesGiven (R.left source.old) (R.left source.new) (W.written sink.old)
         (W.written sink.new) result }
+    ensures flushes { OnOk result (IsFlushed (W.written sink.new) (W.flushed sink.new)) }
     ensures read { CountsReading (R.failures source.old) (R.failures source.new) result }
     ensures write { CountsWriting (W.failures sink.old) (W.failures sink.new) result }
 {

@@ -1,7 +1,8 @@
 ghost use Rattle.std.specs.Prelude.{◌≡◌, ◌≤◌, ◌<◌, ◌+◌, ◌-◌, ◌↔◌, ◌⊎◌, ℕ, List, [], length, take, drop, min, Option, None, Some, IfOk, IsErr, OnOk, OnErr, vec_len, vec_capacity};
 ghost use Rattle.std.specs.Io.KnownBytes.{WriteAppends, Keeps};
 ghost use Rattle.capture3.specs.Device.{Counts};
-ghost use Rattle.capture3.specs.Memory.{MemoryWritten};
+ghost use Rattle.canon3.specs.Memory.{MemoryWritten};
+ghost use Rattle.canon3.specs.Written.{IsFlushed};
 
 use crate::plan::FaultPlan;
 use capture3::DeviceFailed;
@@ -14,6 +15,9 @@ pub trait Sink {
     // The bytes that were written, where the sink tells them.
     ghost written: { Self → Option (List ℕ) };
 
+    // Those of them that were flushed, where the sink tells them.
+    ghost flushed: { Self → Option (List ℕ) };
+
     // How many writes and flushes have failed, up to 2^64 - 1.
     ghost failures: { Self → ℕ };
 
@@ -23,14 +27,18 @@ pub trait Sink {
         ensures some { IfOk result (λ n. 0 < n) }
         ensures within { IfOk result (λ n. n ≤ length piece.now) }
         ensures bytes { WriteAppends (written self.old) (written self.new) result piece.now }
+        ensures flushes { Keeps (flushed self.old) (flushed self.new) }
         ensures count { Counts (failures self.old) (failures self.new) result };
 
+    /// Flushes all that was written.
     fn flush_all(&mut self) -> Result<(), DeviceFailed>
         ensures bytes { Keeps (written self.old) (written self.new) }
+        ensures flushes { OnOk result (IsFlushed (written self.new) (flushed self.new)) }
         ensures count { Counts (failures self.old) (failures self.new) result };
 }
 
-/// A sink over any writer, which tells the bytes that the writer tells.
+/// A sink over any writer, which tells the bytes that the writer tells. What a flush of a writer does,
+/// no contract of the standard library says, so it does not tell what was flushed.
 #[derive(Drop)]
 pub struct ToWrite<W> {
     writer: W,
@@ -58,6 +66,8 @@ impl<W: Write> ToWrite<W> {
 impl<W: Write> Sink for ToWrite<W> {
     ghost written = { λ s. W.contents s.writer };
 
+    ghost flushed = { λ s. None };
+
     ghost failures = { λ s. s.failures };
 
     fn write_some(&mut self, piece: &[u8]) -> Result<usize, DeviceFailed> {
@@ -81,37 +91,40 @@ impl<W: Write> Sink for ToWrite<W> {
     }
 }
 
-/// A sink in memory, which tells its bytes. It has room for so many bytes, takes at most `block` of a
-/// piece, and one call alone fails besides those without room.
+/// A sink in memory, which tells its bytes, and which of them were flushed. It has room for so many bytes,
+/// takes at most `block` of a piece, and one call alone fails besides those without room.
 #[derive(Drop)]
 pub struct MemSink {
     bytes: Vec<u8>,
+    // How many of them were flushed.
+    flushed: usize,
     room: usize,
     block: usize,
     plan: FaultPlan,
 }
 
 impl Model for MemSink {
-    ghost use Rattle.std.specs.Prelude.{◌<◌, ◌≤◌, ◌+◌, vec_len, vec_capacity};
-    ghost use Rattle.capture3.specs.Memory.{MemoryWritten};
+    ghost use Rattle.std.specs.Prelude.{◌<◌, ◌≤◌, ◌+◌, take, vec_len, vec_capacity};
+    ghost use Rattle.canon3.specs.Memory.{MemoryWritten};
 
     ghost Value = { MemoryWritten };
 
-    ghost view = { λ s. record { bytes = s.bytes.items; room = s.room; block = s.block; fails_in = s.plan.fails_in; failures = s.plan.failures } };
+    ghost view = { λ s. record { bytes = s.bytes.items; flushed = take s.flushed s.bytes.items; room = s.room; block = s.block; fails_in = s.plan.fails_in; failures = s.plan.failures } };
 
-    ghost invariant = { λ s. (0 < s.block) × (vec_len s.bytes + s.room ≤ vec_capacity s.bytes) };
+    ghost invariant = { λ s. (0 < s.block) × (s.flushed ≤ vec_len s.bytes) × (vec_len s.bytes + s.room ≤ vec_capacity s.bytes) };
 }
 
 impl MemSink {
     /// Call number `fail` fails, writes and flushes counted together, and none where it is 0.
     pub fn new(alloc: Global, room: usize, block: usize, fail: u64) -> Result<MemSink, AllocError>
         requires { 0 < block }
-        ensures { IfOk result (λ sink. sink ≡ record { bytes = []; room = room; block = block; fails_in = fail; failures = 0 }) }
+        ensures { IfOk result (λ sink. sink ≡ record { bytes = []; flushed = []; room = room; block = block; fails_in = fail; failures = 0 }) }
     {
         let mut bytes = Vec::new(alloc);
         bytes.reserve(room)?;
         Ok(MemSink {
             bytes,
+            flushed: 0,
             room,
             block,
             plan: FaultPlan::new(fail),
@@ -123,10 +136,19 @@ impl MemSink {
     {
         &self.bytes
     }
+
+    /// Those of the bytes that were flushed.
+    pub fn flushed(&self) -> &[u8]
+        ensures { result.now ≡ self.now.flushed }
+    {
+        &self.bytes[..self.flushed]
+    }
 }
 
 impl Sink for MemSink {
     ghost written = { λ s. Some s.bytes };
+
+    ghost flushed = { λ s. Some s.flushed };
 
     ghost failures = { λ s. s.failures };
 
@@ -135,6 +157,7 @@ impl Sink for MemSink {
         ensures some { IfOk result (λ n. 0 < n) }
         ensures within { IfOk result (λ n. n ≤ length piece.now) }
         ensures bytes { WriteAppends (Some self.old.bytes) (Some self.new.bytes) result piece.now }
+        ensures flushes { Keeps (Some self.old.flushed) (Some self.new.flushed) }
         ensures count { Counts self.old.failures self.new.failures result }
 
         // How many bytes a call takes, and which call fails.
@@ -159,10 +182,16 @@ impl Sink for MemSink {
 
     fn flush_all(&mut self) -> Result<(), DeviceFailed>
         ensures bytes { Keeps (Some self.old.bytes) (Some self.new.bytes) }
+        ensures flushes { OnOk result (IsFlushed (Some self.new.bytes) (Some self.new.flushed)) }
         ensures count { Counts self.old.failures self.new.failures result }
+
+        // A failed flush flushes nothing.
+        ensures unflushed { OnErr result (self.new.flushed ≡ self.old.flushed) }
         ensures fails { IsErr result ↔ (self.old.fails_in ≡ 1) }
         ensures next { (self.new.fails_in ≡ self.old.fails_in - 1) × (self.new.block ≡ self.old.block) × (self.new.room ≡ self.old.room) }
     {
-        self.plan.next_call()
+        self.plan.next_call()?;
+        self.flushed = self.bytes.len();
+        Ok(())
     }
 }

@@ -7,12 +7,15 @@ ghost use Rattle.capture3.specs.Entry as spec;
 ghost use Rattle.capture3.specs.FirstFault.{FirstFault};
 ghost use Rattle.capture3.specs.Position.{most_entries};
 ghost use Rattle.canon3.specs.Rank.{distinct, number_limit};
-ghost use Rattle.canon3.specs.Summing.{AreCounted, begins, calls, Concludes, GoesOn, IsOver, IsSummary, IsUnderWay, replies, Sums, Tallies, total};
+ghost use Rattle.canon3.specs.Passed.{passed_steps};
+ghost use Rattle.canon3.specs.Summing.{ConcludesGiven, IsSummary, Sums};
+ghost use Rattle.canon3.specs.Tallying.{GoesOn, IsOver, IsUnderWay, Tallies};
 ghost use Rattle.capture3.specs.Kept.{IsOfKind};
 ghost use Rattle.canon3.specs.Values as values;
 
 use crate::handles::HandleTable;
-use capture3::{Entries, Error, Hashers, Kind, Source, new_block};
+use crate::passed::Passed;
+use capture3::{Entries, Error, Hashers, Source, new_block};
 use std::alloc::Global;
 use std::hash::BuildHasher;
 
@@ -39,10 +42,14 @@ pub fn check<R: Source, S: BuildHasher + Drop>(
 ) -> Result<Summary, Error>
     ensures ok { (bytes : List ℕ) → R.left source.old ≡ Some bytes → IfOk result (IsSummary bytes) }
     ensures refused { (bytes : List ℕ) → R.left source.old ≡ Some bytes → IfErr result (λ error. (fault : Fault) → error ≡ Error.Refused fault → FirstFault bytes fault) }
+    ensures concludes { ConcludesGiven (R.left source.old) (R.left source.new) result }
     ensures read { CountsReading (R.failures source.old) (R.failures source.new) result }
     ensures write { IfErr result (λ error. error ≢ Error.Write) }
 {
-    let block = new_block(alloc)?;
+    let block = match new_block(alloc) {
+        Ok(block) => block,
+        Err(_) => return Err(Error::Memory),
+    };
     let mut entries = Entries::through(alloc, hashers.calls, source, block);
     let result = summed(alloc, hashers.handles, &mut entries);
     entries.into_source();
@@ -57,7 +64,8 @@ fn summed<R: Source, S: BuildHasher + Drop>(
 ) -> Result<Summary, Error>
     requires fresh { StandsFor R.left entries.old [] [] }
     requires going { failure_of entries.old ≡ None }
-    ensures concludes { Concludes (R.left entries.old.source.now) (R.left entries.new.source.now) result }
+    ensures concludes { ConcludesGiven (R.left entries.old.source.now)
+        (R.left entries.new.source.now) result }
     ensures read { CountsReading (R.failures entries.old.source.now) (R.failures entries.new.source.now) result }
     ensures write { IfErr result (λ error. error ≢ Error.Write) }
     ensures same_reference { entries.new.source.ghost_name ≡ entries.old.source.ghost_name }
@@ -69,77 +77,20 @@ fn summed<R: Source, S: BuildHasher + Drop>(
     }
 }
 
-/// How many connections, calls and replies came.
-#[derive(Drop)]
-pub(crate) struct Counts {
-    connections: u32,
-    calls: u32,
-    replies: u32,
-}
-
-impl Counts {
-    /// Before any entry.
-    pub(crate) fn new() -> Counts
-        ensures counted { AreCounted result [] }
-        ensures none { total result ≡ 0 }
-    {
-        Counts {
-            connections: 0,
-            calls: 0,
-            replies: 0,
-        }
-    }
-
-    /// One entry more.
-    pub(crate) fn add(&mut self, kind: Kind)
-        requires { total self.old + 1 < 2 ^ 32 }
-        ensures few { total self.new ≤ total self.old + 1 }
-        ensures counted { (one : spec.Entry) (entries : List spec.Entry) → IsOfKind kind one → AreCounted self.old entries → AreCounted self.new (entries ++ one ∷ []) }
-    {
-        self.count(kind);
-    }
-
-    fn count(&mut self, kind: Kind)
-        requires { total self.old + 1 < 2 ^ 32 }
-        ensures connections { self.new.connections ≡ self.old.connections + cond (begins kind) 1 0 }
-        ensures calls { self.new.calls ≡ self.old.calls + cond (calls kind) 1 0 }
-        ensures replies { self.new.replies ≡ self.old.replies + cond (replies kind) 1 0 }
-    {
-        match kind {
-            Kind::Begin => self.connections += 1,
-            Kind::Call(_) => self.calls += 1,
-            Kind::Reply(_) => self.replies += 1,
-            Kind::Turn | Kind::Close | Kind::End => {}
-        }
-    }
-
-    /// The summary with so many distinct handles.
-    pub(crate) fn summary(&self, handles: u32) -> Summary
-        ensures { (entries : List spec.Entry) → AreCounted self.now entries → handles ≡ min (length (distinct bytes_eq (values.handles entries))) number_limit → Sums result entries }
-    {
-        Summary {
-            connections: self.connections,
-            calls: self.calls,
-            replies: self.replies,
-            handles,
-        }
-    }
-}
-
 /// What was met so far.
 #[derive(Drop)]
 struct Tally<S: BuildHasher + Drop> {
-    counts: Counts,
+    passed: Passed,
     handles: HandleTable<S>,
 }
 
 impl<S: BuildHasher + Drop> Tally<S> {
     fn new(alloc: Global, hasher: S) -> Tally<S>
         ensures tallies { Tallies result [] }
-        ensures none { total result.counts ≡ 0 }
+        ensures none { passed_steps result.passed ≡ 0 }
     {
         Tally {
-            counts: Counts::new(),
+            passed: Passed::new(),
             handles: HandleTable::new(alloc, hasher),
         }
     }
@@ -147,7 +98,7 @@ impl<S: BuildHasher + Drop> Tally<S> {
     /// Adds all entries that are left.
     fn add_all<R: Source>(&mut self, entries: &mut Entries<'_, R, S>) -> Result<(), Error>
         requires going { failure_of entries.old ≡ None }
-        requires room { total self.old.counts + entries_left entries.old ≤ most_entries }
+        requires room { passed_steps self.old.passed + entries_left entries.old ≤ most_entries }
         ensures over { (first : Option (List ℕ)) → IsUnderWay R.left first entries.old self.old → IsOver R.left first entries.new self.new result }
         ensures read { CountsReading (R.failures entries.old.source.now) (R.failures entries.new.source.now) result }
         ensures write { IfErr result (λ error. error ≢ Error.Write) }
@@ -160,18 +111,19 @@ impl<S: BuildHasher + Drop> Tally<S> {
     /// Adds the next entry. False stands for the end.
     fn add_next<R: Source>(&mut self, entries: &mut Entries<'_, R, S>) -> Result<bool, Error>
         requires going { failure_of entries.old ≡ None }
-        requires room { total self.old.counts + entries_left entries.old ≤ most_entries }
+        requires room { passed_steps self.old.passed + entries_left entries.old ≤ most_entries }
         ensures goes_on { (first : Option (List ℕ)) → IsUnderWay R.left first entries.old self.old → GoesOn R.left first entries.new self.new result }
         ensures fewer { IfOk result (λ more. IsTrue more → entries_left entries.new < entries_left entries.old) }
         ensures going { OnOk result (failure_of entries.new ≡ None) }
-        ensures room { IfOk result (λ more. IsTrue more → total self.new.counts + entries_left entries.new ≤ most_entries) }
+        ensures room { IfOk result (λ more. IsTrue more
+            → passed_steps self.new.passed + entries_left entries.new ≤ most_entries) }
         ensures read { CountsReading (R.failures entries.old.source.now) (R.failures entries.new.source.now) result }
         ensures write { IfErr result (λ error. error ≢ Error.Write) }
         ensures same_reference { entries.new.source.ghost_name ≡ entries.old.source.ghost_name }
     {
         match entries.next(&mut self.handles) {
             Ok(Some(kind)) => {
-                self.counts.add(kind);
+                self.passed.add(kind);
                 Ok(true)
             }
             Ok(None) => Ok(false),
@@ -182,6 +134,6 @@ impl<S: BuildHasher + Drop> Tally<S> {
     fn summary(&self) -> Summary
         ensures { (entries : List spec.Entry) → Tallies self.now entries → Sums result entries }
     {
-        self.counts.summary(self.handles.len())
+        self.passed.summary(self.handles.len())
     }
 }

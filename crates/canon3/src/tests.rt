@@ -1,4 +1,5 @@
 mod comparisons;
+mod writers;
 
 use super::writing::{write_all, write_record};
 use super::{MemSink, Numbers, Sink, Summary, ToWrite, canon};
@@ -52,6 +53,7 @@ fn a_sink_in_memory_fails_without_room(rt: HostRuntime) -> Result<(), Fail> {
     assert_eq!(rt; sink.write_some(b"de"), Err(DeviceFailed));
     assert_eq!(rt; sink.bytes(), b"abc".as_slice());
     assert_eq!(rt; sink.flush_all(), Ok(()));
+    assert_eq!(rt; sink.flushed(), b"abc".as_slice());
     Ok(())
 }
 
@@ -62,6 +64,7 @@ fn a_sink_in_memory_fails_once(rt: HostRuntime) -> Result<(), Fail> {
     assert_eq!(rt; sink.flush_all(), Err(DeviceFailed));
     assert_eq!(rt; sink.write_some(b"de"), Ok(2));
     assert_eq!(rt; sink.bytes(), b"abcde".as_slice());
+    assert_eq!(rt; sink.flushed(), b"".as_slice());
     Ok(())
 }
 
@@ -164,6 +167,7 @@ fn a_capture_in_its_canonical_form(rt: HostRuntime) -> Result<(), Fail> {
     };
     assert_eq!(rt; canon_of(&rt, &bytes, 0, &mut sink), Ok(summary));
     assert_eq!(rt; sink.bytes(), numbered.as_slice());
+    assert_eq!(rt; sink.flushed(), numbered.as_slice());
     Ok(())
 }
 

@@ -1,8 +1,10 @@
 // The listing of a capture, from a source to a sink.
 
+ghost use Rattle.std.specs.Prelude.{OnOk};
 ghost use Rattle.capture3.specs.Entries.{CountsReading};
 ghost use Rattle.canon3.specs.EntryWriter.{WritesGiven};
 ghost use Rattle.canon3.specs.Writing.{CountsWriting};
+ghost use Rattle.canon3.specs.Written.{IsFlushed};
 ghost use Rattle.listing3.specs.Listing.{shown};
 
 use crate::line_writer::LineWriter;
@@ -31,6 +33,7 @@ pub fn show<R: Source, W: Sink, S: BuildHasher + Drop>(
 ) -> Result<Summary, Error>
     ensures lists { WritesGiven shown (R.left source.old) (R.left source.new) (W.written sink.old)
         (W.written sink.new) result }
+    ensures flushes { OnOk result (IsFlushed (W.written sink.new) (W.flushed sink.new)) }
     ensures read { CountsReading (R.failures source.old) (R.failures source.new) result }
     ensures write { CountsWriting (W.failures sink.old) (W.failures sink.new) result }
 {

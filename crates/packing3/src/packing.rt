@@ -6,7 +6,7 @@ ghost use Rattle.xdr3.specs.Item.{word_bytes};
 ghost use Rattle.capture3.specs.Capture.{max_connections, Streams};
 ghost use Rattle.capture3.specs.Chunks.{max_bytes};
 ghost use Rattle.canon3.specs.Writing.{CountsWriting};
-ghost use Rattle.canon3.specs.Written.{AppendsFront};
+ghost use Rattle.canon3.specs.Written.{AppendsFront, IsFlushed};
 ghost use Rattle.packing3.specs.Packed.{full_size};
 ghost use Rattle.packing3.specs.Devices.{CountsReadings};
 ghost use Rattle.packing3.specs.Streaming.{HasConnection};
@@ -127,6 +127,8 @@ impl<W: Sink> Packing<W> {
         ensures finishes { (old : Option (List ℕ)) (pairs : List Streams)
             → StandsFor W.written self.old old pairs
             → Finishes old (W.written self.new.sink) pairs result }
+        ensures flushes { ending_of self.old ≡ None
+            → OnOk result (IsFlushed (W.written self.new.sink) (W.flushed self.new.sink)) }
         ensures ended { ending_of self.old ≡ None → ending_of self.new ≡ Some result }
         ensures again { IsSome (ending_of self.old) → ending_of self.old ≡ Some result }
         ensures unchanged { IsSome (ending_of self.old) → self.new ≡ self.old }
@@ -179,6 +181,8 @@ impl<W: Sink> Packing<W> {
             (Appends (W.written self.old.sink) (W.written self.new.sink) (word_bytes 0)) }
         ensures err { OnErr result
             (AppendsFront (W.written self.old.sink) (W.written self.new.sink) (word_bytes 0)) }
+        ensures flushes { OnOk result
+            (IsFlushed (W.written self.new.sink) (W.flushed self.new.sink)) }
         ensures error { IfErr result (λ error. error ≡ Error.Write) }
         ensures write { CountsWriting (W.failures self.old.sink) (W.failures self.new.sink) result }
     {

@@ -203,6 +203,8 @@ struct Counter {
 impl Sink for Counter {
     ghost written = { λ s. None };
 
+    ghost flushed = { λ s. None };
+
     ghost failures = { λ s. 0 };
 
     fn write_some(&mut self, piece: &[u8]) -> Result<usize, DeviceFailed> {

@@ -3,10 +3,14 @@ use Rattle.capture3.specs.declared.fault.Side.TheVariants.{Server}
 use Rattle.canon3.specs.Parting.{first_message}
 use Rattle.canon3.specs.Examples.{commits, long, zero_verifier, in_server}
 use Rattle.canon3.proofs.Checks.{same_by, parted_by}
+use Rattle.canon3.proofs.Vectors.{worked}
 use Rattle.canon3.proofs.examples.commits.Goals as goal
 
-pub returns : goal.returns
-returns c = record {
+pub returns-clause-worked : goal.returns-clause-worked
+returns-clause-worked c = worked.committing_is
+
+pub returns-clause-verifiers : goal.returns-clause-verifiers
+returns-clause-verifiers c = record {
   form = refl;
   later = refl;
   zeros = refl;

@@ -1,5 +1,5 @@
-use Rattle.std.proofs.Common.{refl}
+use Rattle.canon3.proofs.Vectors.{worked}
 use Rattle.canon3.proofs.examples.mount_then_getattr.Goals as goal
 
 pub returns : goal.returns
-returns c = record { form = refl }
+returns c = worked.mounting_is

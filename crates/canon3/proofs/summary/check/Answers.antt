@@ -1,6 +1,7 @@
 use Rattle.std.proofs.Common.{ap, sym, subst, ◌≡◌, ◌∙◌}
 use Rattle.capture3.specs.Entries.{CountsReading}
-use Rattle.canon3.proofs.Summing.{faults_of, summary_of}
+use Rattle.canon3.specs.Summing.{ConcludesGiven}
+use Rattle.canon3.proofs.Summing.{faults_of, nothing_concluded, summary_of}
 use Rattle.canon3.proofs.summary.check.Goals as goal
 
 pub returns-clause-ok : goal.returns-clause-ok
@@ -10,6 +11,14 @@ pub returns-clause-refused : goal.returns-clause-refused
 returns-clause-refused g c bytes left = faults_of bytes _ _ c.summed-result.result (ap g.R.Source.left c.through-entries.ensures.unread ∙ left) c.summed-result.ensures.concludes
 
 -- the reader gave back the source that it was lent
+pub returns-clause-concludes : goal.returns-clause-concludes
+returns-clause-concludes g c =
+    let left = g.R.Source.left in
+    let reader = c.summed-result.new.entries in
+    let back : _ ≡ reader.source.now = c.source-1.given.1 (sym (c.into_source.ensures.same_reference ∙ c.summed-result.ensures.same_reference ∙ c.through-entries.ensures.same_reference)) ∙ c.into_source.ensures.value in
+    subst (λ l. ConcludesGiven (left c.args.source.now) l c.summed-result.result) (sym (ap left back))
+    (subst (λ l. ConcludesGiven l (left reader.source.now) c.summed-result.result) (ap left c.through-entries.ensures.unread) c.summed-result.ensures.concludes)
+
 pub returns-clause-read : goal.returns-clause-read
 returns-clause-read g c =
     let failures = g.R.Source.failures in
@@ -17,3 +26,6 @@ returns-clause-read g c =
     let back : _ ≡ reader.source.now = c.source-1.given.1 (sym (c.into_source.ensures.same_reference ∙ c.summed-result.ensures.same_reference ∙ c.through-entries.ensures.same_reference)) ∙ c.into_source.ensures.value in
     subst (λ n. CountsReading (failures c.args.source.now) n c.summed-result.result) (sym (ap failures back))
     (subst (λ m. CountsReading m (failures reader.source.now) c.summed-result.result) (ap failures c.through-entries.ensures.unread) c.summed-result.ensures.read)
+
+pub returns-in-Err-clause-concludes : goal.returns-in-Err-clause-concludes
+returns-in-Err-clause-concludes g c = nothing_concluded (g.R.Source.left c.args.source.now)

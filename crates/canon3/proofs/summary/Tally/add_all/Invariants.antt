@@ -1,13 +1,14 @@
 use Rattle.std.proofs.Common.{◌≡◌, ◌≤◌, ◌+◌, List, ℕ, None, Option}
 use Rattle.capture3.specs.Entries.{entries_left, failure_of}
 use Rattle.capture3.specs.Position.{most_entries}
-use Rattle.canon3.specs.Summing.{IsUnderWay, total}
+use Rattle.canon3.specs.Passed.{passed_steps}
+use Rattle.canon3.specs.Tallying.{IsUnderWay}
 use Rattle.canon3.proofs.summary.Tally.add_all.Given as goal
 
 abbrev pub invariant-loop : goal.invariant-loop
 invariant-loop g l = record {
   going : failure_of l.entries ≡ None;
-  room : total l.self.counts + entries_left l.entries ≤ most_entries;
+  room : passed_steps l.self.passed + entries_left l.entries ≤ most_entries;
   under_way : (first : Option (List ℕ)) → IsUnderWay g.R.Source.left first l.fn.entries l.fn.self → IsUnderWay g.R.Source.left first l.entries l.self;
   read : g.R.Source.failures l.entries.source.now ≡ g.R.Source.failures l.fn.entries.source.now;
   same_reference : l.entries.source.ghost_name ≡ l.fn.entries.source.ghost_name;

@@ -19,7 +19,7 @@ returns-in-Ok-Some-clause-goes_on g c first u =
       consumed = Consumes-trans first (g.R.Source.left c.args.entries.now.source.now) (g.R.Source.left c.next.new.self.source.now) u.given a.more u.consumed a.consumed;
       stands = stands;
       tallied = record {
-        counts = c.add.ensures.counted one u.handed is u.tallied.counts;
+        passed = c.add.ensures.passed u.handed one is u.tallied.passed;
         handles = subst (λ (l : List Item). Gathers c.next.new.visitor.numbers l) (sym (items_behind u.handed one)) (adds (all_items u.handed) u.tallied.handles);
       };
     }

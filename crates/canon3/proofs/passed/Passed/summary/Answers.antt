@@ -1,0 +1,11 @@
+use Rattle.std.proofs.Common.{◌∙◌}
+use Rattle.canon3.proofs.Summing.{connections_counted}
+use Rattle.canon3.proofs.passed.Passed.summary.Goals as goal
+
+pub returns : goal.returns
+returns c entries are handles = record {
+  connections = c.connections.ensures ∙ are.progress.connections_are ∙ connections_counted entries;
+  calls = are.calls_are;
+  replies = are.replies_are;
+  handles = handles;
+}

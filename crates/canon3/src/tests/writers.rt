@@ -1,0 +1,105 @@
+// Sinks over writers of which a call fails.
+
+use super::{commits, hashers};
+use crate::{Sink, Summary, ToWrite, canon};
+use capture3::{DeviceFailed, Error, MemSource};
+use std::io::{self, ErrorKind, Write};
+use std::test::Fail;
+
+/// How a call goes wrong.
+#[derive(Clone, Copy)]
+enum Failing {
+    WithAnError,
+    TakingNothing,
+}
+
+/// A writer that takes all bytes, but for one call. Writes and flushes are counted together.
+#[derive(Drop)]
+struct Faulty {
+    calls: u64,
+    fails_at: u64,
+    failing: Failing,
+}
+
+impl Faulty {
+    fn at(fails_at: u64, failing: Failing) -> Faulty {
+        Faulty {
+            calls: 0,
+            fails_at,
+            failing,
+        }
+    }
+
+    fn is_failing_now(&mut self) -> bool {
+        self.calls = self.calls.saturating_add(1);
+        self.calls == self.fails_at
+    }
+}
+
+impl Write for Faulty {
+    fn write(&mut self, buf: &[u8]) -> io::Result<usize> {
+        if !self.is_failing_now() {
+            return Ok(buf.len());
+        }
+        match self.failing {
+            Failing::WithAnError => Err(ErrorKind::BrokenPipe.into()),
+            Failing::TakingNothing => Ok(0),
+        }
+    }
+
+    fn flush(&mut self) -> io::Result<()> {
+        if self.is_failing_now() {
+            return Err(ErrorKind::BrokenPipe.into());
+        }
+        Ok(())
+    }
+}
+
+#[test]
+fn failed_calls_of_a_writer(rt: HostRuntime) -> Result<(), Fail> {
+    for failing in [Failing::WithAnError, Failing::TakingNothing] {
+        let mut sink = ToWrite::new(Faulty::at(2, failing));
+        assert_eq!(rt; sink.write_some(b"abc"), Ok(3));
+        assert_eq!(rt; sink.write_some(b"de"), Err(DeviceFailed));
+        assert_eq!(rt; sink.write_some(b"de"), Ok(2));
+        assert_eq!(rt; sink.flush_all(), Ok(()));
+    }
+    let mut sink = ToWrite::new(Faulty::at(1, Failing::WithAnError));
+    assert_eq!(rt; sink.flush_all(), Err(DeviceFailed));
+    assert_eq!(rt; sink.flush_all(), Ok(()));
+    assert_eq!(rt; sink.inner().calls, 2);
+    Ok(())
+}
+
+fn canon_into(rt: &HostRuntime, file: &[u8], writer: Faulty) -> Result<Summary, Error> {
+    let mut sink = ToWrite::new(writer);
+    canon(
+        rt.alloc(),
+        hashers(),
+        &mut MemSource::new(file, 999, 0),
+        &mut sink,
+    )
+}
+
+// Nine writes and the flush, each of which fails once.
+#[test]
+fn each_call_of_a_writer_fails(rt: HostRuntime) -> Result<(), Fail> {
+    let (bytes, _) = commits(rt.alloc())?;
+    for fails_at in 1..11u64 {
+        let writer = Faulty::at(fails_at, Failing::WithAnError);
+        assert_eq!(rt;
+            canon_into(&rt, &bytes, writer),
+            Err(Error::Write),
+            "at {fails_at}"
+        );
+    }
+    let summary = Summary {
+        connections: 1,
+        calls: 1,
+        replies: 1,
+        handles: 1,
+    };
+    let writer = Faulty::at(11, Failing::WithAnError);
+    assert_eq!(rt; canon_into(&rt, &bytes, writer), Ok(summary));
+    Ok(())
+}
