@@ -15,8 +15,8 @@ use Rattle.canon3.specs.declared.verdict.Verdict.{Verdict}
 use Rattle.canon3.specs.declared.verdict.Verdict.TheVariants.{Same, Differ}
 use Rattle.canon3.specs.declared.verdict.Which.{Which}
 use Rattle.canon3.specs.declared.verdict.Which.TheVariants.{First, Second}
-use Rattle.nfs3canon.specs.declared.outcome.LineFault.{LineFault}
-use Rattle.nfs3canon.specs.declared.outcome.LineFault.TheVariants as lines
+use Rattle.line3.specs.declared.asked.LineFault.{LineFault}
+use Rattle.line3.specs.declared.asked.LineFault.TheVariants as lines
 use Rattle.nfs3canon.specs.declared.outcome.Outcome.{Outcome}
 use Rattle.nfs3canon.specs.declared.outcome.Outcome.TheVariants.{Counted, Listed, Compared, Packed, Unopened, Line}
 use Rattle.nfs3canon.specs.declared.outcome.Report.{Report}

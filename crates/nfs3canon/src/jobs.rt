@@ -1,9 +1,10 @@
 // What each job does with its files.
 
-use crate::outcome::{LineFault, Outcome};
+use crate::outcome::Outcome;
 use crate::output::{OutputFile, is_same_file, unopened};
 use canon3::{SameError, Sink, ToWrite, Which, canon, check, same};
 use capture3::{Error, FromRead, Hashers};
+use line3::LineFault;
 use listing3::show;
 use packing3::Packing;
 use std::fs::File;

@@ -1,8 +1,6 @@
 // Checks, lists, compares and packs recorded NFS version 3 traffic, and brings it into a canonical form.
 #![tactic(auto)]
 
-mod command;
-mod grammar;
 mod jobs;
 mod outcome;
 mod output;
@@ -10,9 +8,9 @@ mod printed;
 #[cfg(test)]
 mod tests;
 
-use command::job;
 use jobs::{checked, compared, listed, packed, rewritten};
-use outcome::{Job, LineFault, Outcome, Report};
+use line3::{Job, LineFault, job};
+use outcome::{Outcome, Report};
 use output::is_standard_output;
 use printed::{OUTSIDE, aside, report};
 use std::alloc::AllocError;

@@ -3,10 +3,11 @@
 ghost use Rattle.std.specs.Prelude.{◌≡◌, ◌++◌, [], IfOk, OnOk, string_bytes};
 ghost use Rattle.nfs3canon.specs.Printed.{Prints, PrintsLineFault, PrintsOutcome, PrintsVerdict, counts_of, differing_at, ended_of, error_line, escaped, escaped_byte, fault_of, prefix_of, side_of, status_of, unopened_of};
 
-use crate::outcome::{LineFault, Outcome, Report};
+use crate::outcome::{Outcome, Report};
 use canon3::{Summary, Verdict, Which};
 use capture3::{Error, Fault, Place, Side};
 use hex::encode_to_slice;
+use line3::LineFault;
 use std::alloc::{AllocError, Global};
 
 /// The status of an ending that the outside brought about: a file, a device, or memory.

@@ -2,8 +2,8 @@ use Rattle.std.proofs.Common.{arith, ap, ◌≡◌, ◌≤◌, ◌∙◌, length
 use Rattle.std.proofs.lemmas.List.{length-map}
 use Rattle.clap.specs.Lexer.{usize_max}
 use Rattle.clap.specs.Words.{App, takes}
-use Rattle.nfs3canon.proofs.GrammarLemmas.{refuses}
-use Rattle.nfs3canon.proofs.command.taken.Goals as goal
+use Rattle.line3.proofs.GrammarLemmas.{refuses}
+use Rattle.line3.proofs.command.taken.Goals as goal
 
 pub returns-in-Err-try_get_matches_from : goal.returns-in-Err-try_get_matches_from
 returns-in-Err-try_get_matches_from c =

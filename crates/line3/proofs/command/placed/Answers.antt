@@ -1,8 +1,8 @@
 use Rattle.std.proofs.Common.{rules, refl, arith, IfErr, IfOk, sym, subst, map, string_bytes, ◌≡◌, length}
 use Rattle.std.proofs.lemmas.List.{length-map}
-use Rattle.nfs3canon.specs.Asked.{AreRefused, Asks}
-use Rattle.nfs3canon.proofs.LineLemmas.{four_words, many_words, no_form_so_short, three_words, told}
-use Rattle.nfs3canon.proofs.command.placed.Goals as goal
+use Rattle.line3.specs.Asked.{AreRefused, Asks}
+use Rattle.line3.proofs.LineLemmas.{four_words, many_words, no_form_so_short, three_words, told}
+use Rattle.line3.proofs.command.placed.Goals as goal
 
 pub returns-in_default-clause-refused : goal.returns-in_default-clause-refused
 returns-in_default-clause-refused c =

@@ -1,7 +1,7 @@
 use Rattle.std.proofs.Common.{arith, subst, sym, ◌∷◌, ℕ, List, [], IfErr, IfOk}
-use Rattle.nfs3canon.specs.Asked.{AreRefused, Asks}
-use Rattle.nfs3canon.proofs.LineLemmas.{told_other}
-use Rattle.nfs3canon.proofs.command.of_two_files.Goals as goal
+use Rattle.line3.specs.Asked.{AreRefused, Asks}
+use Rattle.line3.proofs.LineLemmas.{told_other}
+use Rattle.line3.proofs.command.of_two_files.Goals as goal
 
 pub returns-in-canon-clause-asked : goal.returns-in-canon-clause-asked
 returns-in-canon-clause-asked c = λ program.

@@ -1,6 +1,6 @@
 use Rattle.std.proofs.Common.{arith, ◌∷◌, []}
-use Rattle.nfs3canon.proofs.LineLemmas.{told_other}
-use Rattle.nfs3canon.proofs.command.of_one_file.Goals as goal
+use Rattle.line3.proofs.LineLemmas.{told_other}
+use Rattle.line3.proofs.command.of_one_file.Goals as goal
 
 pub returns-in_default-clause-refused : goal.returns-in_default-clause-refused
 returns-in_default-clause-refused c = λ program.

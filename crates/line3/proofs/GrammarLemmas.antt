@@ -13,10 +13,10 @@ use Rattle.clap.specs.Words.{App, Text, is_simple, takes}
 use Rattle.clap.proofs.OnLiterals.{clap_on_literals}
 use Rattle.clap.specs.declared.parser.matches.ValueSource.TheVariants.{CommandLine}
 use Rattle.clap.specs.declared.builder.value_parser.Reading.TheVariants.{AsWritten}
-use Rattle.nfs3canon.specs.declared.outcome.LineFault.{LineFault}
-use Rattle.nfs3canon.specs.declared.outcome.LineFault.TheVariants.{Usage, Odd, SameName, NotText, Memory}
-use Rattle.nfs3canon.specs.Asked.{AreFileWords, AreRefused, Form, Check, Show, Canon, Same, Pack, IsUsage, IsFileWord, IsLine, words_of}
-use Rattle.nfs3canon.specs.Grammar.{app, one_file, packing_form, two_files}
+use Rattle.line3.specs.declared.asked.LineFault.{LineFault}
+use Rattle.line3.specs.declared.asked.LineFault.TheVariants.{Usage, Odd, SameName, NotText, Memory}
+use Rattle.line3.specs.Asked.{AreFileWords, AreRefused, Form, Check, Show, Canon, Same, Pack, IsUsage, IsFileWord, IsLine, words_of}
+use Rattle.line3.specs.Grammar.{app, one_file, packing_form, two_files}
 
 pub simple : is_simple app ≡ true
 unfolding clap_on_literals

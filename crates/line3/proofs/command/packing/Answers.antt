@@ -1,7 +1,7 @@
 use Rattle.std.proofs.Common.{arith, refl, inr, ap, sym, subst, ◌≡◌, ◌≤◌, ◌∙◌, ◌%◌, ℕ, List, Contains, length, map, string_bytes}
 use Rattle.std.proofs.lemmas.List.{length-map}
-use Rattle.nfs3canon.proofs.LineLemmas.{among, not_among}
-use Rattle.nfs3canon.proofs.command.packing.Goals as goal
+use Rattle.line3.proofs.LineLemmas.{among, not_among}
+use Rattle.line3.proofs.command.packing.Goals as goal
 
 pub returns-then-contains-clause-refused : goal.returns-then-contains-clause-refused
 returns-then-contains-clause-refused c = λ program.

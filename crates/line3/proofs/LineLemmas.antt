@@ -4,9 +4,9 @@ use Rattle.std.proofs.Math.Seq.{take-length}
 use Rattle.std.specs.List.{list_any}
 use Rattle.std.specs.String.{string_eq}
 use Rattle.std.proofs.lemmas.Slice.Eq.{bytes_eq-Decides}
-use Rattle.nfs3canon.specs.declared.outcome.LineFault.{LineFault}
-use Rattle.nfs3canon.specs.declared.outcome.LineFault.TheVariants.{Usage, Odd, SameName, NotText, Memory}
-use Rattle.nfs3canon.specs.Asked.{AreRefused, IsUsage, Form, Check, Show, Canon, Same, Pack, IsLine, words_of}
+use Rattle.line3.specs.declared.asked.LineFault.{LineFault}
+use Rattle.line3.specs.declared.asked.LineFault.TheVariants.{Usage, Odd, SameName, NotText, Memory}
+use Rattle.line3.specs.Asked.{AreRefused, IsUsage, Form, Check, Show, Canon, Same, Pack, IsLine, words_of}
 
 abbrev pub tail_of : List (List ℕ) → List (List ℕ)
 tail_of [] = []

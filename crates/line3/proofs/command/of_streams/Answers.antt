@@ -1,8 +1,8 @@
 use Rattle.std.proofs.Common.{rules, arith, subst, sym, ◌≡◌, ◌≤◌, ◌∷◌, ℕ, List, IfErr, IfOk, codes, length, map, string_bytes}
 use Rattle.std.proofs.lemmas.List.{length-map}
-use Rattle.nfs3canon.specs.Asked.{AreRefused, Asks}
-use Rattle.nfs3canon.proofs.LineLemmas.{told_other}
-use Rattle.nfs3canon.proofs.command.of_streams.Goals as goal
+use Rattle.line3.specs.Asked.{AreRefused, Asks}
+use Rattle.line3.proofs.LineLemmas.{told_other}
+use Rattle.line3.proofs.command.of_streams.Goals as goal
 
 pub returns-then-eq-clause-asked : goal.returns-then-eq-clause-asked
 returns-then-eq-clause-asked c = λ program.

@@ -2,10 +2,10 @@
 
 ghost use Rattle.std.specs.Prelude.{◌≡◌, ◌≤◌, ◌∷◌, ℕ, List, [], IfErr, IfOk, codes, length, map, string_bytes};
 ghost use Rattle.clap.specs.Words.{kind_of};
-ghost use Rattle.nfs3canon.specs.Asked.{AreRefused, Asks, IsUsage};
+ghost use Rattle.line3.specs.Asked.{AreRefused, Asks, IsUsage};
 
 use crate::grammar::command;
-use crate::outcome::{Job, LineFault};
+use crate::asked::{Job, LineFault};
 use clap::error::ErrorKind;
 use std::alloc::{AllocError, Global};
 

@@ -2,7 +2,7 @@
 
 ghost use Rattle.std.specs.Prelude.{◌≡◌, IfOk, codes, false};
 ghost use Rattle.clap.specs.Words.{app_of, rule_of};
-ghost use Rattle.nfs3canon.specs.Grammar.{app, bare, file_rule, one_file, packing_form, streams_rule, two_files};
+ghost use Rattle.line3.specs.Grammar.{app, bare, file_rule, one_file, packing_form, streams_rule, two_files};
 
 use clap::{Arg, Command};
 use std::alloc::{AllocError, Global};

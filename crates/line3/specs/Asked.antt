@@ -1,10 +1,10 @@
 -- What the words of a command line ask for.
 use Rattle.std.specs.Prelude.{◌≡◌, ◌≢◌, ◌==◌, false, ◌<◌, ◌%◌, ◌⊎◌, List, [], ◌∷◌, ℕ, Contains, codes, length, map, string_bytes}
 use Rattle.std.specs.List.{All}
-use Rattle.nfs3canon.specs.declared.outcome.Job.{Job}
-use Rattle.nfs3canon.specs.declared.outcome.Job.TheVariants as jobs
-use Rattle.nfs3canon.specs.declared.outcome.LineFault.{LineFault}
-use Rattle.nfs3canon.specs.declared.outcome.LineFault.TheVariants.{Usage, Odd, SameName, NotText, Memory}
+use Rattle.line3.specs.declared.asked.Job.{Job}
+use Rattle.line3.specs.declared.asked.Job.TheVariants as jobs
+use Rattle.line3.specs.declared.asked.LineFault.{LineFault}
+use Rattle.line3.specs.declared.asked.LineFault.TheVariants.{Usage, Odd, SameName, NotText, Memory}
 
 -- the five forms of a line, with the names of its files
 pub data Form : Type 0 where

@@ -1,8 +1,8 @@
 use Rattle.std.proofs.Common.{rules, ap, ap₂, sym, refl, ◌≡◌, ◌∙◌, ◌&&◌, Bool, true, false, not}
 use Rattle.std.proofs.lemmas.Result.{IfOk-weaker}
 use Rattle.clap.specs.Words.{App, app_of, with_subcommand}
-use Rattle.nfs3canon.specs.Grammar.{bare}
-use Rattle.nfs3canon.proofs.grammar.command.Goals as goal
+use Rattle.line3.specs.Grammar.{bare}
+use Rattle.line3.proofs.grammar.command.Goals as goal
 
 both : (a b : Bool) → (a && b) ≡ true → (a ≡ true) × (b ≡ true)
 both true b e = (refl, e)
