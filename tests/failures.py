@@ -26,7 +26,6 @@ OUT_OF_MEMORY, READ_FAILED, WRITE_FAILED = 'out of memory\n', 'read failed\n', '
 BLOCK = 65_536
 # The last growths of a run are those of its line, which is not printed where one of them is refused.
 GROWTHS_OF_THE_LINE = 6
-NAMES_OUT = ('canon a out', 'canon a new', 'pack out', 'pack new')
 COMMANDS = ['check a', 'show a', 'canon a out', 'canon a /dev/stdout', 'same a a', 'pack out a a', 'pack /dev/stdout a a']
 OTHER_LINES = ['check absent', 'same a absent', 'canon a ./a', 'canon a new', 'pack new a a',
                'pack out a', 'check', 'shou a', '--help']
@@ -77,7 +76,6 @@ def growths(line, capture, place):
     place.put(capture)
     plain = place.fail(line, Fault('growth', 0))
     written, last = place.files(), plain.counts['growth']
-    opened = not line.startswith(NAMES_OUT)  # The growth for the name of OUT is told as OUT that cannot be opened.
     harmless = 0
     place.want('growths of ' + line, last > 40, True)
     for number in range(1, last + 1):
@@ -86,9 +84,6 @@ def growths(line, capture, place):
         if (answer.status, answer.out, answer.error) == (plain.status, plain.out, plain.error):
             place.want(what + ': files', place.files() == written, True)
             harmless += 1
-        elif answer.error.startswith('open failed: ') and not opened:
-            opened = True
-            place.want(what + ': files', place.files(), place.as_before())
         else:
             ran_out(place, what, answer, plain, last - number < GROWTHS_OF_THE_LINE, written)
     place.want('growths without which %s ends alike' % line, harmless <= 1 or line not in COMMANDS, True)
@@ -151,15 +146,12 @@ def writes(line, capture, place):
     pieces = {'write': WRITTEN_AT_ONCE}
     plain = place.fail(line, pieces=pieces)
     written = place.files()
-    # What `canon` has gathered of a refused capture is written last; the refusal is told also where that fails.
-    is_refused = line.startswith('canon') and plain.status == 2
     for number in range(1, plain.counts['write'] + 1):
         what = '%s with write %d ' % (line, number)
         for way, fault in (('failed', Fault('write', number)), ('on a full disk', Fault('write', number, errno.ENOSPC)),
                            ('of nothing', Fault('write', number, takes=0))):
             answer = place.fail(line, fault, pieces)
-            wanted = (2, plain.error) if is_refused else (3, WRITE_FAILED)
-            place.ended(what + way, answer, wanted[0], plain.out[:len(answer.out)], wanted[1])
+            place.ended(what + way, answer, 3, plain.out[:len(answer.out)], WRITE_FAILED)
             is_of_the_line = answer.file == 1 and not is_streamed(line)
             place.want(what + way + ': files', place.files() == (written if is_of_the_line else place.as_before()), True)
         answer = place.fail(line, Fault('write', number, takes=1), pieces)

@@ -57,7 +57,7 @@ mark_alike a b (Reply id m) none = absurd (cc)
 mark_alike a b Close none = refl
 mark_alike a b End none = refl
 
--- ---- the entry behind some
+-- ---- the entry after some
 
 pub got : (a : List Entry) (e : Entry) (more : List Entry) → slice_get (a ++ e ∷ more) (length a) ≡ Some e
 got [] e more = refl
@@ -81,7 +81,7 @@ place_there a b e f first second g =
 whole_first : (file : List ℕ) (a : List Entry) → Typed file a → AreFirst a
 whole_first file a typed = record { file = file; all = a; more = []; typed = typed; split = sym (append-nil a) }
 
--- behind a whole capture the other one has no more
+-- after a whole capture the other one has no more
 pub no_more : (file : List ℕ) (a b more : List Entry) → Typed file a → AreFirst (b ++ more) → Agree a b → more ≡ []
 no_more file a b more typed first g =
     let i = length a in

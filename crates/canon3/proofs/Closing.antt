@@ -76,7 +76,7 @@ module _ (c : Conversation) (h : AreConversing c) where
 stream_front : (l m : List (List Item)) → length (stream_of l) ≤ length (stream_of (l ++ m))
 stream_front l m = omega (arith, ap length (flat_map-append (λ (k : List Item). record_bytes (zero_spelling k)) l m), length-append (stream_of l) (stream_of m))
 
--- ---- words 0 behind the first entries
+-- ---- words 0 after the first entries
 
 -- what makes a capture of the first entries: the ends of its streams and of its connections
 abbrev closers : ℕ → List Entry
@@ -212,7 +212,7 @@ one_list file a b p q =
     let e = sym (verdict_from_typed file a p) ∙ verdict_from_typed file b q in
     cc
 
--- a file with more bytes behind it is none
+-- a file with more bytes after it is none
 no_longer : (file : List ℕ) (a b : List Entry) (byte : ℕ) (more : List ℕ) → AreBytes (file ++ byte ∷ more) → AreBytes file → Typed file a → Typed (file ++ byte ∷ more) b → ⊥
 no_longer file a b byte more whole are p q =
     let cut = is_cut_short (file ++ byte ∷ more) whole b file more byte q refl in

@@ -63,7 +63,7 @@ with_first comparison n = record { first = n; second = comparison.second; progre
 abbrev pub with_second : {S H : Type 0} → Comparison S H → Numbering S H → Comparison S H
 with_second comparison n = record { first = comparison.first; second = n; progress = comparison.progress }
 
--- the items told stand behind the values
+-- the items told stand after the values
 told : {S H : Type 0} (was now : Numbering S H) (before : Before) (items : List Item) → Adds Stands was now items → Stands was (behind before []) → Stands now (behind before items)
 unfolding Adds
 told was now before items adds stands = subst (Stands now) (sym (behind-append before [] items)) (adds (behind before []) stands)

@@ -219,7 +219,7 @@ reply_short id items p =
 
 -- ---- what begins with a word
 
--- the first item is a word, and what is behind it
+-- the first item is a word, and what is after it
 pub record BeginsWithWord (items : List Item) : Type 0 where
   pub name : List ℕ
   pub number : ℕ

@@ -34,7 +34,7 @@ weight_with : (cs : List Conversation) (c : Conversation) → total_weight (cs +
 weight_with [] c = omega arith
 weight_with (d ∷ cs) c = omega (arith, weight_with cs c)
 
--- behind whole connections, the first entries of one with these messages so far
+-- after whole connections, the first entries of one with these messages so far
 open_first : (connections : List Streams) (before : List Entry) (streams : Streams) (calls : List (List Item)) (replies : List ReplyItems) (entries rest : List Entry) → HaveEntries connections before → Converses streams calls replies
     → length connections < max_connections → total_size connections + size streams ≤ max_bytes → connection_entries calls replies ≡ entries ++ rest → AreFirst (before ++ entries)
 open_first connections before streams calls replies entries rest messages converses few small split =

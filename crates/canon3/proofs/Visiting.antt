@@ -179,7 +179,7 @@ module _ {S H : Type 0} (n : Numbering S H) (bytes : List ℕ) where
   behind_xid (inl e) b = absurd cc
   behind_xid (inr e) b = absurd cc
 
-  -- a word behind the xid
+  -- a word after the xid
   pub adds_word : (name : List ℕ) (x : ℕ) → n.stage ≢ Begins → Adds Spells n.writer bytes (Word name x ∷ []) → Adds Stands n with_writer (Word name x ∷ [])
   adds_word name x goes = adds_plain (Word name x) tt (λ before items going spelled. is_later before items spelled)
     where
@@ -254,7 +254,7 @@ module _ {S H : Type 0} where
       adds_both Stands n (with_writer n mid) (with_writer n (n.writer ++ zero_spelling (item ∷ rest))) (item ∷ []) rest (adds_field n mid field run goes (spells_on n.writer (item ∷ [])))
       (subst (λ (b : List ℕ). Adds Stands (with_writer n mid) (with_writer n b) rest) spelled (adds_fields (with_writer n mid) all (drop (width field) run) goes))
 
-  -- a run behind the xid is written as it is
+  -- a run after the xid is written as it is
   pub adds_run : (n : Numbering S H) (bytes : List ℕ) (all : List PlainField) (run : List ℕ) → n.stage ≢ Begins → Adds Spells n.writer bytes (run_items all run) → Adds Stands n (with_writer n bytes) (run_items all run)
   unfolding Adds
   adds_run n bytes all run goes write =

@@ -17,7 +17,7 @@ chunk_bytes bytes = word_bytes (length bytes) ++ bytes
 abbrev pub message_bytes : List Item → List ℕ
 message_bytes items = chunk_bytes (record_bytes (zero_spelling items))
 
--- the word 1 before a connection, the word 0 behind a stream and behind the connections
+-- the word 1 before a connection, the word 0 after a stream and after the connections
 abbrev pub entry_bytes : Entry → List ℕ
 entry_bytes Begin = word_bytes 1
 entry_bytes (Call items) = message_bytes items

@@ -62,7 +62,7 @@ pub record Agree (a b : List Entry) : Type 0 where
   pub many : length a ≡ length b
   pub bytes : bytes_of (canonical a) ≡ bytes_of (canonical b)
 
--- behind these, two entries with which the forms' bytes are not equal, and their place
+-- after these, two entries with which the forms' bytes are not equal, and their place
 pub record PartWith (a b : List Entry) (e f : Entry) (place : Place) : Type 0 where
   pub agree : Agree a b
   pub differ : bytes_of (canonical (a ++ e ∷ [])) ≢ bytes_of (canonical (b ++ f ∷ []))
@@ -104,7 +104,7 @@ IsRefused file errors.Read = Unit {0}
 IsRefused file errors.Write = Unit {0}
 IsRefused file errors.Memory = Unit {0}
 
--- all of the file was read, behind these entries
+-- all of the file was read, after these entries
 abbrev pub IsReadOut : {X : Type 0} → List ℕ → List Entry → Result X Error → Type 0
 IsReadOut file handed (Ok x) = (more : List Entry) × Typed file (handed ++ more)
 IsReadOut file handed (Err error) = IsRefused file error
@@ -121,7 +121,7 @@ module _ {R S H : Type 0} {builds : BuildHasher.Ghosts S H} {hashes : Hasher.Gho
     pub consumed : Consumes (Some file) (left reader.source.now) given
     pub stands : StandsFor left reader given handed
 
-  -- these, and more behind them
+  -- these, and more after them
   pub record HasGivenOn (handed : List Entry) : Type 0 where
     pub more : List Entry
     pub all : HasGiven (handed ++ more)

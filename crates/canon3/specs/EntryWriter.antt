@@ -51,7 +51,7 @@ module _ {T : Type 0} (form : List Entry → List ℕ) (before : List Entry → 
   HasWrittenOrCut writer old new entries (Ok x) = going writer × stands writer (before entries) × Appends old new (form entries)
   HasWrittenOrCut writer old new entries (Err error) = AppendsFront old new (form entries)
 
-  -- One entry more of a well-formed capture is written, or cut, whose items the writer was told behind those of the entries before. The sink had
+  -- One entry more of a well-formed capture is written, or cut, whose items the writer was told after those of the entries before. The sink had
   -- some bytes, and has others now.
   abbrev pub WritesOne : (was now : T) → Passed → Kind → (between new : Option (List ℕ)) → {X : Type 0} → Result X Error → Type 0
   WritesOne was now passed kind between new result =

@@ -34,7 +34,7 @@ FrontsAreDecided a b = (i : ℕ) → Same (take i a) (take i b) ↔ (bytes_of (t
 abbrev pub PartWhereFormsDo : List Entry → List Entry → Type 0
 PartWhereFormsDo a b = (i : ℕ) → bytes_of (take i (canonical a)) ≡ bytes_of (take i (canonical b)) → bytes_of (take (i + 1) (canonical a)) ≢ bytes_of (take (i + 1) (canonical b)) → PartsAt a b i
 
--- behind first entries that are the same, two entries are equal or have a place
+-- after first entries that are the same, two entries are equal or have a place
 abbrev pub HavePlaces : List Entry → List Entry → Type 0
 HavePlaces a b =
     (i : ℕ) (e f : Entry) → Same (take i a) (take i b) → slice_get a i ≡ Some e → slice_get b i ≡ Some f

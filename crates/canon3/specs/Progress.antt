@@ -10,7 +10,7 @@ use Rattle.capture3.specs.declared.entry.Kind.{Kind}
 use Rattle.capture3.specs.declared.entry.Kind.TheVariants as kinds
 use Rattle.canon3.specs.Parting.{connections, records_after}
 
--- behind these entries
+-- after these entries
 pub record HasPassed (progress : Progress) (entries : List Entry) : Type 0 where
   pub connections_are : progress.connections ≡ connections entries
   pub records_are : progress.records ≡ records_after 0 entries

@@ -25,7 +25,7 @@ use std::hash::BuildHasher;
 /// # Errors
 ///
 /// `Refused` with the first fault of the first capture that is not well formed, `Read` where a read failed,
-/// and `Memory` where none was to be had; never `Write`.
+/// and `Memory` where it ran out; never `Write`.
 pub fn same<A: Source, B: Source, S: BuildHasher + Drop>(
     alloc: Global,
     first_hashers: Hashers<S>,
@@ -72,7 +72,7 @@ pub fn same<A: Source, B: Source, S: BuildHasher + Drop>(
     result
 }
 
-/// No memory was to be had for this one.
+/// Memory ran out for this one.
 fn wanting(which: Which) -> SameError
     ensures which { result.which ≡ which }
     ensures error { result.error ≡ Error.Memory }

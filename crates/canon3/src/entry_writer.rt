@@ -36,7 +36,7 @@ pub trait EntryWriter: Visit {
     ///
     /// # Errors
     ///
-    /// `Write` where a write failed, and `Memory` where none was to be had: a front of the form is
+    /// `Write` where a write failed, and `Memory` where it ran out: a front of the form is
     /// written, and nothing can follow.
     fn write<W: Sink>(&mut self, passed: &Passed, sink: &mut W, kind: Kind) -> Result<(), Error>
         requires { passed_steps passed.now + 1 < 2 ^ 32 }
@@ -59,7 +59,7 @@ pub trait EntryWriter: Visit {
 ///
 /// `Refused` with the first fault of a capture that is not well formed, and `Read` where a read failed:
 /// the form of the entries before it is written whole. `Write` where a write or the flush failed, and
-/// `Memory` where none was to be had: a front of the form is written. After an error nothing is flushed.
+/// `Memory` where it ran out: a front of the form is written. After an error nothing is flushed.
 pub fn write_entries<R: Source, W: Sink, E: EntryWriter, S: BuildHasher + Drop>(
     alloc: Global,
     hasher: S,

@@ -20,9 +20,9 @@ use xdr3::{PlainField, Visit, Writer};
 pub(crate) enum Stage {
     /// At its xid.
     Begins,
-    /// Behind its xid.
+    /// After its xid.
     Goes,
-    /// No memory was to be had, and the tables may have more than was written.
+    /// Memory ran out, and the tables may have more than was written.
     Failed,
 }
 
@@ -83,7 +83,7 @@ impl<S: BuildHasher + Drop> Numbering<S> {
         self.stage = Stage::Begins;
     }
 
-    /// Fails where no memory was to be had for a value. Then nothing can follow.
+    /// Fails where memory ran out for a value. Then nothing can follow.
     pub(crate) fn unless_failed(&self) -> Result<(), AllocError>
         ensures { OnOk result (IsGoing self.now) }
     {

@@ -33,7 +33,7 @@ use std::hash::BuildHasher;
 ///
 /// `Refused` with the first fault of a capture that is not well formed, and `Read` where a read failed:
 /// the form of the entries before it is written whole. `Write` where a write or the flush failed, and
-/// `Memory` where none was to be had: a front of the form is written. After an error nothing is flushed.
+/// `Memory` where it ran out: a front of the form is written. After an error nothing is flushed.
 pub fn canon<R: Source, W: Sink, S: BuildHasher + Drop>(
     alloc: Global,
     hashers: Hashers<S>,

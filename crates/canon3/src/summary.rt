@@ -34,7 +34,7 @@ pub struct Summary {
 /// # Errors
 ///
 /// `Refused` with the first fault of a capture that is not well formed, `Read` where a read failed, and
-/// `Memory` where none was to be had; never `Write`.
+/// `Memory` where it ran out; never `Write`.
 pub fn check<R: Source, S: BuildHasher + Drop>(
     alloc: Global,
     hashers: Hashers<S>,

@@ -94,7 +94,7 @@ fn a_record_in_one_chunk(rt: HostRuntime) -> Result<(), Fail> {
     Ok(())
 }
 
-// A COMMIT call and its reply, from its xid, its file handle behind its length, and its verifier.
+// A COMMIT call and its reply, from its xid, its file handle after its length, and its verifier.
 fn commit(
     alloc: Global,
     xid: [u8; 4],

@@ -159,7 +159,7 @@ not_same a b other = go (is_same a b) refl
 started : (body : List ℕ) (xid mtype : ℕ) {A : Type 0} (behind : List Item × ℕ → Result A Stop) → Starts body xid mtype → (to : ℕ) × ((reading message_start body 0 >>= behind) ≡ behind (start_of xid mtype, to))
 started body xid mtype behind s = let r = start_read body xid mtype s in (r.0, ap (λ x. x >>= behind) r.1)
 
--- behind the start of a call it is the whole that is judged
+-- after the start of a call it is the whole that is judged
 as_call : (before : List (List Item)) (body : List ℕ) (xid : ℕ) → Starts body xid 0 → judge_call before body ≡ (read_whole (call_layout arguments_of) body >>= agreed before)
 unfolding judge_call
 as_call before body xid s = (started body xid 0 (call_behind before body) s).1
@@ -251,7 +251,7 @@ the_calls = record {
 
 -- ---- the server stream
 
--- behind the start of a reply it is the answer to a call with its xid that is judged
+-- after the start of a reply it is the answer to a call with its xid that is judged
 as_reply : (calls : List (List Item)) (body : List ℕ) (xid : ℕ) → Starts body xid 1 → judge_reply calls body ≡ answering body (procedure_of calls xid)
 unfolding judge_reply
 as_reply calls body xid s = (started body xid 1 (reply_behind calls body) s).1
@@ -268,7 +268,7 @@ judges_call calls body xid to e = ap (λ x. x >>= reply_behind calls body) e
 abbrev pub replying : ProcId → Result (List Item) Stop → Result ReplyItems Stop
 replying id r = r >>= λ items. Ok (record { id = id; items = items })
 
--- behind the start of a reply to a call of this procedure it is the whole that is judged
+-- after the start of a reply to a call of this procedure it is the whole that is judged
 as_answer : (calls : List (List Item)) (body : List ℕ) (xid : ℕ) (id : ProcId) → Starts body xid 1 → procedure_of calls xid ≡ Some id → judge_reply calls body ≡ replying id (read_whole (reply_layout (results_of id)) body)
 as_answer calls body xid id s known = as_reply calls body xid s ∙ ap (answering body) known
 

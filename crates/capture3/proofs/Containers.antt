@@ -117,7 +117,7 @@ rest_is bytes n =
     let all : length (drop n bytes) ≤ length bytes - n = omega arith in
     take_all (length bytes - n) (drop n bytes) all
 
--- the run behind a front of the bytes, and some of the bytes at hand
+-- the run after a front of the bytes, and some of the bytes at hand
 pub piece_more : {S F : Type 0} (next : S → ℕ → Next S F) (from : Run S F) (bytes : List ℕ) (n m : ℕ)
     → after next from (take (n + m) bytes) ≡ after next (after next from (take n bytes)) (take m (take (length bytes - n) (drop n bytes)))
 piece_more next from bytes n m =

@@ -38,7 +38,7 @@ reached_without : (bytes : List ℕ) (v : Result (List Entry) Fault) → verdict
 reached_without bytes (Ok entries) e are bad = absurd (bad (entries, typed_from_verdict bytes entries are e))
 reached_without bytes (Err fault) e are bad = ap (λ v. unwrap_or (result_ok v) (emitted (last_running file_next file_start bytes) ++ last_entries (parsed bytes))) e
 
--- behind the longest clean prefix
+-- after the longest clean prefix
 longest_is : (bytes front : List ℕ) (s : Parsing) (more : List Entry) → (h : IsLongestClean bytes front more) → AreBytes bytes → parsed front ≡ Runs s
     → (last_running file_next s h.rest ≡ s) × (last_entries (parsed bytes) ≡ more)
 longest_is bytes front s more h are e = go h.longest

@@ -42,7 +42,7 @@ ending_ends : (calls : List (List Item)) (x : SideEnd ReplyItems) → RefusedSid
 ending_ends calls (SideCloses at total messages) h = absurd h
 ending_ends calls (SideRefuses fault) h = (Refuses (refusal fault), tt, refl)
 
--- behind the client stream
+-- after the client stream
 abbrev Turned : Context → List ℕ → List ℕ → Run Opening Closing → Type 0
 Turned context front client run =
     ((calls : List (List Item)) × (after (stream_next judge_call) (Runs unread) client ≡ Runs (record { messages = calls; joining = Between })) × (run ≡ Runs (InServer calls (siding_from (context.start + length front) (context.before + length client))))) ⊎ Gone RefusedClosing run
@@ -168,7 +168,7 @@ begins_or version at total number entries word is = go (nat_lt number max_connec
         inr (mark_runs version at total number entries word 1 is
         ∙ ap (λ b. landed (cond b (Goes (inside_at version (at + 4) total (suc number) entries (opened version (at + 4) total))) (Ends (refusal (file_fault at TooManyConnections))))) e)
 
--- behind whole connections
+-- after whole connections
 abbrev pub Marked : Version → ℕ → ℕ → ℕ → Run Parsing Refusal → Type 0
 Marked version end sum count run = ((entries : List Entry) × (run ≡ Runs (at_mark version end sum count entries))) ⊎ Gone AnyRefusal run
 
@@ -217,7 +217,7 @@ connections_or version (streams ∷ connections) at total number end sum count e
     go (inl r) rest = subst (λ run. Marked version end sum count (after file_next run h.1)) (sym r.1) (rest r.0)
     go (inr gone) rest = inr (gone_more file_next AnyRefusal (after file_next (Runs (at_mark version at total number entries)) h.0) h.1 gone)
 
--- behind the magic and whole connections
+-- after the magic and whole connections
 begun_or : (bytes : List ℕ) (b : BehindConnections bytes) → Marked b.version (length b.front) (total_size b.connections) (length b.connections) (parsed b.front)
 begun_or bytes b =
     subst (Marked b.version (length b.front) (total_size b.connections) (length b.connections))
@@ -228,7 +228,7 @@ begun_or bytes b =
 file_steps : (bytes front last : List ℕ) → bytes ≡ front ++ last → parsed bytes ≡ after file_next (parsed front) last
 file_steps bytes front last split = ap parsed split ∙ after-append file_next (Runs file_start) front last
 
--- what comes behind whole connections, from where the machine stands
+-- what comes after whole connections, from where the machine stands
 behind_over : (bytes : List ℕ) (b : BehindConnections bytes) (shown : Refusal) → 0 < length (b.word ++ b.rest)
     → ((entries : List Entry) → Over AnyRefusal (after file_next (Runs (at_mark b.version (length b.front) (total_size b.connections) (length b.connections) entries)) (b.word ++ b.rest)) shown)
     → Over AnyRefusal (parsed bytes) shown
@@ -241,7 +241,7 @@ behind_over bytes b shown some on = subst (λ run. Over AnyRefusal run shown) (s
 words_some : (word rest : List ℕ) (n : ℕ) → IsWord word n → 0 < length (word ++ rest)
 words_some word rest n is = omega (arith, length-append word rest, is.0)
 
--- where nothing comes behind the word
+-- where nothing comes after the word
 at_word : (version : Version) (at total number : ℕ) (entries : List Entry) (word rest : List ℕ) (mark n : ℕ) → IsWord word mark → rest ≡ [] → mark ≡ n
     → after file_next (Runs (at_mark version at total number entries)) (word ++ rest) ≡ landed (marked version at total number entries n)
 at_word version at total number entries word rest mark n is none same =

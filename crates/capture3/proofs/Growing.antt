@@ -1,4 +1,4 @@
--- What is whole stays whole, whatever bytes come: the machine adds entries behind those that it has emitted.
+-- What is whole stays whole, whatever bytes come: the machine adds entries after those that it has emitted.
 use Rattle.std.proofs.Common.{◌≡◌, ℕ, List, [], ◌∷◌, ◌++◌, Result, Ok, Err, refl, sym, ap, subst, ◌∙◌, append_assoc, append-nil}
 use Rattle.xdr3.specs.declared.reason.Stop.{Stop}
 use Rattle.xdr3.specs.Item.{Item}
@@ -35,11 +35,11 @@ emitted_here u j = emitted_is u.at u.total u.connections u.joining u.opened j
 
 -- ---- along any bytes
 
--- behind these entries, those of a state
+-- after these entries, those of a state
 abbrev pub Adds : List Entry → Parsing → Type 0
 Adds base s = (more : List Entry) × (emitted s ≡ base ++ more)
 
--- the last state along the bytes, behind one byte more
+-- the last state along the bytes, after one byte more
 abbrev pub last_behind : Parsing → List ℕ → Next Parsing Refusal → Parsing
 last_behind old bytes n = elim n [ Goes t ↦ last_running file_next t bytes | Ends x ↦ old ]
 

@@ -82,7 +82,7 @@ kind_held (kinds.Reply id) t entry (items, whole, is_reply, is) = (items, is)
 kind_held kinds.Close t entry is = is
 kind_held kinds.End t entry is = is
 
--- ---- behind bytes that the machine has taken
+-- ---- after bytes that the machine has taken
 
 module _ (bytes : List ℕ) (p : Position) (t : Taking) (table : List NumberedCall) (model : List Entry) (are : AreBytes bytes) (s : StandsAt p t table (parsed bytes) model) where
   state : Parsing

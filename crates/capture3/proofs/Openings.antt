@@ -21,7 +21,7 @@ use Rattle.capture3.proofs.BytesOf.{split_bytes}
 use Rattle.capture3.proofs.Converses.{conversed, calls_hold, replies_hold}
 use Rattle.capture3.proofs.Sides.{HasSide, EndsSide, side_leads, nothing_taken, side_runs, side_stops}
 
--- behind the client side
+-- after the client side
 pub record InServerSide (context : Context) (bytes : List ℕ) (calls : List (List Item)) (s : Siding ReplyItems) : Type 0 where
   pub front : List ℕ
   pub last : List ℕ
@@ -105,7 +105,7 @@ client_stops : (context : Context) (bytes : List ℕ) (x : SideEnd (List Item)) 
 client_stops context bytes x h =
     nested_stops (side_next judge_call (place_at context.number Client)) (opening_next context.number) InClient turning (λ s byte. refl) bytes (siding_from context.start context.before) x (side_stops the_calls (client_position context) bytes x h)
 
--- behind the client side
+-- after the client side
 turned : (context : Context) (bytes front last client : List ℕ) (calls : List (List Item)) → bytes ≡ front ++ last → IsStream front client → Holds calls_in_turn client calls → context.before + length client ≤ max_bytes
     → after (opening_next context.number) (Runs (opened One context.start context.before)) bytes ≡ after (opening_next context.number) (Runs (InServer calls (siding_from (context.start + length front) (context.before + length client)))) last
 turned context bytes front last client calls split first holds fits =

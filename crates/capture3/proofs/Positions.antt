@@ -104,7 +104,7 @@ pub ruleset words_lead = (marked_bad, marked_one, marked_many, counted_over, cou
 
 -- ---- the magic
 
--- behind so many bytes of the magic
+-- after so many bytes of the magic
 abbrev pub in_magic : Position → Joining → ℕ → Unpacking
 in_magic p joining n = record { at = n; total = p.total; connections = p.connections; records = p.records; opened = left_of_magic (drop n MAGIC); joining = joining }
 

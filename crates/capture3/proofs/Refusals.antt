@@ -26,7 +26,7 @@ use Rattle.capture3.proofs.Verdicts.{clean_from_runs, shows_from_stops, stays, t
 
 -- ---- a fault
 
--- behind bytes that the machine runs through, a byte shows a fault: it is the first of all bytes, and these reach what was whole before it
+-- after bytes that the machine runs through, a byte shows a fault: it is the first of all bytes, and these reach what was whole before it
 module _ (front : List ℕ) (byte : ℕ) (back : List ℕ) (state : Parsing) (fault : Fault) (are : AreBytes (front ++ byte ∷ [])) (runs : parsed front ≡ Runs state) (ends : parsed (front ++ byte ∷ []) ≡ Stops (refusal fault)) where
   split_here : front ++ byte ∷ back ≡ (front ++ byte ∷ []) ++ back
   split_here = sym (append_assoc front (byte ∷ []) back)
@@ -55,7 +55,7 @@ module _ (front : List ℕ) (byte : ℕ) (back : List ℕ) (state : Parsing) (fa
     sym (append-nil (emitted state)),
   )
 
--- whatever comes behind the bytes
+-- whatever comes after the bytes
 pub refused_behind : (front piece rest : List ℕ) (handed : List Entry) (fault : Fault) → AreBytes (front ++ piece) → ShowsWithin (parsed front) handed piece fault
     → FirstFault ((front ++ piece) ++ rest) fault × Reached ((front ++ piece) ++ rest) handed
 refused_behind front piece rest handed fault are h =
@@ -86,7 +86,7 @@ ended_behind entries size Ended all e =
 last_is : (bytes : List ℕ) (s : Parsing) → parsed bytes ≡ Runs s → last_running file_next file_start bytes ≡ s
 last_is bytes s runs = ap (last_running file_next file_start) (sym (append-nil bytes)) ∙ last_running-append file_next file_start s bytes [] runs
 
--- whatever bytes come behind those that it has taken, what the machine has emitted are the first entries that all reach
+-- whatever bytes come after those that it has taken, what the machine has emitted are the first entries that all reach
 module _ (front back : List ℕ) (p : Position) (t : Taking) (table : List NumberedCall) (model : List Entry) (are : AreBytes (front ++ back)) (at : StandsAt p t table (parsed front) model) where
   last_state : Parsing
   last_state = last_running file_next file_start (front ++ back)

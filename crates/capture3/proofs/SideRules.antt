@@ -26,7 +26,7 @@ use Rattle.capture3.proofs.Streams.{record_closes, stream_stops}
 abbrev pub AnyFault : RecordFault → Type 0
 AnyFault fault = Unit {0}
 
--- behind so many records
+-- after so many records
 abbrev pub Recorded : {M : Type 0} → ℕ → Run (Reading M) RecordFault → Type 0
 Recorded {M} n run = ((messages : List M) × (length messages ≡ n) × (run ≡ Runs (record { messages = messages; joining = Between }))) ⊎ Gone AnyFault run
 
@@ -72,7 +72,7 @@ open_in : (last body : List ℕ) → IsOpen last body → (j : Joining) × IsIn 
 open_in last body (inl o) = (Header body o.0, refl, joining_runs last (Header body o.0) o.1)
 open_in last body (inr o) = (Bytes body o.0 o.1, refl, joining_runs last (Bytes body o.0 o.1) o.2)
 
--- behind a stream that is cut, a record is open
+-- after a stream that is cut, a record is open
 abbrev Opened : {M : Type 0} → ℕ → List ℕ → Run (Reading M) RecordFault → Type 0
 Opened {M} n body run = ((messages : List M) × (j : Joining) × (length messages ≡ n) × IsIn body j × (run ≡ Runs (record { messages = messages; joining = j }))) ⊎ Gone AnyFault run
 
@@ -113,7 +113,7 @@ header_or {M} judge position at total (suc left) r header word some = go (nat_lt
         ∙ ap (λ b. landed (cond b (Ends (SideRefuses (file_fault at TooManyBytes))) (Goes (record { at = at + 4 + suc left; total = total + suc left; reading = r; point = Chunk left })))) e)
     go false e = inl (ltb-false max_bytes (total + suc left) e)
 
--- behind a chunk's length word and some of its bytes
+-- after a chunk's length word and some of its bytes
 abbrev InsideChunk : {M : Type 0} → Judged M → Position → ℕ → ℕ → Reading M → List ℕ → ℕ → Run (Siding M) (SideEnd M) → Type 0
 InsideChunk {M} judge position at total r got left run =
     ((t : Reading M) × (total + (length got + left) ≤ max_bytes) × (after (stream_next judge.decide) (Runs r) got ≡ Runs t) × (run ≡ Runs (record { at = at + 4 + (length got + left); total = total + (length got + left); reading = t; point = awaiting left }))) ⊎ Gone RefusedSide run
@@ -141,7 +141,7 @@ chunk_or {M} judge position at total r header got left word some = go (header_or
         inr (subst (λ run. Gone RefusedSide run) (sym (after-append (side_next judge.decide (place_in position)) (Runs (at_length at total r)) header got))
         (gone_more (side_next judge.decide (place_in position)) RefusedSide (after (side_next judge.decide (place_in position)) (Runs (at_length at total r)) header) got (SideRefuses (file_fault at TooManyBytes), tt, inl stops)))
 
--- behind whole chunks
+-- after whole chunks
 abbrev pub BehindChunks : {M : Type 0} → Judged M → Reading M → List ℕ → ℕ → ℕ → Run (Siding M) (SideEnd M) → Type 0
 BehindChunks {M} judge r stream end sum run = ((t : Reading M) × (after (stream_next judge.decide) (Runs r) stream ≡ Runs t) × (run ≡ Runs (at_length end sum t))) ⊎ Gone RefusedSide run
 

@@ -20,7 +20,7 @@ use Rattle.capture3.proofs.BytesOf.{split_bytes, AreBytes-append, chunk_bytes}
 use Rattle.capture3.proofs.Judged.{Judged}
 use Rattle.capture3.proofs.Streams.{HasRead, stream_leads, nothing_read, stream_runs, stream_stops, has_read, holds_so_far}
 
--- in a length word behind whole chunks
+-- in a length word after whole chunks
 pub record InLength {M : Type 0} (judge : Judgement M) (position : Position) (bytes : List ℕ) (at total : ℕ) (reading : Reading M) (part : List ℕ) : Type 0 where
   pub front : List ℕ
   pub stream : List ℕ
@@ -32,7 +32,7 @@ pub record InLength {M : Type 0} (judge : Judgement M) (position : Position) (by
   pub total_is : total ≡ position.before + length stream
   pub fits : total ≤ max_bytes
 
--- in a chunk's bytes, behind got
+-- in a chunk's bytes, after got
 pub record InChunk {M : Type 0} (judge : Judgement M) (position : Position) (bytes : List ℕ) (at total : ℕ) (reading : Reading M) (left : ℕ) : Type 0 where
   pub front : List ℕ
   pub stream : List ℕ
@@ -278,7 +278,7 @@ chunks_run judge position (chunk ∷ chunks) at total end sum r t front h e fits
     (sym (after-append (stream_next judge.decide) (Runs r) chunk (concat chunks) ∙ ap (λ run. after (stream_next judge.decide) run (concat chunks)) mid.1) ∙ e)
     (omega arith) (omega (arith, ap length h.2, length-append h.0 h.1, ap length h.3.split, length-append h.3.header chunk, h.3.word.0)) (omega arith)
 
--- behind whole chunks
+-- after whole chunks
 stream_front : {M : Type 0} (judge : Judged M) (position : Position) (front stream : List ℕ) (reading : Reading M) (at total : ℕ) → AreChunks front stream → after (stream_next judge.decide) (Runs unread) stream ≡ Runs reading → position.before + length stream ≤ max_bytes
     → at ≡ position.start + length front → total ≡ position.before + length stream
     → after (side_next judge.decide (place_in position)) (Runs (side_start position)) front ≡ Runs (record { at = at; total = total; reading = reading; point = Length [] })

@@ -29,7 +29,7 @@ pub record PassesLimit {M : Type 0} (judge : Judgement M) (stream : List ℕ) (f
 abbrev pub StreamShows : {M : Type 0} → Judgement M → List ℕ → RecordFault → Type 0
 StreamShows judge stream fault = RefusesRecord judge stream fault ⊎ PassesLimit judge stream fault
 
--- the stream ends while a record is open: RecordCut, behind as many bytes of its body as have come
+-- the stream ends while a record is open: RecordCut, after as many bytes of its body as have come
 pub record IsCut {M : Type 0} (judge : Judgement M) (stream : List ℕ) (fault : RecordFault) : Type 0 where
   pub front : List ℕ
   pub last : List ℕ
@@ -84,7 +84,7 @@ pub record ShowsRecord {M : Type 0} (judge : Judgement M) (position : Position) 
 abbrev pub SideShows : {M : Type 0} → Judgement M → Position → List ℕ → Fault → Type 0
 SideShows judge position bytes fault = PassesBytes judge position bytes fault ⊎ CutsRecord judge position bytes fault ⊎ ShowsRecord judge position bytes fault
 
--- a fault in the server side, behind the client side with these calls
+-- a fault in the server side, after the client side with these calls
 pub record ServerShows (context : Context) (bytes : List ℕ) (fault : Fault) : Type 0 where
   pub front : List ℕ
   pub last : List ℕ
@@ -100,7 +100,7 @@ pub record ServerShows (context : Context) (bytes : List ℕ) (fault : Fault) : 
 abbrev pub ConnectionShows : Version → Context → List ℕ → Refusal → Type 0
 ConnectionShows One context bytes shown = (shown ≡ refusal shown.fault) × (SideShows calls_in_turn (client_position context) bytes shown.fault ⊎ ServerShows context bytes shown.fault)
 
--- whole connections, a connection word, and what comes behind it
+-- whole connections, a connection word, and what comes after it
 pub record BehindConnections (bytes : List ℕ) : Type 0 where
   pub version : Version
   pub front : List ℕ

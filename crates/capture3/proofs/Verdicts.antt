@@ -163,7 +163,7 @@ verdict_cases file (Err fault) are e =
 pub one_verdict : (file : List ℕ) → AreBytes file → HasOneVerdict file
 one_verdict file are = verdict_cases file (verdict file) are refl
 
--- behind the last word 0 no byte stands
+-- after the last word 0 no byte stands
 not_ended : (version ending : Version) (front more : List ℕ) (byte at total count n m k : ℕ) (entries others : List Entry) (spot : Spot) → parsed front ≡ Runs (record { version = version; at = at; total = total; number = count; entries = entries; spot = spot })
     → parsed (front ++ byte ∷ more) ≡ Runs (record { version = ending; at = n; total = m; number = k; entries = others; spot = Ended }) → concluded (length front) entries spot ≡ Err (file_fault (length front) CaptureCut)
 not_ended version ending front more byte at total count n m k entries others (Magic due left) e h = refl

@@ -46,7 +46,7 @@ pub record LeavesMore (layout : Layout) (body : List ℕ) (stop : Stop) : Type 0
   pub at_is : length body ≡ stop.at + length left
   pub reason_is : stop.reason ≡ Trailing
 
--- ---- the client stream, behind the items of the connection's calls before
+-- ---- the client stream, after the items of the connection's calls before
 
 -- a call whose xid no call before has with another procedure
 abbrev pub AcceptsCall : List (List Item) → List ℕ → List Item → Type 0
@@ -60,13 +60,13 @@ pub data RefusesCall (before : List (List Item)) (body : List ℕ) (stop : Stop)
   AReply : (xid : ℕ) → Starts body xid 1 → stop ≡ record { at = 4; reason = WrongSide } → RefusesCall before body stop
   -- an item of the call, from left to right
   BadCall : (xid : ℕ) → Starts body xid 0 → RefusesLayout (call_layout arguments_of) body stop.at stop.reason → RefusesCall before body stop
-  -- bytes are left over behind the call
+  -- bytes are left over after the call
   LongCall : (xid : ℕ) → Starts body xid 0 → LeavesMore (call_layout arguments_of) body stop → RefusesCall before body stop
   -- a call before it has its xid and another procedure
   OtherCall : (items : List Item) (id : ProcId) → IsCall body items → procedure_of before (xid_in items) ≡ Some id → id ≢ procedure_in items
       → stop ≡ record { at = 0; reason = XidConflict } → RefusesCall before body stop
 
--- ---- the server stream, behind the items of all calls of the connection
+-- ---- the server stream, after the items of all calls of the connection
 
 -- a reply to a call with its xid
 abbrev pub AcceptsReply : List (List Item) → List ℕ → ReplyItems → Type 0
@@ -83,5 +83,5 @@ pub data RefusesReply (calls : List (List Item)) (body : List ℕ) (stop : Stop)
   -- an item of the reply, from left to right
   BadReply : (xid : ℕ) (id : ProcId) → Starts body xid 1 → procedure_of calls xid ≡ Some id → RefusesLayout (reply_layout (results_of id)) body stop.at stop.reason
       → RefusesReply calls body stop
-  -- bytes are left over behind the reply
+  -- bytes are left over after the reply
   LongReply : (xid : ℕ) (id : ProcId) → Starts body xid 1 → procedure_of calls xid ≡ Some id → LeavesMore (reply_layout (results_of id)) body stop → RefusesReply calls body stop

@@ -10,7 +10,7 @@ pub data Version : Type 0 where
 abbrev pub magic_front : List ℕ
 magic_front = 78 ∷ 70 ∷ 83 ∷ 51 ∷ 67 ∷ 65 ∷ 80 ∷ []
 
--- the byte behind them: the character 1
+-- the byte after them: the character 1
 abbrev pub digit : Version → ℕ
 digit One = 49
 

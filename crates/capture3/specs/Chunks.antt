@@ -28,7 +28,7 @@ pub record IsStream (bytes stream : List ℕ) : Type 0 where
   pub chunks : AreChunks front stream
   pub closes : IsWord last 0
 
--- whole chunks within the limit, behind so many stream bytes before, and a part of a length word that is not whole
+-- whole chunks within the limit, after so many stream bytes before, and a part of a length word that is not whole
 pub record BetweenChunks (before : ℕ) (bytes stream : List ℕ) : Type 0 where
   pub front : List ℕ
   pub part : List ℕ
@@ -37,7 +37,7 @@ pub record BetweenChunks (before : ℕ) (bytes stream : List ℕ) : Type 0 where
   pub short : length part < 4
   pub fits : before + length stream ≤ max_bytes
 
--- the same, and a length word within the limit with fewer bytes behind it than it says
+-- the same, and a length word within the limit with fewer bytes after it than it says
 pub record WithinChunk (before : ℕ) (bytes stream : List ℕ) : Type 0 where
   pub front : List ℕ
   pub header : List ℕ

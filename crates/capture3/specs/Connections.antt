@@ -18,7 +18,7 @@ calls_in_turn = record { accepts = AcceptsCall; refuses = RefusesCall }
 abbrev pub replies_to : List (List Item) → Judgement ReplyItems
 replies_to calls = record { accepts = λ _. AcceptsReply calls; refuses = λ _. RefusesReply calls }
 
--- where a connection stands: its number, the file's byte behind its word 1, and the capture's stream bytes before it
+-- where a connection stands: its number, the file's byte after its word 1, and the capture's stream bytes before it
 pub record Context : Type 0 where
   pub number : ℕ
   pub start : ℕ
@@ -27,7 +27,7 @@ pub record Context : Type 0 where
 abbrev pub client_position : Context → Position
 client_position context = record { connection = context.number; side = Client; start = context.start; before = context.before }
 
--- behind the bytes of the client stream in the file, which carry `client`
+-- after the bytes of the client stream in the file, which carry `client`
 abbrev pub server_position : Context → List ℕ → List ℕ → Position
 server_position context front client = record { connection = context.number; side = Server; start = context.start + length front; before = context.before + length client }
 
@@ -39,7 +39,7 @@ pub record Refusal : Type 0 where
 abbrev pub refusal : Fault → Refusal
 refusal fault = record { fault = fault; more = [] }
 
--- a fault in the server side, behind the client side with these calls
+-- a fault in the server side, after the client side with these calls
 pub record ServerShows (context : Context) (bytes : List ℕ) (fault : Fault) : Type 0 where
   pub front : List ℕ
   pub last : List ℕ

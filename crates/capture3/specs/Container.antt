@@ -20,7 +20,7 @@ Leaves _ taking = IsRunning taking
 abbrev pub unpacking_of : Position → Taking → Unpacking
 unpacking_of position taking = unpacking_at position (joining_of taking)
 
--- Where the machine is: it goes on, or something is whole. Behind a record the next one has not begun.
+-- Where the machine is: it goes on, or something is whole. After a record the next one has not begun.
 abbrev pub arrived : Option Event → Position → Taking → Run Unpacking Unpacked
 arrived None position taking = Runs (unpacking_of position taking)
 arrived (Some Begin) position taking = Stops (Has Begin [] (unpacking_of position taking))
@@ -32,7 +32,7 @@ arrived (Some Close) position taking = Stops (Has Close [] (unpacking_of positio
 abbrev pub Arrives : Unpacking → List ℕ → Option Event → Position → Taking → Type 0
 Arrives from bytes event position taking = after unpack_next (Runs from) bytes ≡ arrived event position taking
 
--- the fault is shown, unless it is want of memory
+-- the fault is shown, unless memory ran out
 abbrev pub Fails : Unpacking → List ℕ → Error → Type 0
 Fails from bytes errors.Memory = Unit {0}
 Fails from bytes error = ShowsFault from bytes error

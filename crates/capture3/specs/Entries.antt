@@ -90,7 +90,7 @@ module _ {R S H : Type 0} {builds : BuildHasher.Ghosts S H} {hashes : Hasher.Gho
   abbrev pub unjudged : Entries R S H builds hashes → List ℕ
   unjudged entries = slice_range entries.block.items entries.start entries.end
 
-  -- the machine for a capture file stands behind the bytes judged, and has emitted what was handed out
+  -- the machine for a capture file stands after the bytes judged, and has emitted what was handed out
   pub record IsReading (entries : Entries R S H builds hashes) (given : List ℕ) (handed : List Entry) : Type 0 where
     pub judged : List ℕ
     pub split : given ≡ judged ++ unjudged entries

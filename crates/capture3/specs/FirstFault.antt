@@ -20,7 +20,7 @@ pub record DiffersFromMagic (bytes : List ℕ) (fault : Fault) : Type 0 where
   pub differs : (other : Version) (expected : ℕ) (rest : List ℕ) → magic other ≡ front ++ expected ∷ rest → byte ≢ expected
   pub is : fault ≡ file_fault (length front) BadMagic
 
--- the magic, whole connections, a connection word, and what comes behind it
+-- the magic, whole connections, a connection word, and what comes after it
 pub record BehindConnections (bytes : List ℕ) : Type 0 where
   pub version : Version
   pub front : List ℕ

@@ -49,7 +49,7 @@ met (Record side) position taking = Has (Record side) (body_of taking) (unpackin
 met Turn position taking = Has Turn [] (unpacking_of position taking)
 met Close position taking = Has Close [] (unpacking_of position taking)
 
--- the last byte of the run made this whole, behind these entries
+-- the last byte of the run made this whole, after these entries
 pub record HasMet (position : Position) (taking : Taking) (table : List NumberedCall) (event : Event) (run : Run Parsing Refusal) (entries : List Entry) : Type 0 where
   pub so_far : Judged
   pub agrees : AgreesOn so_far (Ends (met event position taking))
@@ -136,7 +136,7 @@ RefusesBody position side judged (errors.Refused fault) =
 RefusesBody position side judged errors.Memory = Unit {0}
 RefusesBody position side judged _ = ⊥
 
--- the fault of the record that became whole last, or want of memory
+-- the fault of the record that became whole last, or that memory ran out
 abbrev pub error_at : Position → Side → GetError → Error
 error_at position side (gets.Stop stop) = errors.Refused (record { place = places.Record position.connections side position.records stop.at; reason = stop.reason })
 error_at position side gets.Memory = errors.Memory

@@ -33,7 +33,7 @@ agreed before items = if agrees (procedure_of before (xid_in items)) (procedure_
 abbrev pub call_behind : List (List Item) → List ℕ → List Item × ℕ → Result (List Item) Stop
 call_behind before body start = if word_in start.0 1 == 0 then (read_whole (call_layout arguments_of) body >>= agreed before) else refused 4 WrongSide
 
--- a body of the client stream, behind the calls before it
+-- a body of the client stream, after the calls before it
 unfoldable pub judge_call : List (List Item) → List ℕ → Result (List Item) Stop
 judge_call before body = reading message_start body 0 >>= call_behind before body
 
@@ -44,6 +44,6 @@ answering body (Some id) = read_whole (reply_layout (results_of id)) body >>= λ
 abbrev pub reply_behind : List (List Item) → List ℕ → List Item × ℕ → Result ReplyItems Stop
 reply_behind calls body start = if word_in start.0 1 == 0 then refused 4 WrongSide else answering body (procedure_of calls (word_in start.0 0))
 
--- a body of the server stream, behind all calls of its connection
+-- a body of the server stream, after all calls of its connection
 unfoldable pub judge_reply : List (List Item) → List ℕ → Result ReplyItems Stop
 judge_reply calls body = reading message_start body 0 >>= reply_behind calls body

@@ -1,4 +1,4 @@
--- The machine for one connection, behind its word 1.
+-- The machine for one connection, after its word 1.
 use Rattle.std.specs.Prelude.{ℕ, List, ◌∷◌, ◌++◌, map}
 use Rattle.xdr3.specs.Item.{Item}
 use Rattle.record_mark.specs.Machine.{Next, Goes, Ends, within}

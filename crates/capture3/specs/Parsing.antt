@@ -11,7 +11,7 @@ use Rattle.capture3.specs.Entry.{Entry, End}
 use Rattle.capture3.specs.Opening.{Opening, Closing, Closes, Refuses, opening_next, opened, opening_entries}
 use Rattle.capture3.specs.Sides.{file_fault}
 
--- before a byte of the magic, before its last byte, in a connection word, in a connection, or behind the last word 0
+-- before a byte of the magic, before its last byte, in a connection word, in a connection, or after the last word 0
 pub data Spot : Type 0 where
   Magic : (due : ℕ) → (more : List ℕ) → Spot
   Digit : Spot
@@ -63,7 +63,7 @@ file_next s byte = spot_step s.version s.at s.total s.number s.entries s.spot by
 abbrev pub file_start : Parsing
 file_start = record { version = One; at = 0; total = 0; number = 0; entries = []; spot = magic_left magic_front }
 
--- the machine behind these bytes
+-- the machine after these bytes
 abbrev pub parsed : List ℕ → Run Parsing Refusal
 parsed bytes = after file_next (Runs file_start) bytes
 

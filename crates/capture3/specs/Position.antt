@@ -21,7 +21,7 @@ use Rattle.capture3.specs.declared.word_part.Word.{Word}
 use Rattle.capture3.specs.declared.word_part.Word.TheVariants.{Part, Whole}
 use Rattle.capture3.specs.declared.position.Spot.TheVariants.{Magic, Mark, Length, Chunk, Ended}
 
--- the word 1 of a connection, and behind the client stream its word 0
+-- the word 1 of a connection, and after the client stream its word 0
 abbrev pub words_before : Side → ℕ
 words_before sides.Client = 0
 words_before sides.Server = 4

@@ -20,7 +20,7 @@ pub record Opens (version : Version) (bytes : List ℕ) (connections : List Stre
   pub few : length connections ≤ max_connections
   pub small : total_size connections ≤ max_bytes
 
--- in the client stream, behind so many stream bytes before: the calls whose records are whole
+-- in the client stream, after so many stream bytes before: the calls whose records are whole
 pub record ReachesCalls (before : ℕ) (bytes : List ℕ) (entries : List Entry) : Type 0 where
   pub stream : List ℕ
   pub calls : List (List Item)
@@ -28,7 +28,7 @@ pub record ReachesCalls (before : ℕ) (bytes : List ℕ) (entries : List Entry)
   pub holds : HoldsSoFar calls_in_turn stream calls
   pub entries_are : entries ≡ Begin ∷ map Call calls
 
--- behind the client stream: all calls, and the replies whose records are whole
+-- after the client stream: all calls, and the replies whose records are whole
 pub record ReachesReplies (before : ℕ) (bytes : List ℕ) (entries : List Entry) : Type 0 where
   pub front : List ℕ
   pub last : List ℕ
@@ -44,7 +44,7 @@ pub record ReachesReplies (before : ℕ) (bytes : List ℕ) (entries : List Entr
   pub answers : HoldsSoFar (replies_to calls) server replies
   pub entries_are : entries ≡ (Begin ∷ map Call calls) ++ (Turn ∷ map reply_entry replies)
 
--- what is whole of a connection that is not, behind its word 1
+-- what is whole of a connection that is not, after its word 1
 abbrev pub ReachesInside : Version → ℕ → List ℕ → List Entry → Type 0
 ReachesInside One before bytes entries = ReachesCalls before bytes entries ⊎ ReachesReplies before bytes entries
 

@@ -5,12 +5,12 @@ use Rattle.xdr3.specs.declared.reason.Reason.TheVariants.{RecordCut, RecordTooLo
 use Rattle.xdr3.specs.declared.reason.Stop.{Stop}
 use Rattle.record_mark.specs.RecordMark.{Marks, IsRecord, IsTooLong, IsOpen, IsUnfinished}
 
--- which messages bodies are, and where and why any other body is refused, behind the messages of the stream before it
+-- which messages bodies are, and where and why any other body is refused, after the messages of the stream before it
 pub record Judgement (M : Type 0) : Type 1 where
   pub accepts : List M → List ℕ → M → Type 0
   pub refuses : List M → List ℕ → Stop → Type 0
 
--- behind the messages before, the bodies are these messages, one after another
+-- after the messages before, the bodies are these messages, one after another
 abbrev pub AreMessages : {M : Type 0} → Judgement M → List M → List (List ℕ) → List M → Type 0
 AreMessages {M} judge before [] messages = messages ≡ []
 AreMessages {M} judge before (body ∷ bodies) messages = (m : M) × (rest : List M) × (messages ≡ m ∷ rest) × judge.accepts before body m × AreMessages judge (before ++ m ∷ []) bodies rest
@@ -34,7 +34,7 @@ pub record RecordFault : Type 0 where
   pub byte : ℕ
   pub reason : Reason
 
--- a fault in the record behind these messages
+-- a fault in the record after these messages
 abbrev pub fault_at : {M : Type 0} → List M → ℕ → Reason → RecordFault
 fault_at messages byte reason = record { number = suc (length messages); byte = byte; reason = reason }
 
@@ -66,7 +66,7 @@ pub record PassesLimit (stream : List ℕ) (fault : RecordFault) : Type 0 where
 abbrev pub StreamShows : {M : Type 0} → Judgement M → List ℕ → RecordFault → Type 0
 StreamShows judge stream fault = RefusesRecord judge stream fault ⊎ PassesLimit stream fault
 
--- the stream ends while a record is open: RecordCut, behind as many bytes of its body as have come
+-- the stream ends while a record is open: RecordCut, after as many bytes of its body as have come
 pub record IsCut (stream : List ℕ) (fault : RecordFault) : Type 0 where
   pub front : List ℕ
   pub last : List ℕ

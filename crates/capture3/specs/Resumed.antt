@@ -144,7 +144,7 @@ emitted_at (Chunk Client left) j = j.entries ++ client_entries j.calls
 emitted_at (Chunk Server left) j = j.entries ++ (client_entries j.calls ++ server_entries j.replies)
 emitted_at Ended j = j.entries
 
--- behind entries, what comes next adds
+-- after entries, what comes next adds
 abbrev pub EmitsOn : Judged → List Entry → Next Unpacking Unpacked → Type 0
 EmitsOn j base (Goes u) = emitted_at u.opened j ≡ base
 EmitsOn j base (Ends (Has Begin body u)) = emitted_at u.opened (begun u j) ≡ base ++ entries.Begin ∷ []

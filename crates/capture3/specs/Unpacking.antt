@@ -14,7 +14,7 @@ use Rattle.capture3.specs.declared.position.Event.{Event}
 use Rattle.capture3.specs.declared.position.Event.TheVariants.{Begin, Record, Turn, Close}
 
 -- the part that is open: bytes of the magic that are due, a connection word's bytes so far, the bytes so far of a chunk's length word, a chunk and
--- how many bytes it has left after the next, or nothing behind the last word 0
+-- how many bytes it has left after the next, or nothing after the last word 0
 pub data Opened : Type 0 where
   Magic : (due : List ℕ) → Opened
   Mark : (part : List ℕ) → Opened
@@ -32,7 +32,7 @@ pub record Unpacking : Type 0 where
   pub opened : Opened
   pub joining : Joining
 
--- something is whole, and behind it stands this; or the byte shows a fault
+-- something is whole, and after it stands this; or the byte shows a fault
 pub data Unpacked : Type 0 where
   Has : Event → List ℕ → Unpacking → Unpacked
   Refuses : Fault → Unpacked
@@ -58,7 +58,7 @@ abbrev pub in_chunk : (at total connections records : ℕ) → Side → ℕ → 
 in_chunk at total connections records side left joining =
     record { at = at; total = total; connections = connections; records = records; opened = awaiting side left; joining = joining }
 
--- before a stream's first length word, behind a word
+-- before a stream's first length word, after a word
 abbrev pub before_stream : (at total connections : ℕ) → Joining → Side → Unpacking
 before_stream at total connections joining side =
     record { at = at + 4; total = total; connections = connections; records = 0; opened = Length side []; joining = joining }

@@ -27,7 +27,7 @@ use xdr3::{Reason, Visit};
 const BLOCK: usize = 65_536;
 
 /// The longest capture has so many bytes: its magic, 65,535 connections of a word 1 and two words 0,
-/// the last word 0, and 1,073,741,824 stream bytes in chunks of one byte behind four of length.
+/// the last word 0, and 1,073,741,824 stream bytes in chunks of one byte after four of length.
 const MOST_BYTES: u64 = 5_369_495_552;
 
 /// What a reader answers from now on.
@@ -35,7 +35,7 @@ const MOST_BYTES: u64 = 5_369_495_552;
 enum Stage {
     /// The entries that are left.
     Reading,
-    /// None, behind the end.
+    /// None, after the end.
     Over,
     /// This error, for good.
     Failed(Error),
@@ -106,7 +106,7 @@ impl<'r, R: Source, S: BuildHasher + Drop> Entries<'r, R, S> {
     /// # Errors
     ///
     /// `Refused` with the first fault of a capture that is not well formed, `Read` where a read failed, and
-    /// `Memory` where none was to be had, by the visitor too; never `Write`. What the visitor holds is open.
+    /// `Memory` where it ran out, by the visitor too; never `Write`. What the visitor holds is open.
     /// The same error is answered from then on, and nothing is read.
     pub fn next<V: Visit>(&mut self, visitor: &mut V) -> Result<Option<Kind>, Error>
         ensures answers { (given : List ℕ) (handed : List spec.Entry)

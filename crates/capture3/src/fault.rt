@@ -45,7 +45,7 @@ pub enum Error {
     Read,
     /// A write or a flush failed.
     Write,
-    /// No memory was to be had.
+    /// Memory ran out.
     Memory,
 }
 

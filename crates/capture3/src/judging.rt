@@ -114,7 +114,7 @@ impl<C: CallTable + Drop> Capture<C> {
         }
     }
 
-    /// Tests that the file may end here, behind so many bytes.
+    /// Tests that the file may end here, after so many bytes.
     pub(crate) fn end(&self, size: u64) -> Result<(), Error>
         ensures ok { OnOk result (self.now.container.position.spot ≡ Spot.Ended) }
         ensures err { IfErr result (λ error. (self.now.container.position.spot ≢ Spot.Ended) × (error ≡ Error.Refused (record { place = Place.File size; reason = Reason.CaptureCut }))) }

@@ -31,7 +31,7 @@ pub fn cut_short()
     ensures { (file : List ℕ) → AreBytes file → IsCutShort file }
 {}
 
-/// A body of the client stream is one call, or has one first fault, behind any calls before it; and so
+/// A body of the client stream is one call, or has one first fault, after any calls before it; and so
 /// is a body of the server stream one reply, or has one first fault.
 pub fn judged_once()
     ensures calls { (before : List (List Item)) (body : List ℕ) → AreBytes body → IsJudgedOnce calls_in_turn before body }

@@ -49,7 +49,7 @@ pub(crate) enum Spot {
 
 #[derive(Clone, Copy)]
 pub(crate) struct Position {
-    /// The file's byte at which the open word begins, or the byte behind the open chunk, or in the magic
+    /// The file's byte at which the open word begins, or the byte after the open chunk, or in the magic
     /// and at the end the number of bytes taken.
     pub(crate) at: u64,
     /// The stream bytes of all chunks so far, the open one's included.

@@ -46,7 +46,7 @@ impl WordPart {
     }
 }
 
-/// The word with its first `count` bytes kept and `more` behind them.
+/// The word with its first `count` bytes kept and `more` after them.
 fn with_more(mut word: [u8; 4], count: usize, more: &[u8]) -> [u8; 4]
     requires { count + length more.now ≤ 4 }
     ensures { take (count + length more.now) result ≡ take count word ++ more.now }

@@ -86,7 +86,7 @@ AreRefused words Memory = Unit
 
 -- ---- within the crate
 
--- a usage, or want of memory for its text
+-- a usage, or that memory ran out for its text
 abbrev pub IsUsage : LineFault → Type 0
 IsUsage (Usage _) = Unit
 IsUsage Memory = Unit

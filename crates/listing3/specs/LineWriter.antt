@@ -7,7 +7,7 @@ use Rattle.canon3.specs.Summing.{all_items}
 use Rattle.listing3.specs.declared.line_writer.LineWriter.{LineWriter}
 use Rattle.listing3.specs.Listing.{shown_items}
 
--- the message up to here: its xid, and the text of the items behind it; nothing is said where it begins with another item
+-- the message up to here: its xid, and the text of the items after it; nothing is said where it begins with another item
 abbrev pub IsTextOf : Option ℕ → List ℕ → List Item → Type 0
 IsTextOf xid text [] = (xid ≡ None) × (text ≡ [])
 IsTextOf xid text (Word name n ∷ items) = (xid ≡ Some n) × (text ≡ shown_items items)
@@ -17,7 +17,7 @@ IsTextOf xid text _ = Unit {0}
 abbrev pub behind : (front items : List Item) → List Item
 behind front items = Word [] (length front) ∷ (front ++ items)
 
--- a message under way, behind these items
+-- a message under way, after these items
 pub record IsBehind {S H : Type 0} (writer : LineWriter S H) (front items : List Item) : Type 0 where
   pub gathered : Gathers writer.handles.numbers (front ++ items)
   pub text : IsTextOf writer.xid writer.items items

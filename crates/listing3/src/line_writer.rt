@@ -33,7 +33,7 @@ use xdr3::Visit;
 #[derive(Drop)]
 pub(crate) struct LineWriter<S: BuildHasher + Drop> {
     pub(crate) handles: HandleTable<S>,
-    // The xid, once it was told, and the text of the items behind it.
+    // The xid, once it was told, and the text of the items after it.
     xid: Option<u32>,
     items: ItemText,
     // The line up to the procedure's name.

@@ -91,7 +91,7 @@ fn scan_time<V: Visit>(
     Ok(())
 }
 
-/// The attributes behind a file's type (RFC 1813, section 2.5).
+/// The attributes after a file's type (RFC 1813, section 2.5).
 const ATTRIBUTES: [PlainField; 16] = [
     PlainField::Word("mode"),
     PlainField::Word("nlink"),

@@ -2,14 +2,14 @@
 
 use crate::outcome::Outcome;
 use crate::output::{OutputFile, is_same_file, unopened};
-use canon3::{SameError, Sink, ToWrite, Which, canon, check, same};
+use canon3::{SameError, Sink, Summary, ToWrite, Which, canon, check, same};
 use capture3::{Error, FromRead, Hashers};
 use line3::LineFault;
 use listing3::show;
 use packing3::Packing;
 use std::fs::File;
 use std::hash::RandomState;
-use std::io::BufWriter;
+use std::io::{BufWriter, Write};
 use std::{fs, io};
 
 /// How many bytes are gathered before they are written.
@@ -35,6 +35,17 @@ pub fn checked(rt: &HostRuntime, name: &str) -> Outcome {
     }
 }
 
+/// What came of it, once what was gathered before an error is written too.
+fn written_out<W: Write>(
+    result: Result<Summary, Error>,
+    sink: &mut ToWrite<W>,
+) -> Result<Summary, Error> {
+    if result.is_err() && sink.flush_all().is_err() {
+        return Err(Error::Write);
+    }
+    result
+}
+
 /// The lines before a fault are written too.
 pub fn listed(rt: &HostRuntime, name: &str) -> Outcome {
     let Ok(hashers) = hashers(rt) else {
@@ -48,10 +59,7 @@ pub fn listed(rt: &HostRuntime, name: &str) -> Outcome {
     };
     let mut sink = ToWrite::new(buffer);
     let result = show(rt.alloc(), hashers, &mut FromRead::new(file), &mut sink);
-    if result.is_err() && sink.flush_all().is_err() {
-        return Outcome::Listed(Err(Error::Write));
-    }
-    Outcome::Listed(result)
+    Outcome::Listed(written_out(result, &mut sink))
 }
 
 /// The output is made once the input is open.
@@ -70,12 +78,11 @@ pub fn rewritten(rt: &HostRuntime, input: &str, output: &str) -> Outcome {
         Err(outcome) => return outcome,
     };
     let result = match BufWriter::with_capacity(rt.alloc(), WRITTEN_AT_ONCE, &mut made.file) {
-        Ok(sink) => canon(
-            rt.alloc(),
-            hashers,
-            &mut FromRead::new(source),
-            &mut ToWrite::new(sink),
-        ),
+        Ok(buffer) => {
+            let mut sink = ToWrite::new(buffer);
+            let result = canon(rt.alloc(), hashers, &mut FromRead::new(source), &mut sink);
+            written_out(result, &mut sink)
+        }
         Err(_) => Err(Error::Memory),
     };
     Outcome::Counted(match result {

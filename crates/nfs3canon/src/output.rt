@@ -25,12 +25,14 @@ pub fn is_standard_output(rt: &HostRuntime, name: &str) -> bool {
     }
 }
 
-/// The outcome where no file of this name could be opened or made. Want of memory is printed alike of every
-/// outcome.
+/// The outcome where memory ran out, which is printed alike of every job.
+const OUT_OF_MEMORY: Outcome = Outcome::Packed(Err(Error::Memory));
+
+/// The outcome where no file of this name could be opened or made.
 pub fn unopened(rt: &HostRuntime, name: &str) -> Outcome {
     match String::from_str(rt.alloc(), name) {
         Ok(name) => Outcome::Unopened(name),
-        Err(_) => Outcome::Packed(Err(Error::Memory)),
+        Err(_) => OUT_OF_MEMORY,
     }
 }
 
@@ -61,13 +63,11 @@ impl OutputFile {
             Ok(data) if data.permissions().readonly() => Err(unopened(rt, name)),
             Ok(data) => match fs::canonicalize(rt, name) {
                 Ok(path) => with_mode(rt, beside(rt, path.into_string())?, &data),
+                Err(error) if error.kind() == ErrorKind::OutOfMemory => Err(OUT_OF_MEMORY),
                 Err(_) => Err(unopened(rt, name)),
             },
             Err(error) if error.kind() == ErrorKind::NotFound && !is_link(rt, name) => {
-                match String::from_str(rt.alloc(), name) {
-                    Ok(name) if !name.is_empty() => beside(rt, name),
-                    _ => Err(unopened(rt, name)),
-                }
+                new_file(rt, name)
             }
             Err(_) => Err(unopened(rt, name)),
         }
@@ -110,9 +110,20 @@ fn as_it_is(rt: &HostRuntime, name: &str) -> Result<OutputFile, Outcome> {
     }
 }
 
+/// A file that is not there yet.
+fn new_file(rt: &HostRuntime, name: &str) -> Result<OutputFile, Outcome> {
+    if name.is_empty() {
+        return Err(unopened(rt, name));
+    }
+    match String::from_str(rt.alloc(), name) {
+        Ok(name) => beside(rt, name),
+        Err(_) => Err(OUT_OF_MEMORY),
+    }
+}
+
 fn beside(rt: &HostRuntime, whole: String) -> Result<OutputFile, Outcome> {
     let Ok(name) = format!(in rt.alloc(); "{whole}.part") else {
-        return Err(Outcome::Packed(Err(Error::Memory)));
+        return Err(OUT_OF_MEMORY);
     };
     match File::create_new(rt, name.as_str()) {
         Ok(file) => Ok(OutputFile {

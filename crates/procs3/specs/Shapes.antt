@@ -150,6 +150,6 @@ pathconf_ok =
 unfoldable pub dirpath : Shape
 dirpath = opaque Text names.dirpath 1024
 
--- mountres3: a status, and behind 0 what was mounted (RFC 1813, section 5.2.1)
+-- mountres3: a status, and after 0 what was mounted (RFC 1813, section 5.2.1)
 unfoldable pub mount_results : Shape
 mount_results = choose names.status (is_listed mount_status_words) BadEnum (λ n. if n == 0 then mount_ok else nothing)

@@ -40,7 +40,7 @@ ended_leads false bytes front back carried before body split whole closes is fit
       fits = fits;
     }
 
--- a header has come, and n bytes of its fragment are to come behind got
+-- a header has come, and n bytes of its fragment are to come after got
 expecting_leads : (last : Bool) (n : ℕ) (bytes front header got before body : List ℕ) → bytes ≡ front ++ header ++ got → Carries front before → IsHeader header last (length got + n) → body ≡ before ++ got → length body + n ≤ max_body
     → Leads HasJoined EndsRecord bytes (expecting body last n)
 expecting_leads last zero bytes front header got before body split whole heads is fits =

@@ -143,7 +143,7 @@ ran_on next (Stopped y) bytes t e = let same = after_stopped next y bytes in abs
 pub ran_to : {S X : Type 0} (next : S → ℕ → Next S X) (run : Run S X) (front back : List ℕ) (t : S) → after next run (front ++ back) ≡ Runs t → (s : S) × (after next run front ≡ Runs s)
 ran_to next run front back t e = ran_on next (after next run front) back t (sym (after-append next run front back) ∙ e)
 
--- the last state in which it runs is the one behind the longest front that it takes
+-- the last state in which it runs is the one after the longest front that it takes
 pub record RunsAlong {S X : Type 0} (next : S → ℕ → Next S X) (s : S) (bytes : List ℕ) (t : S) : Type 0 where
   pub front : List ℕ
   pub rest : List ℕ
@@ -173,7 +173,7 @@ pub last_running_here : {S X : Type 0} (next : S → ℕ → Next S X) (s : S) (
 last_running_here next s [] h = refl
 last_running_here next s (byte ∷ more) h = let e = h byte more refl in ap (λ n. elim n [ Goes t ↦ last_running next t more | Ends x ↦ s ]) e.1
 
--- what comes behind the end changes nothing
+-- what comes after the end changes nothing
 last_stopped_on : {S X : Type 0} (next : S → ℕ → Next S X) (front rest : List ℕ) (x : X) → ((t : S) → after next (Runs t) front ≡ Stops x → last_running next t (front ++ rest) ≡ last_running next t front)
     → (old : S) (n : Next S X) → after next (landed n) front ≡ Stops x → ◌≡◌ {A = S} (elim n [ Goes t ↦ last_running next t (front ++ rest) | Ends y ↦ old ]) (elim n [ Goes t ↦ last_running next t front | Ends y ↦ old ])
 last_stopped_on next front rest x on old (Goes t) e = on t e

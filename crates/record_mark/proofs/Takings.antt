@@ -14,7 +14,7 @@ led_by (Stops (Whole body)) bytes h = record_stops bytes body h
 led_by (Stops (TooLong at)) bytes h = too_long_stops bytes at h
 led_by (Stopped end) bytes h = absurd h
 
--- nothing came behind the end of the record
+-- nothing came after the end of the record
 abbrev pub IsKnown : Run Joining Joined → Type 0
 IsKnown (Runs s) = Unit {0}
 IsKnown (Stops end) = Unit {0}
@@ -95,7 +95,7 @@ led_on-append OutOfMemory front back = refl
 pub led_on-take : (old now next : Taking) (piece : List ℕ) (n m : ℕ) → now ≡ led_on old (take n piece) → next ≡ led_on now (take m (drop n piece)) → next ≡ led_on old (take (n + m) piece)
 led_on-take old now next piece n m is more = more ∙ ap (λ t. led_on t (take m (drop n piece))) is ∙ sym (led_on-append old (take n piece) (take m (drop n piece))) ∙ ap (led_on old) (sym (take-add n m piece))
 
--- what runs behind some bytes ran before them
+-- what runs after some bytes ran before them
 pub ran_before : (old now : Taking) (piece : List ℕ) (taken : ℕ) → now ≡ led_on old (take taken piece) → (0 < taken → IsRunning old) → IsRunning now → IsRunning old
 ran_before old now piece zero is moved runs = subst IsRunning (is ∙ led_on-nil old) runs
 ran_before old now piece (suc n) is moved runs = moved (omega arith)

@@ -4,7 +4,7 @@ use Rattle.record_mark.specs.Machine.{Next, Goes, Ends, within}
 use Rattle.record_mark.specs.Word.{word_next}
 use Rattle.record_mark.specs.RecordMark.{max_body, is_last, length_of, IsRecord, IsTooLong, InHeader, InBytes}
 
--- between records; in a header, behind the body's bytes so far; or in a fragment's bytes, with how many are left after the next
+-- between records; in a header, after the body's bytes so far; or in a fragment's bytes, with how many are left after the next
 pub data Joining : Type 0 where
   Between : Joining
   Header : (body part : List ℕ) → Joining

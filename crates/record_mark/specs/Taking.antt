@@ -65,6 +65,6 @@ EndsWithin bytes piece n = (n ≤ length piece) × ((body : List ℕ) × IsRecor
 abbrev pub GoesOn : List ℕ → List ℕ → ℕ → Type 0
 GoesOn bytes piece n = (n ≡ length piece) × ((body : List ℕ) × IsUnfinished (bytes ++ piece) body)
 
--- a header that ends in the piece passes the limit, behind `at` bytes of the body
+-- a header that ends in the piece passes the limit, after `at` bytes of the body
 abbrev pub PassesWithin : List ℕ → List ℕ → ℕ → Type 0
 PassesWithin bytes piece at = (n : ℕ) × (n ≤ length piece) × IsTooLong (bytes ++ take n piece) at

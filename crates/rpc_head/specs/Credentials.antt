@@ -14,7 +14,7 @@ parameter_items s =
     followed_by (Word names.stamp s.stamp ∷ Opaque Text names.machinename s.machinename.now ∷ Word names.uid s.uid ∷ Word names.gid s.gid ∷ [])
     (count_items (groups_of s.gids))
 
--- behind the number of their bytes
+-- after the number of their bytes
 abbrev pub auth_sys_items : AuthSys → List Item
 auth_sys_items s = followed_by (Word names.cred_length (length (zero_spelling (parameter_items s))) ∷ []) (parameter_items s)
 

@@ -46,7 +46,7 @@ pub record Calls : Type 0 where
       )
   pub no_reply : reading_layout (call_layout handle_in_one) (words (7 ∷ 1 ∷ 0 ∷ 0 ∷ 0 ∷ 0 ∷ [])) 0 ≡ refused 4 BadEnum
 
--- two bytes behind each reply, which are results where there are any
+-- two bytes after each reply, which are results where there are any
 abbrev pub reply_of : List ℕ → List ℕ
 reply_of numbers = words (7 ∷ 1 ∷ numbers) ++ 1 ∷ 2 ∷ []
 

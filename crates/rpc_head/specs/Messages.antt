@@ -41,6 +41,6 @@ call_layout arguments = after (call_start then call_head) (λ items. arguments (
 abbrev pub has_results : List Item → Bool
 has_results items = (word_in items 2 == 0) && (word_in items 5 == 0)
 
--- a reply, with these results behind an accepted success and nothing behind any other head
+-- a reply, with these results after an accepted success and nothing after any other head
 unfoldable pub reply_layout : Layout → Layout
 reply_layout results = after (reply_start then reply_head) (λ items. if has_results items then results else exactly nothing)

@@ -33,7 +33,7 @@ fn value_in<'a, T: Xdr<'a>>(alloc: Global, body: &'a [u8]) -> Result<T, GetError
 }
 
 /// A call with an AUTH_SYS credential of that length, whose body begins with stamp 1, the machine name
-/// `client` behind the length `name`, user 0 and group 0. The credential's body starts at byte 32, the
+/// `client` after the length `name`, user 0 and group 0. The credential's body starts at byte 32, the
 /// machine name's length at 36, the count of groups, the first of `rest`, at 56.
 fn sys_call(alloc: Global, length: u32, name: u32, rest: &[u32]) -> Result<Vec<u8>, AllocError> {
     let words = [

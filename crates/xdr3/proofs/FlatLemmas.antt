@@ -28,7 +28,7 @@ flat shape = flat_then shape nothing
 abbrev done_at : List Item → ℕ → Outcome (List Item)
 done_at xs at = Ok (xs, at)
 
--- what is read, behind these items
+-- what is read, after these items
 abbrev behind : List Item → List Item × ℕ → Outcome (List Item)
 behind xs y = Ok (xs ++ y.0, y.1)
 

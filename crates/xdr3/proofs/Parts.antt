@@ -13,7 +13,7 @@ use Rattle.xdr3.proofs.Items.{Spells-append, Spells-one, length_of_spelling}
 
 -- ---- fronts
 
--- more items that fit another shape, behind a front
+-- more items that fit another shape, after a front
 joins : (whole : Shape) (bytes front more left back : List ℕ) (xs ys : List Item) → Fits whole (xs ++ ys) → Spells xs front → Spells ys back → bytes ≡ front ++ more → more ≡ back ++ left → Reads whole bytes (xs ++ ys) left
 joins whole bytes front more left back xs ys f s t e g = record {
   front = front ++ back;
@@ -35,7 +35,7 @@ behind_word whole name n bytes more left back ys b f t g = joins whole bytes (wo
 regrouped : (a b c d : List ℕ) → a ++ (b ++ (c ++ d)) ≡ ((a ++ b) ++ c) ++ d
 regrouped a b c d = sym (append_assoc (a ++ b) c d ∙ append_assoc a b (c ++ d))
 
--- what is refused behind a word
+-- what is refused after a word
 then_word : (name : List ℕ) (n : ℕ) (R : Refusal) (bytes more : List ℕ) (at : ℕ) (reason : Reason) → BeginsWith n bytes more → R more at reason → ThenWord name n R bytes (4 + at) reason
 then_word name n R bytes more at reason b r = (Word name n ∷ [], word_bytes n, more, at, refl, word_spelled name n bytes more b, b.is, r, omega (arith, len4 n))
 

@@ -1,4 +1,4 @@
--- Words of any value and numbers of eight bytes, one behind another.
+-- Words of any value and numbers of eight bytes, one after another.
 use Rattle.std.specs.Prelude.{ℕ, ◌+◌, List, [], ◌∷◌, drop}
 use Rattle.byteorder.specs.Endian.{big_number}
 use Rattle.xdr3.specs.declared.plain.PlainField.{PlainField}
@@ -26,12 +26,12 @@ abbrev pub run_size : List PlainField → ℕ
 run_size [] = 0
 run_size (field ∷ more) = width field + run_size more
 
--- the shape of the fields, one behind another
+-- the shape of the fields, one after another
 abbrev pub run_shape : List PlainField → Shape
 run_shape [] = nothing
 run_shape (field ∷ more) = both (shape_of field) (run_shape more)
 
--- the items that the first of the bytes spell, one behind another
+-- the items that the first of the bytes spell, one after another
 abbrev pub run_items : List PlainField → List ℕ → List Item
 run_items [] bytes = []
 run_items (field ∷ more) bytes = plain_item field bytes ∷ run_items more (drop (width field) bytes)

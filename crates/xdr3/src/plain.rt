@@ -28,7 +28,7 @@ impl PlainField {
     }
 }
 
-/// Fields that stand one behind another in `size` bytes. Where all of them stand, the visitor is told
+/// Fields that stand one after another in `size` bytes. Where all of them stand, the visitor is told
 /// them at once; where they do not, it is told none.
 ///
 /// # Errors
