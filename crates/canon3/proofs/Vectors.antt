@@ -22,7 +22,7 @@ use Rattle.capture3.proofs.Verdicts.{fault_from_verdict, typed_from_verdict}
 use Rattle.canon3.specs.Bytes.{bytes_of}
 use Rattle.canon3.specs.Canonical.{canonical}
 use Rattle.canon3.specs.Examples.{p, q}
-use Rattle.canon3.specs.Vectors.{IsWorked, RefusedCalls, RefusedCredentials, RefusedReplies, by_system, by_system_entries, by_system_form, committing, committing_entries, committing_form, directory, directory_entries, directory_form, exchange, exchange_entries, exchange_form, mounting, mounting_entries, mounting_form, p_file, q_file, two_calls_form}
+use Rattle.canon3.specs.Vectors.{IsWorked, RefusedCalls, RefusedCredentials, RefusedReplies, by_system, by_system_entries, by_system_form, committing, committing_entries, committing_form, directory, directory_entries, directory_form, exchange, exchange_entries, exchange_form, mounting, mounting_entries, mounting_form, p_file, q_file, raw_entries, raw_of, two_calls_form}
 
 worked_by : (file : List ℕ) (entries : List Entry) (form : List ℕ) → all_bytes file ≡ true → verdict file ≡ Ok entries → bytes_of (canonical entries) ≡ form → IsWorked file entries form
 worked_by file entries form bytes read written = record { typed = typed_from_verdict file entries (checked file bytes) read; form_is = written }
@@ -38,6 +38,7 @@ pub record AreWorked : Type 0 where
   pub committing_is : IsWorked committing committing_entries committing_form
   pub directory_is : IsWorked directory directory_entries directory_form
   pub by_system_is : IsWorked by_system by_system_entries by_system_form
+  pub raw_is : IsWorked (raw_of 5) raw_entries (raw_of 1)
 
 pub worked : AreWorked
 unfolding all_bytes number is_last length_of judge_call judge_reply reading reading_layout message_start call_layout call_start call_head reply_layout reply_start reply_head credential auth_sys parameters gids verifier accept deny arguments_of results_of rpc_names names file_kind handle time times attributes post_op_attr wcc wcc_attr post_op_fh dir_op status results mount_ok flavor entry_plus file_range readdirplus_args readdirplus_ok commit_ok lookup_ok mount_results dirpath optional
@@ -49,6 +50,7 @@ worked = record {
   committing_is = worked_by committing committing_entries committing_form refl refl refl;
   directory_is = worked_by directory directory_entries directory_form refl refl refl;
   by_system_is = worked_by by_system by_system_entries by_system_form refl refl refl;
+  raw_is = worked_by (raw_of 5) raw_entries (raw_of 1) refl refl refl;
 }
 
 pub refused_calls : RefusedCalls
@@ -78,6 +80,7 @@ refused_replies = record {
   no_call = refused_by refl refl;
   a_call = refused_by refl refl;
   reply_stat = refused_by refl refl;
+  auth_stat = refused_by refl refl;
   accept_stat = refused_by refl refl;
   status = refused_by refl refl;
   attributes = refused_by refl refl;

@@ -3,7 +3,7 @@ use Rattle.std.specs.Prelude.{◌≡◌, ℕ, ◌+◌, ◌^◌, List, [], ◌∷
 use Rattle.std.specs.List.{flat_map}
 use Rattle.xdr3.specs.declared.reason.Reason.{Reason}
 use Rattle.xdr3.specs.declared.reason.Reason.TheVariants.{AuthLength, BadBool, BadEnum, Flavor, NoCall, RpcVersion, Short, TooLong, Trailing, WrongSide, XidConflict}
-use Rattle.xdr3.specs.Item.{Item, Word, Hyper, Fixed, Opaque, Var, Text, Handle, word_bytes}
+use Rattle.xdr3.specs.Item.{Item, Word, Hyper, Fixed, Opaque, Rest, Var, Text, Handle, word_bytes}
 use Rattle.capture3.specs.declared.fault.Side.{Side}
 use Rattle.capture3.specs.declared.fault.Side.TheVariants.{Client, Server}
 use Rattle.capture3.specs.declared.fault.Place.TheVariants as places
@@ -186,6 +186,14 @@ by_system_entries =
 abbrev pub by_system_form : List ℕ
 by_system_form = call_by 36 (system_bytes 0 2 (8 ∷ 9 ∷ []))
 
+-- ---- a call and a reply of another program, whose arguments and results are the rest of their bodies
+
+abbrev pub raw_of : ℕ → List ℕ
+raw_of xid = capture (streams (call_bytes 100227 1 xid (words (4 ∷ []) ++ 10 ∷ 11 ∷ 12 ∷ []) ∷ []) (reply_bytes xid (1 ∷ 2 ∷ []) ∷ []))
+
+abbrev pub raw_entries : List Entry
+raw_entries = one (call_of 100227 1 5 (Rest (codes "rest") (0 ∷ 0 ∷ 0 ∷ 4 ∷ 10 ∷ 11 ∷ 12 ∷ []) ∷ []) ∷ []) (reply_of 100227 1 5 (Rest (codes "rest") (1 ∷ 2 ∷ []) ∷ []) ∷ [])
+
 -- ---- refusals
 
 abbrev pub IsRefused : (file : List ℕ) → Side → (record_number byte : ℕ) → Reason → Type 0
@@ -218,6 +226,7 @@ pub record RefusedReplies : Type 0 where
   pub no_call : IsRefused (capture (streams [] (reply_bytes 7 [] ∷ []))) Server 1 0 NoCall
   pub a_call : IsRefused (with_reply (call_bytes 100003 0 7 [])) Server 1 4 WrongSide
   pub reply_stat : IsRefused (with_reply (words (7 ∷ 1 ∷ 2 ∷ []))) Server 1 8 BadEnum
+  pub auth_stat : IsRefused (with_reply (words (7 ∷ 1 ∷ 1 ∷ 1 ∷ 15 ∷ []))) Server 1 16 BadEnum
   pub accept_stat : IsRefused (with_reply (words (7 ∷ 1 ∷ 0 ∷ 0 ∷ 0 ∷ 6 ∷ []))) Server 1 20 BadEnum
   pub status : IsRefused (with_reply (reply_bytes 7 (words (3 ∷ [])))) Server 1 24 BadEnum
   -- a LOOKUP reply, whose attributes of the directory are there or not (RFC 1813, section 3.3.3)

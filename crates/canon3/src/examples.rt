@@ -3,7 +3,7 @@
 
 ghost use Rattle.canon3.specs.Examples.{Commits, Connections, IsWrong, TwoGetattrs, by_bytes, empty_numbered, handles_anew, p, q, verifiers_anew, xids_across};
 ghost use Rattle.canon3.specs.Summing.{IsSummary};
-ghost use Rattle.canon3.specs.Vectors.{IsWorked, RefusedCalls, RefusedCredentials, RefusedReplies, by_system, by_system_entries, by_system_form, committing, committing_entries, committing_form, directory, directory_entries, directory_form, exchange, exchange_entries, exchange_form, mounting, mounting_entries, mounting_form, p_file, q_file, two_calls_form};
+ghost use Rattle.canon3.specs.Vectors.{IsWorked, RefusedCalls, RefusedCredentials, RefusedReplies, by_system, by_system_entries, by_system_form, committing, committing_entries, committing_form, directory, directory_entries, directory_form, exchange, exchange_entries, exchange_form, mounting, mounting_entries, mounting_form, p_file, q_file, raw_entries, raw_of, two_calls_form};
 
 /// A GETATTR call and its reply.
 pub fn getattr_exchange()
@@ -43,6 +43,11 @@ pub fn readdirplus()
 /// An AUTH_SYS credential whose residual bytes are not zero.
 pub fn system_credential()
     ensures { IsWorked by_system by_system_entries by_system_form }
+{}
+
+/// A call and a reply of a program that is not typed.
+pub fn raw_exchange()
+    ensures { IsWorked (raw_of 5) raw_entries (raw_of 1) }
 {}
 
 /// First faults of calls, of AUTH_SYS credentials, and of replies.

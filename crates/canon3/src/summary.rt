@@ -1,17 +1,14 @@
 // Whether a capture is well formed, and what it has.
 
-ghost use Rattle.std.specs.Prelude.{◌≡◌, ◌≢◌, ◌<◌, ◌≤◌, ◌+◌, ◌^◌, ◌++◌, ◌∷◌, ℕ, List, [], Option, None, Some, bytes_eq, cond, length, min, IfErr, IfOk, IsTrue, OnOk};
+ghost use Rattle.std.specs.Prelude.{◌≡◌, ◌≢◌, ◌<◌, ◌≤◌, ◌+◌, ℕ, List, [], Option, None, Some, IfErr, IfOk, IsTrue, OnOk};
 ghost use Rattle.capture3.specs.declared.fault.Fault.{Fault};
 ghost use Rattle.capture3.specs.Entries.{CountsReading, entries_left, failure_of, StandsFor};
 ghost use Rattle.capture3.specs.Entry as spec;
 ghost use Rattle.capture3.specs.FirstFault.{FirstFault};
 ghost use Rattle.capture3.specs.Position.{most_entries};
-ghost use Rattle.canon3.specs.Rank.{distinct, number_limit};
 ghost use Rattle.canon3.specs.Passed.{passed_steps};
 ghost use Rattle.canon3.specs.Summing.{ConcludesGiven, IsSummary, Sums};
 ghost use Rattle.canon3.specs.Tallying.{GoesOn, IsOver, IsUnderWay, Tallies};
-ghost use Rattle.capture3.specs.Kept.{IsOfKind};
-ghost use Rattle.canon3.specs.Values as values;
 
 use crate::handles::HandleTable;
 use crate::passed::Passed;

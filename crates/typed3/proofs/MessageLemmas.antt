@@ -4,7 +4,6 @@ use Rattle.std.proofs.Common.{◌≡◌, ℕ, Bool, true, cond, List, [], ◌∷
 use Rattle.std.proofs.Math.Logic.{∥∥₁_elim}
 use mathlib.Core.Bool.{Bool-set}
 use Rattle.xdr3.specs.declared.reason.GetError.{GetError}
-use Rattle.xdr3.specs.declared.reason.Stop.{Stop}
 use Rattle.xdr3.specs.Item.{Item, followed_by}
 use Rattle.xdr3.specs.Reading.{reading}
 use Rattle.rpc_head.specs.declared.call.CallHead.{CallHead}
