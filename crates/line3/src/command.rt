@@ -4,8 +4,8 @@ ghost use Rattle.std.specs.Prelude.{◌≡◌, ◌≤◌, ◌∷◌, ℕ, List, 
 ghost use Rattle.clap.specs.Words.{kind_of};
 ghost use Rattle.line3.specs.Asked.{AreRefused, Asks, IsUsage};
 
-use crate::grammar::command;
 use crate::asked::{Job, LineFault};
+use crate::grammar::command;
 use clap::error::ErrorKind;
 use std::alloc::{AllocError, Global};
 

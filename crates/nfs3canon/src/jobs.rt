@@ -37,13 +37,13 @@ pub fn checked(rt: &HostRuntime, name: &str) -> Outcome {
 
 /// What came of it, once what was gathered before an error is written too.
 fn written_out<W: Write>(
-    result: Result<Summary, Error>,
+    came: Result<Summary, Error>,
     sink: &mut ToWrite<W>,
 ) -> Result<Summary, Error> {
-    if result.is_err() && sink.flush_all().is_err() {
+    if came.is_err() && sink.flush_all().is_err() {
         return Err(Error::Write);
     }
-    result
+    came
 }
 
 /// The lines before a fault are written too.

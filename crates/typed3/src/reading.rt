@@ -25,8 +25,8 @@ use xdr3::{GetError, Input, Reason, Stop, Xdr};
 ///
 /// `AllocError`, only where memory ran out.
 pub fn read_call<'a>(alloc: Global, call: CallRef<'a>) -> Result<CallMsg<'a>, AllocError>
-    ensures call { IfOk result (λ message. IsCall call.body.now (call_items message)) }
-    ensures procedure { IfOk result (λ message. message.head.id ≡ call.id) }
+    ensures call { IfOk result (λ message. IsCall call.entry.body.now (call_items message)) }
+    ensures procedure { IfOk result (λ message. message.head.id ≡ call.entry.id) }
     ensures variant { IfOk result
         (λ message. args_name message.args ≡ name_of message.head.id) }
 {
@@ -45,8 +45,8 @@ pub fn read_call<'a>(alloc: Global, call: CallRef<'a>) -> Result<CallMsg<'a>, Al
 /// `AllocError`, only where memory ran out.
 pub fn read_reply<'a>(alloc: Global, reply: ReplyRef<'a>) -> Result<ReplyMsg<'a>, AllocError>
     ensures reply { IfOk result
-        (λ message. IsReply reply.body.now (answered_items message)) }
-    ensures procedure { IfOk result (λ message. message.id ≡ reply.id) }
+        (λ message. IsReply reply.entry.body.now (answered_items message)) }
+    ensures procedure { IfOk result (λ message. message.id ≡ reply.entry.id) }
     ensures success { IfOk result
         (λ message. is_some message.results ≡ is_success message.head) }
     ensures variant { IfOk result (λ message. IfSome message.results
