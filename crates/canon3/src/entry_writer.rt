@@ -47,7 +47,8 @@ pub trait EntryWriter: Visit {
 
     /// How many distinct file handles that are not empty there were, at most 4,294,967,295.
     fn handles(&self) -> u32
-        ensures { (entries : List spec.Entry) → going self.now → Self.stands self.now (before entries)
+        ensures { (entries : List spec.Entry) → going self.now
+            → Self.stands self.now (before entries)
             → result ≡ min (length (distinct bytes_eq (values.handles entries))) number_limit };
 }
 
@@ -123,8 +124,9 @@ fn close<W: Sink, E: EntryWriter>(
 ) -> Result<Summary, Error>
     ensures writes { (first left old : Option (List ℕ)) (given : List ℕ) (entries : List spec.Entry)
         → IsEnded first left given entries
-        → HasWritten E.form E.before E.stands E.going writer.now passed.now old (W.written sink.old) entries
-        → WritesGiven E.form first left old (W.written sink.new) result }
+        → HasWritten E.form E.before E.stands E.going writer.now passed.now old
+        (W.written sink.old) entries → WritesGiven E.form first left old
+        (W.written sink.new) result }
     ensures flushes { OnOk result (IsFlushed (W.written sink.new) (W.flushed sink.new)) }
     ensures write { CountsWriting (W.failures sink.old) (W.failures sink.new) result }
     ensures error { IfErr result (λ error. error ≡ Error.Write) }
@@ -146,8 +148,8 @@ fn write_rest<R: Source, W: Sink, E: EntryWriter, S: BuildHasher + Drop>(
     requires prefixes { KeepsPrefixes E.form }
     requires room { passed_steps passed.old + entries_left entries.old ≤ most_entries }
     ensures over { (first old : Option (List ℕ))
-        → IsUnderWay E.form E.before E.stands E.going R.left first old entries.old writer.old passed.old
-        (W.written sink.old)
+        → IsUnderWay E.form E.before E.stands E.going R.left first old entries.old writer.old
+        passed.old (W.written sink.old)
         → IsOver E.form E.before E.stands E.going R.left first old entries.new writer.new passed.new
         (W.written sink.new) result }
     ensures read { CountsReading (R.failures entries.old.source.now)
@@ -170,8 +172,8 @@ fn write_next<R: Source, W: Sink, E: EntryWriter, S: BuildHasher + Drop>(
     requires prefixes { KeepsPrefixes E.form }
     requires room { passed_steps passed.old + entries_left entries.old ≤ most_entries }
     ensures goes_on { (first old : Option (List ℕ))
-        → IsUnderWay E.form E.before E.stands E.going R.left first old entries.old writer.old passed.old
-        (W.written sink.old)
+        → IsUnderWay E.form E.before E.stands E.going R.left first old entries.old writer.old
+        passed.old (W.written sink.old)
         → GoesOn E.form E.before E.stands E.going R.left first old entries.new writer.new passed.new
         (W.written sink.new) result }
     ensures fewer { IfOk result
@@ -202,8 +204,8 @@ fn write_one<W: Sink, E: EntryWriter>(
     requires { passed_steps passed.old + 1 < 2 ^ 32 }
     ensures more { IfOk result IsTrue }
     ensures few { passed_steps passed.new ≤ passed_steps passed.old + 1 }
-    ensures writes { WritesMore E.form E.before E.stands E.going writer.old writer.new passed.old passed.new
-        kind (W.written sink.old) (W.written sink.new) result }
+    ensures writes { WritesMore E.form E.before E.stands E.going writer.old writer.new passed.old
+        passed.new kind (W.written sink.old) (W.written sink.new) result }
     ensures count { CountsWriting (W.failures sink.old) (W.failures sink.new) result }
     ensures error { IfErr result IsOfWriting }
 {

@@ -30,7 +30,8 @@ impl<S: BuildHasher + Drop> HandleTable<S> {
     }
 
     fn add(&mut self, handle: Handle) -> Result<(), AllocError>
-        ensures ok { (given : List handles.Handle) → StandsFor same_handle self.old.numbers given → OnOk result (StandsFor same_handle self.new.numbers (given ++ handle ∷ [])) }
+        ensures ok { (given : List handles.Handle) → StandsFor same_handle self.old.numbers given
+            → OnOk result (StandsFor same_handle self.new.numbers (given ++ handle ∷ [])) }
         ensures err { OnErr result (self.new.numbers ≡ self.old.numbers) }
     {
         self.numbers.number_of(handle)?;
@@ -39,7 +40,8 @@ impl<S: BuildHasher + Drop> HandleTable<S> {
 
     /// How many there are, at most 4,294,967,295.
     pub fn len(&self) -> u32
-        ensures { (items : List Item) → Gathers self.now.numbers items → result ≡ min (length (distinct bytes_eq (handles_in items))) number_limit }
+        ensures { (items : List Item) → Gathers self.now.numbers items
+            → result ≡ min (length (distinct bytes_eq (handles_in items))) number_limit }
     {
         self.numbers.len()
     }

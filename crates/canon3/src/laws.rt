@@ -18,33 +18,43 @@ ghost use Rattle.canon3.specs.Laws.{AreFirst, AreOfTheirBytes, CallStaysACall, E
 
 /// Ranks are blind to one-to-one renaming.
 pub fn ranks_are_blind()
-    ensures injective { (f : List ℕ → List ℕ) (x : List ℕ) (l : List (List ℕ)) → IsInjectiveOn f (x ∷ l) → rank bytes_eq (f x) (map f l) ≡ rank bytes_eq x l }
-    ensures paired { (pairs : Pairs (List ℕ)) (x y : List ℕ) (l m : List (List ℕ)) → OneToOne IsHandle pairs → Member (x, y) pairs → Pairwise (AreBeside pairs) l m → rank bytes_eq x l ≡ rank bytes_eq y m }
+    ensures injective { (f : List ℕ → List ℕ) (x : List ℕ) (l : List (List ℕ))
+        → IsInjectiveOn f (x ∷ l) → rank bytes_eq (f x) (map f l) ≡ rank bytes_eq x l }
+    ensures paired { (pairs : Pairs (List ℕ)) (x y : List ℕ) (l m : List (List ℕ))
+        → OneToOne IsHandle pairs → Member (x, y) pairs → Pairwise (AreBeside pairs) l m
+        → rank bytes_eq x l ≡ rank bytes_eq y m }
 {}
 
 /// A table of the distinct keys so far numbers each key by its rank, and later keys leave the numbers.
 pub fn tables_number_by_rank()
-    ensures number { (x : List ℕ) (l : List (List ℕ)) → rank bytes_eq x (l ++ x ∷ []) ≡ 1 + position_or_len (bytes_eq x) (distinct bytes_eq l) }
-    ensures added { (x : List ℕ) (l : List (List ℕ)) → distinct bytes_eq (l ++ x ∷ []) ≡ with_key bytes_eq (distinct bytes_eq l) x }
-    ensures later { (x : List ℕ) (l m : List (List ℕ)) → Member x l → rank bytes_eq x (l ++ m) ≡ rank bytes_eq x l }
+    ensures number { (x : List ℕ) (l : List (List ℕ))
+        → rank bytes_eq x (l ++ x ∷ []) ≡ 1 + position_or_len (bytes_eq x) (distinct bytes_eq l) }
+    ensures added { (x : List ℕ) (l : List (List ℕ))
+        → distinct bytes_eq (l ++ x ∷ []) ≡ with_key bytes_eq (distinct bytes_eq l) x }
+    ensures later { (x : List ℕ) (l m : List (List ℕ)) → Member x l
+        → rank bytes_eq x (l ++ m) ≡ rank bytes_eq x l }
 {}
 
 /// Two captures that are not the same part at one place.
 pub fn captures_part_at_one_place()
-    ensures some { (file other : List ℕ) (a b : List Entry) → Typed file a → Typed other b → PartSomewhere a b }
+    ensures some { (file other : List ℕ) (a b : List Entry) → Typed file a → Typed other b
+        → PartSomewhere a b }
     ensures one { (a b : List Entry) → AreFirst a → AreFirst b → PartOnce a b }
 {}
 
 /// Messages under numbers keep their layouts and their procedures.
 pub fn numbers_keep_layouts()
-    ensures call { (hs vs : List (List ℕ)) (xs : List ℕ) (items : List Item) → CallStaysACall hs vs xs items }
-    ensures reply { (hs vs : List (List ℕ)) (xs : List ℕ) (id : ProcId) (items : List Item) → ReplyStaysAReply hs vs xs id items }
+    ensures call { (hs vs : List (List ℕ)) (xs : List ℕ) (items : List Item)
+        → CallStaysACall hs vs xs items }
+    ensures reply { (hs vs : List (List ℕ)) (xs : List ℕ) (id : ProcId) (items : List Item)
+        → ReplyStaysAReply hs vs xs id items }
 {}
 
 /// The canonical form of the entries of a well-formed file is well formed: its bytes are a file with
 /// just these entries, which has no more stream bytes than the file.
 pub fn canonical_form_is_a_file()
-    ensures { (file : List ℕ) (entries : List Entry) (typed : Typed file entries) → AreOfTheirBytes (canonical entries) (total_size typed.connections) }
+    ensures { (file : List ℕ) (entries : List Entry) (typed : Typed file entries)
+        → AreOfTheirBytes (canonical entries) (total_size typed.connections) }
 {}
 
 /// The entries that any bytes reach are the first entries of a well-formed file, so the laws speak of
@@ -55,15 +65,18 @@ pub fn reached_entries_are_first()
 
 /// Canonicalising again changes nothing, and a canonical form is the same as what it is made of.
 pub fn canonical_again()
-    ensures again { (entries : List Entry) → AreFirst entries → canonical (canonical entries) ≡ canonical entries }
+    ensures again { (entries : List Entry) → AreFirst entries
+        → canonical (canonical entries) ≡ canonical entries }
     ensures same { (entries : List Entry) → AreFirst entries → Same entries (canonical entries) }
 {}
 
 /// Two captures, or the first entries of two, are the same up to renaming exactly where the bytes of
 /// their canonical forms are equal.
 pub fn canonical_bytes_decide()
-    ensures same { (a b : List Entry) → AreFirst a → AreFirst b → bytes_of (canonical a) ≡ bytes_of (canonical b) → Same a b }
-    ensures bytes { (a b : List Entry) → Same a b → bytes_of (canonical a) ≡ bytes_of (canonical b) }
+    ensures same { (a b : List Entry) → AreFirst a → AreFirst b
+        → bytes_of (canonical a) ≡ bytes_of (canonical b) → Same a b }
+    ensures bytes { (a b : List Entry) → Same a b
+        → bytes_of (canonical a) ≡ bytes_of (canonical b) }
     ensures forms { (a b : List Entry) → Same a b → canonical a ≡ canonical b }
 {}
 
@@ -77,8 +90,10 @@ pub fn same_is_an_equivalence()
 /// The canonical form of the first entries is the first entries of the canonical form, and its bytes
 /// are a prefix of the whole's. It is made entry by entry, with numbers by the values so far.
 pub fn canonical_forms_of_prefixes()
-    ensures entries { (i : ℕ) (a : List Entry) → AreFirst a → canonical (take i a) ≡ take i (canonical a) }
-    ensures bytes { (i : ℕ) (a : List Entry) → (rest : List ℕ) × (bytes_of (canonical a) ≡ bytes_of (take i (canonical a)) ++ rest) }
+    ensures entries { (i : ℕ) (a : List Entry) → AreFirst a
+        → canonical (take i a) ≡ take i (canonical a) }
+    ensures bytes { (i : ℕ) (a : List Entry) → (rest : List ℕ)
+        × (bytes_of (canonical a) ≡ bytes_of (take i (canonical a)) ++ rest) }
     ensures one_by_one { (a : List Entry) → AreFirst a → canonical a ≡ entries_after [] [] [] a }
     ensures first { (i : ℕ) (a : List Entry) → AreFirst a → AreFirst (take i a) }
 {}
@@ -88,5 +103,6 @@ pub fn comparison_finds_the_parting()
     ensures fronts { (a b : List Entry) → AreFirst a → AreFirst b → FrontsAreDecided a b }
     ensures parts { (a b : List Entry) → AreFirst a → AreFirst b → PartWhereFormsDo a b }
     ensures places { (a b : List Entry) → AreFirst a → AreFirst b → HavePlaces a b }
-    ensures ends { (file other : List ℕ) (a b : List Entry) → Typed file a → Typed other b → EndTogether a b }
+    ensures ends { (file other : List ℕ) (a b : List Entry) → Typed file a → Typed other b
+        → EndTogether a b }
 {}

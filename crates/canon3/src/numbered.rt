@@ -42,8 +42,10 @@ fn number_of_handle<S: BuildHasher + Drop>(
     bytes: &[u8],
 ) -> Result<u32, AllocError>
     requires { length bytes.now ≤ 64 }
-    ensures number { (hs : List (List ℕ)) → HoldsHandles handles.old hs → IfOk result (λ n. n ≡ min (rank bytes_eq bytes.now (hs ++ bytes.now ∷ [])) number_limit) }
-    ensures given { (hs : List (List ℕ)) → HoldsHandles handles.old hs → OnOk result (HoldsHandles handles.new (hs ++ bytes.now ∷ [])) }
+    ensures number { (hs : List (List ℕ)) → HoldsHandles handles.old hs
+        → IfOk result (λ n. n ≡ min (rank bytes_eq bytes.now (hs ++ bytes.now ∷ [])) number_limit) }
+    ensures given { (hs : List (List ℕ)) → HoldsHandles handles.old hs
+        → OnOk result (HoldsHandles handles.new (hs ++ bytes.now ∷ [])) }
 {
     let Some(handle) = Handle::new(bytes) else {
         unreachable!()
@@ -69,14 +71,20 @@ impl<S: BuildHasher + Drop> Numbering<S> {
     /// Begins a connection, whose calls have xids of their own.
     pub(crate) fn begin_connection(&mut self)
         ensures { (before : Before) → Holds self.old before
-            → Holds self.new (record { xids = []; handles = before.handles; verifiers = before.verifiers }) }
+            → Holds self.new (record {
+              xids = [];
+              handles = before.handles;
+              verifiers =
+                  before.verifiers;
+            }) }
     {
         self.xids.clear();
     }
 
     /// Begins a message in place of the one before.
     pub(crate) fn begin_message(&mut self)
-        ensures stands { (before : Before) → Holds self.old before → Stands self.new (behind before []) }
+        ensures stands { (before : Before) → Holds self.old before
+            → Stands self.new (behind before []) }
         ensures going { IsGoing self.new }
     {
         self.writer.clear();
@@ -111,7 +119,8 @@ impl<S: BuildHasher + Drop> Numbering<S> {
     fn write_handle(&mut self, name: &'static str, bytes: &[u8]) -> Result<(), AllocError>
         requires short { length bytes.now ≤ 64 }
         requires some { bytes.now ≢ [] }
-        ensures ok { OnOk result (Adds Stands self.old self.new (Opaque HandleKind name.now bytes.now ∷ [])) }
+        ensures ok { OnOk result (Adds Stands self.old self.new
+            (Opaque HandleKind name.now bytes.now ∷ [])) }
     {
         let number = match number_of_handle(&mut self.handles, bytes) {
             Ok(number) => number,
@@ -124,7 +133,8 @@ impl<S: BuildHasher + Drop> Numbering<S> {
 
     /// Writes the verifier's number in place of the verifier.
     fn write_verifier(&mut self, name: &'static str, bytes: &[u8; 8]) -> Result<(), AllocError>
-        ensures ok { OnOk result (Adds Stands self.old self.new (WriteVerf name.now bytes.now ∷ [])) }
+        ensures ok { OnOk result (Adds Stands self.old self.new
+            (WriteVerf name.now bytes.now ∷ [])) }
     {
         let number = match self.verfs.number_of(*bytes) {
             Ok(number) => number,

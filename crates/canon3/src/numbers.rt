@@ -41,9 +41,12 @@ impl<K: Copy + Eq + Hash, S: BuildHasher + Drop> Numbers<K, S> {
     /// 4,294,967,295. Only a key that was not given before takes memory, and where there is none the
     /// table stays.
     pub fn number_of(&mut self, key: K) -> Result<u32, AllocError>
-        ensures number { (given : List K) → StandsFor K.eq self.old given → IfOk result (λ n. n ≡ min (rank K.eq key (given ++ key ∷ [])) number_limit) }
-        ensures given { (given : List K) → StandsFor K.eq self.old given → OnOk result (StandsFor K.eq self.new (given ++ key ∷ [])) }
-        ensures known { (given : List K) → StandsFor K.eq self.old given → list_any (K.eq key) given ≡ true → IsOk result }
+        ensures number { (given : List K) → StandsFor K.eq self.old given
+            → IfOk result (λ n. n ≡ min (rank K.eq key (given ++ key ∷ [])) number_limit) }
+        ensures given { (given : List K) → StandsFor K.eq self.old given
+            → OnOk result (StandsFor K.eq self.new (given ++ key ∷ [])) }
+        ensures known { (given : List K) → StandsFor K.eq self.old given
+            → list_any (K.eq key) given ≡ true → IsOk result }
         ensures err { OnErr result (self.new ≡ self.old) }
     {
         let (index, _) = self.keys.insert_full(key)?;
@@ -52,7 +55,8 @@ impl<K: Copy + Eq + Hash, S: BuildHasher + Drop> Numbers<K, S> {
 
     /// The number of distinct keys given, at most 4,294,967,295.
     pub fn len(&self) -> u32
-        ensures { (given : List K) → StandsFor K.eq self.now given → result ≡ min (length (distinct K.eq given)) number_limit }
+        ensures { (given : List K) → StandsFor K.eq self.now given
+            → result ≡ min (length (distinct K.eq given)) number_limit }
     {
         u32::try_from(self.keys.len()).unwrap_or(u32::MAX)
     }

@@ -118,7 +118,15 @@ impl MemSink {
     /// Call number `fail` fails, writes and flushes counted together, and none where it is 0.
     pub fn new(alloc: Global, room: usize, block: usize, fail: u64) -> Result<MemSink, AllocError>
         requires { 0 < block }
-        ensures { IfOk result (λ sink. sink ≡ record { bytes = []; flushed = []; room = room; block = block; fails_in = fail; failures = 0 }) }
+        ensures { IfOk result (λ sink. sink
+            ≡ record {
+              bytes = [];
+              flushed = [];
+              room = room;
+              block = block;
+              fails_in = fail;
+              failures = 0;
+            }) }
     {
         let mut bytes = Vec::new(alloc);
         bytes.reserve(room)?;
@@ -161,10 +169,13 @@ impl Sink for MemSink {
         ensures count { Counts self.old.failures self.new.failures result }
 
         // How many bytes a call takes, and which call fails.
-        ensures given { IfOk result (λ n. n ≡ min (min self.old.block self.old.room) (length piece.now)) }
+        ensures given { IfOk result (λ n. n ≡ min (min self.old.block self.old.room)
+            (length piece.now)) }
         ensures fails { IsErr result ↔ ((self.old.fails_in ≡ 1) ⊎ (self.old.room ≡ 0)) }
-        ensures room { self.new.room + length self.new.bytes ≡ self.old.room + length self.old.bytes }
-        ensures next { (self.new.fails_in ≡ self.old.fails_in - 1) × (self.new.block ≡ self.old.block) }
+        ensures room { self.new.room + length self.new.bytes
+            ≡ self.old.room + length self.old.bytes }
+        ensures next { (self.new.fails_in ≡ self.old.fails_in - 1)
+            × (self.new.block ≡ self.old.block) }
     {
         self.plan.next_call()?;
         if self.room == 0 {
@@ -188,7 +199,8 @@ impl Sink for MemSink {
         // A failed flush flushes nothing.
         ensures unflushed { OnErr result (self.new.flushed ≡ self.old.flushed) }
         ensures fails { IsErr result ↔ (self.old.fails_in ≡ 1) }
-        ensures next { (self.new.fails_in ≡ self.old.fails_in - 1) × (self.new.block ≡ self.old.block) × (self.new.room ≡ self.old.room) }
+        ensures next { (self.new.fails_in ≡ self.old.fails_in - 1)
+            × (self.new.block ≡ self.old.block) × (self.new.room ≡ self.old.room) }
     {
         self.plan.next_call()?;
         self.flushed = self.bytes.len();

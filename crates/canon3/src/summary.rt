@@ -38,7 +38,9 @@ pub fn check<R: Source, S: BuildHasher + Drop>(
     source: &mut R,
 ) -> Result<Summary, Error>
     ensures ok { (bytes : List ℕ) → R.left source.old ≡ Some bytes → IfOk result (IsSummary bytes) }
-    ensures refused { (bytes : List ℕ) → R.left source.old ≡ Some bytes → IfErr result (λ error. (fault : Fault) → error ≡ Error.Refused fault → FirstFault bytes fault) }
+    ensures refused { (bytes : List ℕ) → R.left source.old ≡ Some bytes
+        → IfErr result (λ error. (fault : Fault) → error ≡ Error.Refused fault
+        → FirstFault bytes fault) }
     ensures concludes { ConcludesGiven (R.left source.old) (R.left source.new) result }
     ensures read { CountsReading (R.failures source.old) (R.failures source.new) result }
     ensures write { IfErr result (λ error. error ≢ Error.Write) }
@@ -63,7 +65,8 @@ fn summed<R: Source, S: BuildHasher + Drop>(
     requires going { failure_of entries.old ≡ None }
     ensures concludes { ConcludesGiven (R.left entries.old.source.now)
         (R.left entries.new.source.now) result }
-    ensures read { CountsReading (R.failures entries.old.source.now) (R.failures entries.new.source.now) result }
+    ensures read { CountsReading (R.failures entries.old.source.now)
+        (R.failures entries.new.source.now) result }
     ensures write { IfErr result (λ error. error ≢ Error.Write) }
     ensures same_reference { entries.new.source.ghost_name ≡ entries.old.source.ghost_name }
 {
@@ -96,8 +99,10 @@ impl<S: BuildHasher + Drop> Tally<S> {
     fn add_all<R: Source>(&mut self, entries: &mut Entries<'_, R, S>) -> Result<(), Error>
         requires going { failure_of entries.old ≡ None }
         requires room { passed_steps self.old.passed + entries_left entries.old ≤ most_entries }
-        ensures over { (first : Option (List ℕ)) → IsUnderWay R.left first entries.old self.old → IsOver R.left first entries.new self.new result }
-        ensures read { CountsReading (R.failures entries.old.source.now) (R.failures entries.new.source.now) result }
+        ensures over { (first : Option (List ℕ)) → IsUnderWay R.left first entries.old self.old
+            → IsOver R.left first entries.new self.new result }
+        ensures read { CountsReading (R.failures entries.old.source.now)
+            (R.failures entries.new.source.now) result }
         ensures write { IfErr result (λ error. error ≢ Error.Write) }
         ensures same_reference { entries.new.source.ghost_name ≡ entries.old.source.ghost_name }
     {
@@ -109,12 +114,15 @@ impl<S: BuildHasher + Drop> Tally<S> {
     fn add_next<R: Source>(&mut self, entries: &mut Entries<'_, R, S>) -> Result<bool, Error>
         requires going { failure_of entries.old ≡ None }
         requires room { passed_steps self.old.passed + entries_left entries.old ≤ most_entries }
-        ensures goes_on { (first : Option (List ℕ)) → IsUnderWay R.left first entries.old self.old → GoesOn R.left first entries.new self.new result }
-        ensures fewer { IfOk result (λ more. IsTrue more → entries_left entries.new < entries_left entries.old) }
+        ensures goes_on { (first : Option (List ℕ)) → IsUnderWay R.left first entries.old self.old
+            → GoesOn R.left first entries.new self.new result }
+        ensures fewer { IfOk result (λ more. IsTrue more
+            → entries_left entries.new < entries_left entries.old) }
         ensures going { OnOk result (failure_of entries.new ≡ None) }
         ensures room { IfOk result (λ more. IsTrue more
             → passed_steps self.new.passed + entries_left entries.new ≤ most_entries) }
-        ensures read { CountsReading (R.failures entries.old.source.now) (R.failures entries.new.source.now) result }
+        ensures read { CountsReading (R.failures entries.old.source.now)
+            (R.failures entries.new.source.now) result }
         ensures write { IfErr result (λ error. error ≢ Error.Write) }
         ensures same_reference { entries.new.source.ghost_name ≡ entries.old.source.ghost_name }
     {

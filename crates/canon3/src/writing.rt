@@ -34,8 +34,10 @@ pub fn write_all<W: Sink>(sink: &mut W, bytes: &[u8]) -> Result<(), DeviceFailed
 /// error a front of the chunk was written.
 pub(crate) fn write_record<W: Sink>(sink: &mut W, body: &[u8]) -> Result<(), DeviceFailed>
     requires { length body.now ≤ max_body }
-    ensures ok { OnOk result (Appends (W.written sink.old) (W.written sink.new) (chunk_bytes (record_bytes body.now))) }
-    ensures err { OnErr result (AppendsFront (W.written sink.old) (W.written sink.new) (chunk_bytes (record_bytes body.now))) }
+    ensures ok { OnOk result (Appends (W.written sink.old) (W.written sink.new)
+        (chunk_bytes (record_bytes body.now))) }
+    ensures err { OnErr result (AppendsFront (W.written sink.old) (W.written sink.new)
+        (chunk_bytes (record_bytes body.now))) }
     ensures count { Counts (W.failures sink.old) (W.failures sink.new) result }
 {
     match write_all(sink, &front(body.len() as u32)) {

@@ -52,7 +52,12 @@ impl Container {
 
     /// A fault of the record that is whole.
     pub(crate) fn record_fault(&self, side: Side, byte: u32, reason: Reason) -> Error
-        ensures { result ≡ Error.Refused (record { place = Place.Record self.now.position.connections side self.now.position.records byte; reason = reason }) }
+        ensures { result ≡ Error.Refused
+            (record {
+              place = Place.Record self.now.position.connections side
+                  self.now.position.records byte;
+              reason = reason;
+            }) }
     {
         self.position.record_fault(side, byte, reason)
     }
@@ -66,9 +71,13 @@ impl Container {
         ensures some { IfOk result (λ r. 0 < length piece.now → 0 < r.0) }
         ensures more { IfOk result (λ r. r.1 ≡ None → r.0 ≡ length piece.now) }
         ensures joiner { IfOk result (λ r. Leaves r.1 self.new.joiner) }
-        ensures machine { IfOk result (λ r. Arrives (unpacking_of self.old.position self.old.joiner) (take r.0 piece.now) r.1 self.new.position self.new.joiner) }
-        ensures fault { IfErr result (Fails (unpacking_of self.old.position self.old.joiner) piece.now) }
-        ensures room { IfOk result (λ r. room_of self.new.position + cost_of r.1 ≤ room_of self.old.position) }
+        ensures machine { IfOk result
+            (λ r. Arrives (unpacking_of self.old.position self.old.joiner)
+            (take r.0 piece.now) r.1 self.new.position self.new.joiner) }
+        ensures fault { IfErr result (Fails
+            (unpacking_of self.old.position self.old.joiner) piece.now) }
+        ensures room { IfOk result (λ r. room_of self.new.position + cost_of r.1
+            ≤ room_of self.old.position) }
     {
         let mut taken = 0;
         while taken < piece.len() {
@@ -89,7 +98,9 @@ impl Container {
     /// Tests that the file may end here, after so many bytes.
     pub(crate) fn end(&self, size: u64) -> Result<(), Error>
         ensures ok { OnOk result (self.now.position.spot ≡ Spot.Ended) }
-        ensures err { IfErr result (λ error. (self.now.position.spot ≢ Spot.Ended) × (error ≡ Error.Refused (record { place = Place.File size; reason = Reason.CaptureCut }))) }
+        ensures err { IfErr result (λ error. (self.now.position.spot ≢ Spot.Ended)
+            × (error ≡ Error.Refused (record
+            { place = Place.File size; reason = Reason.CaptureCut }))) }
     {
         match self.position.spot {
             Spot::Ended => Ok(()),
@@ -104,8 +115,11 @@ impl Container {
         requires running { IsRunning self.old.joiner }
         ensures taken { IfOk result (TakesSome self.old.position rest.now) }
         ensures joiner { IfOk result (λ taken. Leaves taken.event self.new.joiner) }
-        ensures machine { IfOk result (λ taken. Arrives (unpacking_of self.old.position self.old.joiner) (take taken.count rest.now) taken.event taken.position self.new.joiner) }
-        ensures fault { IfErr result (Fails (unpacking_of self.old.position self.old.joiner) rest.now) }
+        ensures machine { IfOk result
+            (λ taken. Arrives (unpacking_of self.old.position self.old.joiner)
+            (take taken.count rest.now) taken.event taken.position self.new.joiner) }
+        ensures fault { IfErr result (Fails
+            (unpacking_of self.old.position self.old.joiner) rest.now) }
         ensures position { self.new.position ≡ self.old.position }
     {
         match self.position.spot {
@@ -140,8 +154,11 @@ impl Container {
         requires here { self.old.position.spot ≡ Spot.Chunk side left }
         ensures taken { IfOk result (TakesSome self.old.position rest.now) }
         ensures joiner { IfOk result (λ taken. Leaves taken.event self.new.joiner) }
-        ensures machine { IfOk result (λ taken. Arrives (unpacking_of self.old.position self.old.joiner) (take taken.count rest.now) taken.event taken.position self.new.joiner) }
-        ensures fault { IfErr result (Fails (unpacking_of self.old.position self.old.joiner) rest.now) }
+        ensures machine { IfOk result
+            (λ taken. Arrives (unpacking_of self.old.position self.old.joiner)
+            (take taken.count rest.now) taken.event taken.position self.new.joiner) }
+        ensures fault { IfErr result (Fails
+            (unpacking_of self.old.position self.old.joiner) rest.now) }
         ensures position { self.new.position ≡ self.old.position }
     {
         let position = self.position;

@@ -117,12 +117,16 @@ impl<'r, R: Source, S: BuildHasher + Drop> Entries<'r, R, S> {
         ensures over { IsOver self.old → (result ≡ Ok None) × (self.new ≡ self.old) }
         ensures untold { IfOk result (λ next. next ≡ None → visitor.new ≡ visitor.old) }
         ensures last { IfOk result (λ next. IsSome next → last_of self.new ≡ next) }
-        ensures fewer { IfOk result (λ next. IsSome next → entries_left self.new < entries_left self.old) }
+        ensures fewer { IfOk result (λ next. IsSome next
+            → entries_left self.new < entries_left self.old) }
         ensures going { OnOk result (failure_of self.new ≡ None) }
         ensures failed { IfErr result (λ error. failure_of self.new ≡ Some error) }
         ensures again { (error : Error) → failure_of self.old ≡ Some error → result ≡ Err error }
-        ensures unread { (error : Error) → failure_of self.old ≡ Some error → self.new.source.now ≡ self.old.source.now }
-        ensures read { failure_of self.old ≡ None → CountsReading (R.failures self.old.source.now) (R.failures self.new.source.now) result }
+        ensures unread { (error : Error) → failure_of self.old ≡ Some error
+            → self.new.source.now ≡ self.old.source.now }
+        ensures read { failure_of self.old ≡ None
+            → CountsReading (R.failures self.old.source.now)
+            (R.failures self.new.source.now) result }
         ensures write { IfErr result (λ error. error ≢ Error.Write) }
         ensures same_block { block_size self.new ≡ block_size self.old }
         ensures same_reference { self.new.source.ghost_name ≡ self.old.source.ghost_name }
@@ -160,7 +164,8 @@ impl<'r, R: Source, S: BuildHasher + Drop> Entries<'r, R, S> {
         ensures some { IfOk result (λ next. IsSome next) }
         ensures going { OnOk result (failure_of self.new ≡ None) }
         ensures failed { IfErr result (λ error. self.new.stage ≡ Stage.Failed error) }
-        ensures read { CountsReading (R.failures self.old.source.now) (R.failures self.new.source.now) result }
+        ensures read { CountsReading (R.failures self.old.source.now)
+            (R.failures self.new.source.now) result }
         ensures same_block { block_size self.new ≡ block_size self.old }
         ensures same_reference { self.new.source.ghost_name ≡ self.old.source.ghost_name }
     {
@@ -186,14 +191,17 @@ impl<'r, R: Source, S: BuildHasher + Drop> Entries<'r, R, S> {
             → Turns R.left V.stands self.old self.new visitor.old visitor.new given handed result }
         ensures end { result ≡ Ok (Some Kind.End) → IsOver self.new }
         ensures last { IfOk result (λ next. IsSome next → last_of self.new ≡ next) }
-        ensures fewer { IfOk result (λ next. IsSome next → entries_left self.new < entries_left self.old) }
+        ensures fewer { IfOk result (λ next. IsSome next
+            → entries_left self.new < entries_left self.old) }
         ensures on { IfOk result (λ next. next ≡ None → self.old.judged < self.new.judged) }
         ensures untold { IfOk result (λ next. next ≡ None → visitor.new ≡ visitor.old) }
-        ensures no_more { IfOk result (λ next. next ≡ None → entries_left self.new ≤ entries_left self.old) }
+        ensures no_more { IfOk result
+            (λ next. next ≡ None → entries_left self.new ≤ entries_left self.old) }
         ensures reading { IfOk result (λ next. next ≡ None → self.new.stage ≡ Stage.Reading) }
         ensures going { OnOk result (failure_of self.new ≡ None) }
         ensures failed { IfErr result (λ error. self.new.stage ≡ Stage.Failed error) }
-        ensures read { CountsReading (R.failures self.old.source.now) (R.failures self.new.source.now) result }
+        ensures read { CountsReading (R.failures self.old.source.now)
+            (R.failures self.new.source.now) result }
         ensures same_block { block_size self.new ≡ block_size self.old }
         ensures same_reference { self.new.source.ghost_name ≡ self.old.source.ghost_name }
     {
@@ -217,7 +225,9 @@ impl<'r, R: Source, S: BuildHasher + Drop> Entries<'r, R, S> {
         requires reading { self.old.stage ≡ Stage.Reading }
         requires bounded { self.old.judged ≤ most_bytes }
         requires judged { self.old.start ≡ self.old.end }
-        ensures has_read { (given : List ℕ) (handed : List spec.Entry) → StandsFor R.left self.old given handed → HasRead R.left self.old self.new given handed }
+        ensures has_read { (given : List ℕ) (handed : List spec.Entry)
+            → StandsFor R.left self.old given handed
+            → HasRead R.left self.old self.new given handed }
         ensures some { IfOk result (λ more. IsTrue more → self.new.start < self.new.end) }
         ensures none { IfOk result (λ more. IsFalse more → self.new.start ≡ self.new.end) }
         ensures end { IfOk result (λ more. IsFalse more → IsAtEnd (R.left self.new.source.now)) }
@@ -225,7 +235,8 @@ impl<'r, R: Source, S: BuildHasher + Drop> Entries<'r, R, S> {
         ensures same_count { self.new.judged ≡ self.old.judged }
         ensures reading { OnOk result (self.new.stage ≡ Stage.Reading) }
         ensures failed { IfErr result (λ error. self.new.stage ≡ Stage.Failed error) }
-        ensures read { CountsReading (R.failures self.old.source.now) (R.failures self.new.source.now) result }
+        ensures read { CountsReading (R.failures self.old.source.now)
+            (R.failures self.new.source.now) result }
         ensures same_block { block_size self.new ≡ block_size self.old }
         ensures same_reference { self.new.source.ghost_name ≡ self.old.source.ghost_name }
     {
@@ -255,8 +266,10 @@ impl<'r, R: Source, S: BuildHasher + Drop> Entries<'r, R, S> {
         ensures not_end { result ≢ Ok (Some Kind.End) }
         ensures untold { IfOk result (λ next. next ≡ None → visitor.new ≡ visitor.old) }
         ensures last { IfOk result (λ next. IsSome next → last_of self.new ≡ next) }
-        ensures fewer { IfOk result (λ next. IsSome next → entries_left self.new < entries_left self.old) }
-        ensures no_more { IfOk result (λ next. next ≡ None → entries_left self.new ≤ entries_left self.old) }
+        ensures fewer { IfOk result (λ next. IsSome next
+            → entries_left self.new < entries_left self.old) }
+        ensures no_more { IfOk result
+            (λ next. next ≡ None → entries_left self.new ≤ entries_left self.old) }
         ensures on { OnOk result (self.old.judged < self.new.judged) }
         ensures reading { OnOk result (self.new.stage ≡ Stage.Reading) }
         ensures failed { IfErr result (λ error. self.new.stage ≡ Stage.Failed error) }

@@ -39,7 +39,8 @@ impl<C: CallTable + Drop> Capture<C> {
         ensures sound { IsSound result.container.position }
         ensures running { IsRunning result.container.joiner }
         ensures room { room_of result.container.position ≤ most_things }
-        ensures machine { StandsAt result.container.position result.container.joiner (C.calls result.calls) (Runs file_start) [] }
+        ensures machine { StandsAt result.container.position result.container.joiner
+            (C.calls result.calls) (Runs file_start) [] }
     {
         Capture {
             container: Container::new(alloc),
@@ -117,7 +118,9 @@ impl<C: CallTable + Drop> Capture<C> {
     /// Tests that the file may end here, after so many bytes.
     pub(crate) fn end(&self, size: u64) -> Result<(), Error>
         ensures ok { OnOk result (self.now.container.position.spot ≡ Spot.Ended) }
-        ensures err { IfErr result (λ error. (self.now.container.position.spot ≢ Spot.Ended) × (error ≡ Error.Refused (record { place = Place.File size; reason = Reason.CaptureCut }))) }
+        ensures err { IfErr result (λ error. (self.now.container.position.spot ≢ Spot.Ended)
+            × (error ≡ Error.Refused (record
+            { place = Place.File size; reason = Reason.CaptureCut }))) }
     {
         self.container.end(size)
     }

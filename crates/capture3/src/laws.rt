@@ -34,35 +34,44 @@ pub fn cut_short()
 /// A body of the client stream is one call, or has one first fault, after any calls before it; and so
 /// is a body of the server stream one reply, or has one first fault.
 pub fn judged_once()
-    ensures calls { (before : List (List Item)) (body : List ℕ) → AreBytes body → IsJudgedOnce calls_in_turn before body }
-    ensures replies { (calls : List (List Item)) (before : List ReplyItems) (body : List ℕ) → AreBytes body → IsJudgedOnce (replies_to calls) before body }
+    ensures calls { (before : List (List Item)) (body : List ℕ) → AreBytes body
+        → IsJudgedOnce calls_in_turn before body }
+    ensures replies { (calls : List (List Item)) (before : List ReplyItems) (body : List ℕ)
+        → AreBytes body → IsJudgedOnce (replies_to calls) before body }
 {}
 
 /// Judging body by body says the same of a connection as that its bodies are calls and replies, that
 /// calls with one xid have one procedure, and that each reply has the xid and the procedure of a call.
 pub fn judged_in_turn()
-    ensures { (streams : Streams) (calls : List (List Item)) (replies : List ReplyItems) → IsJudgedInTurn streams calls replies }
+    ensures { (streams : Streams) (calls : List (List Item)) (replies : List ReplyItems)
+        → IsJudgedInTurn streams calls replies }
 {}
 
 /// The entries of a well-formed file, and those that any bytes reach, begin at most 65,535
 /// connections, and the zero spellings of their messages have together at most 1,073,741,824 bytes.
 pub fn within_limits()
-    ensures typed { (file : List ℕ) (entries : List Entry) → Typed file entries → AreWithinLimits entries }
-    ensures reached { (bytes : List ℕ) (entries : List Entry) → Reached bytes entries → AreWithinLimits entries }
+    ensures typed { (file : List ℕ) (entries : List Entry) → Typed file entries
+        → AreWithinLimits entries }
+    ensures reached { (bytes : List ℕ) (entries : List Entry) → Reached bytes entries
+        → AreWithinLimits entries }
 {}
 
 /// A well-formed file has at most 5,369,495,552 bytes, and so have bytes that show no fault.
 pub fn longest()
-    ensures typed { (file : List ℕ) (entries : List Entry) → Typed file entries → length file ≤ most_bytes }
+    ensures typed { (file : List ℕ) (entries : List Entry) → Typed file entries
+        → length file ≤ most_bytes }
     ensures clean { (file : List ℕ) → AreBytes file → IsClean file → length file ≤ most_bytes }
 {}
 
 /// The machine answers the entries or the first fault, and each only where it holds; and what it emits
 /// is what the bytes reach.
 pub fn machine()
-    ensures entries { (file : List ℕ) (entries : List Entry) → AreBytes file → Typed file entries ↔ (verdict file ≡ Ok entries) }
-    ensures fault { (file : List ℕ) (fault : Fault) → AreBytes file → FirstFault file fault ↔ (verdict file ≡ Err fault) }
-    ensures reached { (bytes : List ℕ) (entries : List Entry) → AreBytes bytes → Reached bytes entries ↔ (entries ≡ reached bytes) }
+    ensures entries { (file : List ℕ) (entries : List Entry) → AreBytes file
+        → Typed file entries ↔ (verdict file ≡ Ok entries) }
+    ensures fault { (file : List ℕ) (fault : Fault) → AreBytes file
+        → FirstFault file fault ↔ (verdict file ≡ Err fault) }
+    ensures reached { (bytes : List ℕ) (entries : List Entry) → AreBytes bytes
+        → Reached bytes entries ↔ (entries ≡ reached bytes) }
 {}
 
 /// The pieces in which the bytes come play no part.
@@ -75,7 +84,9 @@ pub fn examples()
     ensures null { Typed null_capture null_entries }
     ensures smallest { Typed (magic_1 ++ word_0) (End ∷ []) }
     ensures after_end { FirstFault (magic_1 ++ word_0 ++ 7 ∷ []) (file_fault 12 AfterEnd) }
-    ensures too_many_bytes { FirstFault (magic_1 ++ word_1 ++ 64 ∷ 0 ∷ 0 ∷ 1 ∷ []) (file_fault 12 TooManyBytes) }
-    ensures bad_mtype { FirstFault bad_mtype (record { place = Record 1 Client 1 4; reason = BadEnum }) }
+    ensures too_many_bytes { FirstFault (magic_1 ++ word_1 ++ 64 ∷ 0 ∷ 0 ∷ 1 ∷ [])
+        (file_fault 12 TooManyBytes) }
+    ensures bad_mtype { FirstFault bad_mtype
+        (record { place = Record 1 Client 1 4; reason = BadEnum }) }
     ensures bad_mtype_cut { FirstFault bad_mtype_cut (file_fault 27 CaptureCut) }
 {}

@@ -91,7 +91,8 @@ impl Position {
         requires some { 0 < length rest.now }
         ensures taken { IfOk result (TakesSome self rest.now) }
         ensures event { IfOk result (λ taken. IsOfContainer taken.event) }
-        ensures machine { (joining : Joining) → Moves (unpacking_at self joining) rest.now joining result }
+        ensures machine { (joining : Joining)
+            → Moves (unpacking_at self joining) rest.now joining result }
     {
         let from = self.at as usize;
         let count = (MAGIC.len() - from).min(rest.len());
@@ -116,7 +117,8 @@ impl Position {
         requires some { 0 < length rest.now }
         ensures taken { IfOk result (TakesSome self rest.now) }
         ensures event { IfOk result (λ taken. IsOfContainer taken.event) }
-        ensures machine { (joining : Joining) → Moves (unpacking_at self joining) rest.now joining result }
+        ensures machine { (joining : Joining)
+            → Moves (unpacking_at self joining) rest.now joining result }
     {
         let (count, word) = part.taken(rest);
         match word {
@@ -131,9 +133,12 @@ impl Position {
         requires here { self.spot ≡ Spot.Mark part }
         ensures count { IfOk result (λ taken. taken.count ≡ count) }
         ensures sound { IfOk result (λ taken. IsSound taken.position) }
-        ensures room { IfOk result (λ taken. room_of taken.position + cost_of taken.event ≤ room_of self) }
+        ensures room { IfOk result (λ taken. room_of taken.position + cost_of taken.event
+            ≤ room_of self) }
         ensures event { IfOk result (λ taken. IsOfContainer taken.event) }
-        ensures machine { (joining : Joining) → Lands (marked self.at self.total self.connections self.records joining n) joining result }
+        ensures machine { (joining : Joining)
+            → Lands (marked self.at self.total self.connections self.records joining n) joining
+            result }
     {
         match n {
             0 => Ok(self.moved(count, self.at + 4, Spot::Ended)),
@@ -156,7 +161,8 @@ impl Position {
         requires some { 0 < length rest.now }
         ensures taken { IfOk result (TakesSome self rest.now) }
         ensures event { IfOk result (λ taken. IsOfContainer taken.event) }
-        ensures machine { (joining : Joining) → IsOpenBody so_far joining → Moves (unpacking_at self joining) rest.now joining result }
+        ensures machine { (joining : Joining) → IsOpenBody so_far joining
+            → Moves (unpacking_at self joining) rest.now joining result }
     {
         let (count, word) = part.taken(rest);
         match word {
@@ -178,9 +184,12 @@ impl Position {
         requires here { self.spot ≡ Spot.Length side part }
         ensures count { IfOk result (λ taken. taken.count ≡ count) }
         ensures sound { IfOk result (λ taken. IsSound taken.position) }
-        ensures room { IfOk result (λ taken. room_of taken.position + cost_of taken.event ≤ room_of self) }
+        ensures room { IfOk result (λ taken. room_of taken.position + cost_of taken.event
+            ≤ room_of self) }
         ensures event { IfOk result (λ taken. IsOfContainer taken.event) }
-        ensures machine { (joining : Joining) → IsOpenBody so_far joining → Lands (Ends (closed self.at self.total self.connections self.records side joining)) joining result }
+        ensures machine { (joining : Joining) → IsOpenBody so_far joining
+            → Lands (Ends (closed self.at self.total self.connections self.records side joining))
+            joining result }
     {
         match so_far {
             None => Ok(self.stream_closed(side, part, count)),
@@ -201,9 +210,12 @@ impl Position {
         requires some { 0 < len }
         ensures count { IfOk result (λ taken. taken.count ≡ count) }
         ensures sound { IfOk result (λ taken. IsSound taken.position) }
-        ensures room { IfOk result (λ taken. room_of taken.position + cost_of taken.event ≤ room_of self) }
+        ensures room { IfOk result (λ taken. room_of taken.position + cost_of taken.event
+            ≤ room_of self) }
         ensures event { IfOk result (λ taken. IsOfContainer taken.event) }
-        ensures machine { (joining : Joining) → Lands (counted self.at self.total self.connections self.records side joining len) joining result }
+        ensures machine { (joining : Joining)
+            → Lands (counted self.at self.total self.connections self.records side joining len)
+            joining result }
     {
         if len > MAX_BYTES - self.total {
             return Err(file_fault(self.at, Reason::TooManyBytes));
@@ -221,7 +233,9 @@ impl Position {
         ensures sound { IsSound result.position }
         ensures room { room_of result.position + cost_of result.event ≤ room_of self }
         ensures event { result.event ≡ (if is_record then Some (Event.Record side) else None) }
-        ensures machine { (joining : Joining) → unpacking_at result.position joining ≡ in_chunk self.at self.total self.connections (if is_record then self.records + 1 else self.records) side (left - count) joining }
+        ensures machine { (joining : Joining)
+            → unpacking_at result.position joining ≡ in_chunk self.at self.total self.connections
+            (if is_record then self.records + 1 else self.records) side (left - count) joining }
     {
         let left = left - count;
         let spot = if left == 0 {
@@ -245,7 +259,11 @@ impl Position {
 
     /// A fault of the record that became whole last.
     pub(crate) fn record_fault(self, side: Side, byte: u32, reason: Reason) -> Error
-        ensures { result ≡ Error.Refused (record { place = Place.Record self.connections side self.records byte; reason = reason }) }
+        ensures { result ≡ Error.Refused
+            (record {
+              place = Place.Record self.connections side self.records byte;
+              reason = reason;
+            }) }
     {
         self.fault_in(side, self.records, byte, reason)
     }
@@ -253,13 +271,19 @@ impl Position {
     /// A fault of the record that is open.
     pub(crate) fn next_record_fault(self, side: Side, byte: u32, reason: Reason) -> Error
         requires { IsSound self }
-        ensures { result ≡ Error.Refused (record { place = Place.Record self.connections side (self.records + 1) byte; reason = reason }) }
+        ensures { result ≡ Error.Refused
+            (record {
+              place = Place.Record self.connections side
+                  (self.records + 1) byte;
+              reason = reason;
+            }) }
     {
         self.fault_in(side, self.records + 1, byte, reason)
     }
 
     fn fault_in(self, side: Side, rec_no: u32, byte: u32, reason: Reason) -> Error
-        ensures { result ≡ Error.Refused (record { place = Place.Record self.connections side rec_no byte; reason = reason }) }
+        ensures { result ≡ Error.Refused
+            (record { place = Place.Record self.connections side rec_no byte; reason = reason }) }
     {
         Error::Refused(Fault {
             place: Place::Record {
@@ -273,7 +297,11 @@ impl Position {
     }
 
     fn moved(self, count: usize, at: u64, spot: Spot) -> Taken
-        ensures { result ≡ record { count = count; position = record self { at = at; spot = spot }; event = None } }
+        ensures { result ≡ record {
+          count = count;
+          position = record self { at = at; spot = spot };
+          event = None;
+        } }
     {
         Taken {
             count,
@@ -291,7 +319,9 @@ impl Position {
         ensures sound { IsSound result.position }
         ensures room { room_of result.position + 1 ≤ room_of self }
         ensures event { result.event ≡ Some Event.Begin }
-        ensures machine { (joining : Joining) → unpacking_at result.position joining ≡ spec.before_stream self.at self.total (self.connections + 1) joining Side.Client }
+        ensures machine { (joining : Joining)
+            → unpacking_at result.position joining ≡ spec.before_stream self.at self.total
+            (self.connections + 1) joining Side.Client }
     {
         Taken {
             count,
@@ -311,7 +341,8 @@ impl Position {
         ensures sound { IsSound result.position }
         ensures room { room_of result.position + 1 ≤ room_of self }
         ensures event { IsOfContainer result.event × (cost_of result.event ≡ 1) }
-        ensures machine { landed_at result.event (unpacking_at result.position Between) ≡ Stops (closed self.at self.total self.connections self.records side Between) }
+        ensures machine { landed_at result.event (unpacking_at result.position Between) ≡ Stops
+            (closed self.at self.total self.connections self.records side Between) }
     {
         match side {
             Side::Client => Taken {
@@ -334,9 +365,12 @@ impl Position {
     fn before_stream(self, side: Side) -> Position
         requires { self.at < 2 ^ 60 }
         ensures at { result.at ≡ self.at + 4 }
-        ensures counts { (result.total ≡ self.total) × (result.connections ≡ self.connections) × (result.records ≡ 0) }
+        ensures counts { (result.total ≡ self.total) × (result.connections ≡ self.connections)
+            × (result.records ≡ 0) }
         ensures spot { IsBeforeStream side result.spot }
-        ensures machine { (joining : Joining) → unpacking_at result joining ≡ spec.before_stream self.at self.total self.connections joining side }
+        ensures machine { (joining : Joining)
+            → unpacking_at result joining
+            ≡ spec.before_stream self.at self.total self.connections joining side }
     {
         Position {
             at: self.at + 4,
@@ -356,7 +390,9 @@ impl Position {
         ensures sound { IsSound result.position }
         ensures room { room_of result.position ≤ room_of self }
         ensures event { result.event ≡ None }
-        ensures machine { (joining : Joining) → Goes (unpacking_at result.position joining) ≡ counted self.at self.total self.connections self.records side joining len }
+        ensures machine { (joining : Joining)
+            → Goes (unpacking_at result.position joining)
+            ≡ counted self.at self.total self.connections self.records side joining len }
     {
         Taken {
             count,

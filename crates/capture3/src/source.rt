@@ -82,7 +82,13 @@ impl<'a> MemSource<'a> {
     /// Call number `fail` fails, none where it is 0.
     pub fn new(bytes: &'a [u8], block: usize, fail: u64) -> MemSource<'a>
         requires { 0 < block }
-        ensures { result ≡ record { left = bytes.entry.now; block = block; fails_in = fail; failures = 0 } }
+        ensures { result ≡ record {
+          left = bytes.entry.now;
+          block = block;
+          fails_in = fail;
+          failures
+              = 0;
+        } }
     {
         MemSource {
             bytes,
@@ -104,9 +110,11 @@ impl Source for MemSource<'_> {
         ensures count { Counts self.old.failures self.new.failures result }
 
         // How many bytes a call gives, and which call fails.
-        ensures given { IfOk result (λ n. n ≡ min (min self.old.block (length buf.old)) (length self.old.left)) }
+        ensures given { IfOk result (λ n. n ≡ min (min self.old.block (length buf.old))
+            (length self.old.left)) }
         ensures fails { IsErr result ↔ (self.old.fails_in ≡ 1) }
-        ensures next { (self.new.fails_in ≡ self.old.fails_in - 1) × (self.new.block ≡ self.old.block) }
+        ensures next { (self.new.fails_in ≡ self.old.fails_in - 1)
+            × (self.new.block ≡ self.old.block) }
     {
         self.plan.next_call()?;
         let count = self.block.min(buf.len()).min(self.bytes.len());

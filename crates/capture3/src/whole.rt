@@ -25,12 +25,16 @@ use std::alloc::Global;
 /// `Refused` with the first fault of a capture that is not well formed, and `Memory` where none was to be
 /// had; never `Read` or `Write`.
 pub fn parse(alloc: Global, bytes: &[u8]) -> Result<Vec<Entry>, Error>
-    ensures entries { IfOk result (λ kept. (entries : List spec.Entry) × Typed bytes.now entries × AreKept kept.items entries) }
-    ensures fault { IfErr result (λ error. (fault : Fault) → error ≡ Error.Refused fault → FirstFault bytes.now fault) }
+    ensures entries { IfOk result
+        (λ kept. (entries : List spec.Entry) × Typed bytes.now entries
+        × AreKept kept.items entries) }
+    ensures fault { IfErr result (λ error. (fault : Fault) → error ≡ Error.Refused fault
+        → FirstFault bytes.now fault) }
     ensures read { IfErr result (λ error. error ≢ Error.Read) }
     ensures write { IfErr result (λ error. error ≢ Error.Write) }
     ensures connections { IfOk result (λ kept. begun kept.items ≤ max_connections) }
-    ensures spelled { IfOk result (λ _. (entries : List spec.Entry) → Typed bytes.now entries → spelled entries ≤ max_bytes) }
+    ensures spelled { IfOk result
+        (λ _. (entries : List spec.Entry) → Typed bytes.now entries → spelled entries ≤ max_bytes) }
     ensures few { IfOk result (λ kept. vec_len kept ≤ most_entries) }
 {
     let mut capture = Capture::new(alloc, CallList::new(alloc));

@@ -48,7 +48,8 @@ impl FileKind {
     /// Takes the next word, which is the number of a kind of file. `BadEnum` at it where it is any other, `Short`
     /// where it is not whole.
     pub fn take(input: &mut Input) -> Result<FileKind, Stop>
-        ensures read { Answers file_kind_number result input.new.at (word_at (is_listed file_kind_words) Reason.BadEnum input.old.body input.old.at) }
+        ensures read { Answers file_kind_number result input.new.at
+            (word_at (is_listed file_kind_words) Reason.BadEnum input.old.body input.old.at) }
         ensures moves { MovesOn input.old input.new }
     {
         let n = input.listed(&[1, 2, 3, 4, 5, 6, 7])?;

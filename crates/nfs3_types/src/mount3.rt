@@ -61,7 +61,8 @@ impl MountStatus {
     /// Takes the next word, which is the number of a status. `BadEnum` at it where it is any other, `Short`
     /// where it is not whole.
     pub fn take(input: &mut Input) -> Result<MountStatus, Stop>
-        ensures read { Answers mount_status_number result input.new.at (word_at (is_listed mount_status_words) Reason.BadEnum input.old.body input.old.at) }
+        ensures read { Answers mount_status_number result input.new.at
+            (word_at (is_listed mount_status_words) Reason.BadEnum input.old.body input.old.at) }
         ensures moves { MovesOn input.old input.new }
     {
         let n = input.listed(&[0, 1, 2, 5, 13, 20, 22, 63, 10_004, 10_006])?;

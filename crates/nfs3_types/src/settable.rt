@@ -68,7 +68,9 @@ impl Walk for Sattr {
 /// A word 1 and a word, or a word 0 alone.
 #[tactic(auto, unfolding(xdr3::specs::Reading::reading, xdr3::specs::Shape::optional, crate::specs::Shapes::set_word))]
 fn set_word(input: &mut Input) -> Result<Option<u32>, Stop>
-    ensures read { (set name : List ℕ) → Answers (set_word_items set name) result input.new.at (reading (shapes.set_word set name) input.old.body input.old.at) }
+    ensures read { (set name : List ℕ)
+        → Answers (set_word_items set name) result input.new.at
+        (reading (shapes.set_word set name) input.old.body input.old.at) }
     ensures moves { MovesOn input.old input.new }
 {
     if input.boolean()? {
@@ -82,7 +84,9 @@ fn set_word(input: &mut Input) -> Result<Option<u32>, Stop>
 /// A word 1 and eight bytes that are a number, or a word 0 alone.
 #[tactic(auto, unfolding(xdr3::specs::Reading::reading, xdr3::specs::Shape::optional, crate::specs::Shapes::set_hyper))]
 fn set_hyper(input: &mut Input) -> Result<Option<u64>, Stop>
-    ensures read { (set name : List ℕ) → Answers (set_hyper_items set name) result input.new.at (reading (shapes.set_hyper set name) input.old.body input.old.at) }
+    ensures read { (set name : List ℕ)
+        → Answers (set_hyper_items set name) result input.new.at
+        (reading (shapes.set_hyper set name) input.old.body input.old.at) }
     ensures moves { MovesOn input.old input.new }
 {
     if input.boolean()? {
@@ -100,8 +104,10 @@ fn walk_set_word<V: Visit>(
     visitor: &mut V,
 ) -> Result<(), AllocError>
     requires { AreWithinLimit (set_word_items set.now name.now n) }
-    ensures ok { OnOk result (Adds V.stands visitor.old visitor.new (set_word_items set.now name.now n)) }
-    ensures err { OnErr result (AddsSome V.stands visitor.old visitor.new (set_word_items set.now name.now n)) }
+    ensures ok { OnOk result (Adds V.stands visitor.old visitor.new
+        (set_word_items set.now name.now n)) }
+    ensures err { OnErr result (AddsSome V.stands visitor.old visitor.new
+        (set_word_items set.now name.now n)) }
 {
     match n {
         None => walk_fields(&[Field::Word(set, 0)], visitor),
@@ -116,8 +122,10 @@ fn walk_set_hyper<V: Visit>(
     visitor: &mut V,
 ) -> Result<(), AllocError>
     requires { AreWithinLimit (set_hyper_items set.now name.now n) }
-    ensures ok { OnOk result (Adds V.stands visitor.old visitor.new (set_hyper_items set.now name.now n)) }
-    ensures err { OnErr result (AddsSome V.stands visitor.old visitor.new (set_hyper_items set.now name.now n)) }
+    ensures ok { OnOk result (Adds V.stands visitor.old visitor.new
+        (set_hyper_items set.now name.now n)) }
+    ensures err { OnErr result (AddsSome V.stands visitor.old visitor.new
+        (set_hyper_items set.now name.now n)) }
 {
     match n {
         None => walk_fields(&[Field::Word(set, 0)], visitor),

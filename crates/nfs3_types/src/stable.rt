@@ -35,7 +35,8 @@ impl Stable {
     /// Takes the next word, which is the number of one of these. `BadEnum` at it where it is any other, `Short`
     /// where it is not whole.
     pub fn take(input: &mut Input) -> Result<Stable, Stop>
-        ensures read { Answers stable_number result input.new.at (word_at (is_listed stable_words) Reason.BadEnum input.old.body input.old.at) }
+        ensures read { Answers stable_number result input.new.at
+            (word_at (is_listed stable_words) Reason.BadEnum input.old.body input.old.at) }
         ensures moves { MovesOn input.old input.new }
     {
         let n = input.listed(&[0, 1, 2])?;

@@ -94,7 +94,8 @@ impl Status {
     /// Takes the next word, which is the number of a status. `BadEnum` at it where it is any other, `Short`
     /// where it is not whole.
     pub fn take(input: &mut Input) -> Result<Status, Stop>
-        ensures read { Answers status_number result input.new.at (word_at (is_listed status_words) Reason.BadEnum input.old.body input.old.at) }
+        ensures read { Answers status_number result input.new.at
+            (word_at (is_listed status_words) Reason.BadEnum input.old.body input.old.at) }
         ensures moves { MovesOn input.old input.new }
     {
         let n = input.listed(&[

@@ -22,7 +22,9 @@ impl Time {
     /// Takes the next two words. `Short` at the one that is not whole.
     #[tactic(auto, unfolding(xdr3::specs::Reading::reading, crate::specs::Shapes::time))]
     pub fn take(input: &mut Input) -> Result<Time, Stop>
-        ensures read { (sec nsec : List ℕ) → Answers (time_items sec nsec) result input.new.at (reading (time sec nsec) input.old.body input.old.at) }
+        ensures read { (sec nsec : List ℕ)
+            → Answers (time_items sec nsec) result input.new.at
+            (reading (time sec nsec) input.old.body input.old.at) }
         ensures moves { MovesOn input.old input.new }
     {
         let sec = input.word()?;
@@ -47,7 +49,9 @@ impl TimeHow {
     /// Takes the next word, and on 2 a time. `BadEnum` at a word over 2, `Short` where one is not whole.
     #[tactic(auto, unfolding(xdr3::specs::Reading::reading, crate::specs::Shapes::time_how))]
     pub fn take(input: &mut Input) -> Result<TimeHow, Stop>
-        ensures read { (name sec nsec : List ℕ) → Answers (time_how_items name sec nsec) result input.new.at (reading (time_how name sec nsec) input.old.body input.old.at) }
+        ensures read { (name sec nsec : List ℕ)
+            → Answers (time_how_items name sec nsec) result input.new.at
+            (reading (time_how name sec nsec) input.old.body input.old.at) }
         ensures moves { MovesOn input.old input.new }
     {
         match input.listed(&[0, 1, 2])? {
@@ -69,8 +73,10 @@ impl TimeHow {
         visitor: &mut V,
     ) -> Result<(), AllocError>
         requires { AreWithinLimit (time_how_items name.now sec.now nsec.now self) }
-        ensures ok { OnOk result (Adds V.stands visitor.old visitor.new (time_how_items name.now sec.now nsec.now self)) }
-        ensures err { OnErr result (AddsSome V.stands visitor.old visitor.new (time_how_items name.now sec.now nsec.now self)) }
+        ensures ok { OnOk result (Adds V.stands visitor.old visitor.new
+            (time_how_items name.now sec.now nsec.now self)) }
+        ensures err { OnErr result (AddsSome V.stands visitor.old visitor.new
+            (time_how_items name.now sec.now nsec.now self)) }
     {
         match self {
             TimeHow::Keep => walk_fields(&[Field::Word(name, 0)], visitor),
@@ -102,7 +108,8 @@ impl Times {
     /// Takes the next six words. `Short` at the one that is not whole.
     #[tactic(auto, unfolding(xdr3::specs::Reading::reading, crate::specs::Shapes::times))]
     pub fn take(input: &mut Input) -> Result<Times, Stop>
-        ensures read { Answers times_items result input.new.at (reading times input.old.body input.old.at) }
+        ensures read { Answers times_items result input.new.at
+            (reading times input.old.body input.old.at) }
         ensures moves { MovesOn input.old input.new }
     {
         let atime = Time::take(input)?;

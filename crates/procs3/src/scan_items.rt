@@ -76,8 +76,8 @@ pub(crate) fn scan_case_preserving<V: Visit>(
     input: &mut Input,
     visitor: &mut V,
 ) -> Result<(), GetError>
-    ensures ok { OnOk result
-        (Scans V.stands (boolean names.case_preserving) input.old input.new visitor.old visitor.new) }
+    ensures ok { OnOk result (Scans V.stands
+        (boolean names.case_preserving) input.old input.new visitor.old visitor.new) }
     ensures err { IfErr result (λ error. Stops (boolean names.case_preserving) input.old error) }
 {
     scan_boolean("case_preserving", input, visitor)?;

@@ -8,15 +8,20 @@ ghost use Rattle.record_mark.specs.Joining.{Joining, Joined, Between, Whole, Too
 /// The machine that joins fragments ends a record exactly where it is whole, refuses it exactly where
 /// it is too long, and runs exactly where one has begun (RFC 5531, section 11).
 pub fn joining()
-    ensures whole { (bytes body : List ℕ) → IsRecord bytes body ↔ (after join_next (Runs Between) bytes ≡ Stops (Whole body)) }
-    ensures long { (bytes : List ℕ) (at : ℕ) → IsTooLong bytes at ↔ (after join_next (Runs Between) bytes ≡ Stops (TooLong at)) }
-    ensures part { (bytes : List ℕ) (s : Joining) → HasJoined bytes s ↔ (after join_next (Runs Between) bytes ≡ Runs s) }
+    ensures whole { (bytes body : List ℕ)
+        → IsRecord bytes body ↔ (after join_next (Runs Between) bytes ≡ Stops (Whole body)) }
+    ensures long { (bytes : List ℕ) (at : ℕ)
+        → IsTooLong bytes at ↔ (after join_next (Runs Between) bytes ≡ Stops (TooLong at)) }
+    ensures part { (bytes : List ℕ) (s : Joining)
+        → HasJoined bytes s ↔ (after join_next (Runs Between) bytes ≡ Runs s) }
 {}
 
 /// Bytes are at most one of these, and with one body or place: a record, too long, or unfinished.
 pub fn one_outcome()
-    ensures body { (bytes body other : List ℕ) → HasBody bytes body → HasBody bytes other → body ≡ other }
-    ensures place { (bytes : List ℕ) (at other : ℕ) → IsTooLong bytes at → IsTooLong bytes other → at ≡ other }
+    ensures body { (bytes body other : List ℕ) → HasBody bytes body → HasBody bytes other
+        → body ≡ other }
+    ensures place { (bytes : List ℕ) (at other : ℕ) → IsTooLong bytes at → IsTooLong bytes other
+        → at ≡ other }
     ensures whole { (bytes body part : List ℕ) → IsRecord bytes body → IsUnfinished bytes part → ⊥ }
     ensures long { (bytes body : List ℕ) (at : ℕ) → IsTooLong bytes at → HasBody bytes body → ⊥ }
 {}
@@ -24,16 +29,20 @@ pub fn one_outcome()
 /// Unfinished bytes are what a record begins with, or what one begins with that is too long, short of
 /// its last byte.
 pub fn beginnings()
-    ensures goes_on { (bytes body : List ℕ) → IsUnfinished bytes body → (more : List ℕ) × (end : Joined) × EndsRecord (bytes ++ more) end }
-    ensures shorter { (front back : List ℕ) (byte : ℕ) (end : Joined) → EndsRecord (front ++ byte ∷ back) end → (body : List ℕ) × IsUnfinished front body }
+    ensures goes_on { (bytes body : List ℕ) → IsUnfinished bytes body → (more : List ℕ)
+        × (end : Joined) × EndsRecord (bytes ++ more) end }
+    ensures shorter { (front back : List ℕ) (byte : ℕ) (end : Joined)
+        → EndsRecord (front ++ byte ∷ back) end → (body : List ℕ) × IsUnfinished front body }
 {}
 
 /// The pieces in which the bytes come play no part, for this machine and for every other.
 pub fn pieces<S, X>()
-    ensures { (next : S → ℕ → Next S X) (run : Run S X) (front back : List ℕ) → after next run (front ++ back) ≡ after next (after next run front) back }
+    ensures { (next : S → ℕ → Next S X) (run : Run S X) (front back : List ℕ)
+        → after next run (front ++ back) ≡ after next (after next run front) back }
 {}
 
 /// A stream is records in one way at most: it has at most one list of bodies.
 pub fn one_list()
-    ensures { (stream : List ℕ) (bodies others : List (List ℕ)) → Marks stream bodies → Marks stream others → bodies ≡ others }
+    ensures { (stream : List ℕ) (bodies others : List (List ℕ)) → Marks stream bodies
+        → Marks stream others → bodies ≡ others }
 {}

@@ -32,7 +32,8 @@ impl Gids {
     }
 
     fn get(input: &mut Input) -> Result<Gids, Stop>
-        ensures read { Answers (λ g. count_items (groups_of g)) result input.new.at (reading gids input.old.body input.old.at) }
+        ensures read { Answers (λ g. count_items (groups_of g)) result input.new.at
+            (reading gids input.old.body input.old.at) }
         ensures moves { MovesOn input.old input.new }
     {
         let count = input.at_most(16)?;
@@ -49,8 +50,10 @@ impl Gids {
 
     #[tactic(auto, using(xdr3::proofs::Walks::walks), unfolding(xdr3::specs::Visit::AreWithinLimit, crate::specs::Names::names))]
     fn walk<V: Visit>(&self, visitor: &mut V) -> Result<(), AllocError>
-        ensures ok { OnOk result (Adds V.stands visitor.old visitor.new (count_items (groups_of self.now))) }
-        ensures err { OnErr result (AddsSome V.stands visitor.old visitor.new (count_items (groups_of self.now))) }
+        ensures ok { OnOk result (Adds V.stands visitor.old visitor.new
+            (count_items (groups_of self.now))) }
+        ensures err { OnErr result (AddsSome V.stands visitor.old visitor.new
+            (count_items (groups_of self.now))) }
     {
         let groups = self.as_slice();
         visitor.word("gids", groups.len() as u32)?;

@@ -12,7 +12,8 @@ use xdr3::{Input, Stop};
 /// its own first byte.
 #[tactic(auto, using(crate::proofs::Started::is_start), unfolding(xdr3::specs::Reading::reading, crate::specs::Shapes::message_start))]
 pub fn start(input: &mut Input) -> Result<Start, Stop>
-    ensures read { Answers start_items result input.new.at (reading message_start input.old.body input.old.at) }
+    ensures read { Answers start_items result input.new.at
+        (reading message_start input.old.body input.old.at) }
     ensures is_start { IsStart input.old result input.new }
     ensures moves { MovesOn input.old input.new }
 {

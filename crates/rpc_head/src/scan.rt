@@ -124,9 +124,9 @@ fn scan_reject_stat<V: Visit>(input: &mut Input, visitor: &mut V) -> Result<u32,
 #[inline]
 #[tactic(auto, unfolding(crate::specs::Names::names))]
 fn scan_auth_stat<V: Visit>(input: &mut Input, visitor: &mut V) -> Result<u32, GetError>
-    ensures ok { IfOk result
-        (λ n. ScansWord V.stands names.auth_stat
-        (is_listed shapes.auth_stats) Reason.BadEnum n input.old input.new visitor.old visitor.new) }
+    ensures ok { IfOk result (λ n. ScansWord V.stands names.auth_stat
+        (is_listed shapes.auth_stats) Reason.BadEnum n input.old input.new visitor.old
+        visitor.new) }
     ensures err { IfErr result
         (λ error. StopsWord (is_listed shapes.auth_stats) Reason.BadEnum input.old error) }
 {
@@ -137,9 +137,9 @@ fn scan_auth_stat<V: Visit>(input: &mut Input, visitor: &mut V) -> Result<u32, G
 #[inline]
 #[tactic(auto, unfolding(crate::specs::Names::names))]
 fn scan_reply_stat<V: Visit>(input: &mut Input, visitor: &mut V) -> Result<u32, GetError>
-    ensures ok { IfOk result
-        (λ n. ScansWord V.stands names.reply_stat
-        (is_listed shapes.reply_stats) Reason.BadEnum n input.old input.new visitor.old visitor.new) }
+    ensures ok { IfOk result (λ n. ScansWord V.stands names.reply_stat
+        (is_listed shapes.reply_stats) Reason.BadEnum n input.old input.new visitor.old
+        visitor.new) }
     ensures err { IfErr result
         (λ error. StopsWord (is_listed shapes.reply_stats) Reason.BadEnum input.old error) }
 {

@@ -8,7 +8,8 @@ use xdr3::{Input, Reason, Stop};
 
 /// The next word, which is one of these; any other is refused for the reason.
 pub(crate) fn listed_or(input: &mut Input, words: &[u32], reason: Reason) -> Result<u32, Stop>
-    ensures read { Answers (λ n. n) result input.new.at (word_at (is_listed words.now) reason input.old.body input.old.at) }
+    ensures read { Answers (λ n. n) result input.new.at
+        (word_at (is_listed words.now) reason input.old.body input.old.at) }
     ensures moves { MovesOn input.old input.new }
 {
     match input.listed(words) {
