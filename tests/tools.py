@@ -325,15 +325,24 @@ def what_is_believed(tools):
     told = tools.tool('believed', 'canon3::check')[1]
     for name in ('Typed', 'FirstFault', 'IsSummary', 'status_words', 'Shape', 'in_window', 'handles', 'CountsReading'):
         tools.want(name, len(re.findall(r'^ *(?:abbrev|unfoldable|pub) .*\b%s\b.* :' % name, told, re.M)) > 0, True)
-    for name in ('StandsFor', 'IsMetBy', 'Tallies'):
+    for name in ('StandsFor', 'HoldsLast', 'Tallies'):
         tools.want(name + ', which proofs use', name in told, False)
     tools.want('a call that is not there', tools.tool('believed', 'canon3::absent')[0], 1)
+
+
+def clauses_are_short(tools):
+    """A clause has lines of at most 100 columns."""
+    for path in sorted(TOP.glob('crates/*/src/*.rt')):
+        lines = path.read_text().splitlines()
+        long = [at + 1 for at, line in enumerate(lines) if len(line) > 100 and re.match(r' *(ensures|requires) ', line)]
+        tools.want('long clauses of %s' % path, long, [])
 
 
 STRINGS = ('name', 'path', 'machinename', 'dirpath', 'hostname', 'directory')
 OF_TSHARK = [recordings_of_all_kinds, segments_in_any_order, who_is_the_client, what_is_left_out, recordings_of_the_readme]
 TESTS = [*OF_TSHARK, explained, explained_as_documented, layouts_agree_with_the_listing, commands_of_the_readme,
-         lines_for_many_captures, examples_are_used, answers_of_the_examples, examples_are_made_alike, pages_agree, what_is_believed]
+         lines_for_many_captures, examples_are_used, answers_of_the_examples, examples_are_made_alike, pages_agree, what_is_believed,
+         clauses_are_short]
 
 
 def tried(program, test):
