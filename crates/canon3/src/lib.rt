@@ -16,8 +16,6 @@ mod rewriting;
 mod sink;
 mod spelling;
 mod summary;
-#[cfg(test)]
-mod tests;
 mod verdict;
 mod writing;
 

@@ -17,8 +17,6 @@ mod plan;
 mod position;
 mod silent;
 mod source;
-#[cfg(test)]
-mod tests;
 mod whole;
 mod word_part;
 

@@ -4,8 +4,6 @@
 mod asked;
 mod command;
 mod grammar;
-#[cfg(test)]
-mod tests;
 
 pub use asked::{Job, LineFault};
 pub use command::job;

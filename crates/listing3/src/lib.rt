@@ -6,8 +6,6 @@ mod item_text;
 pub mod laws;
 mod line_writer;
 mod listing;
-#[cfg(test)]
-mod tests;
 mod text;
 
 pub use listing::show;

@@ -10,8 +10,6 @@ mod scan;
 mod settable;
 mod stable;
 mod status;
-#[cfg(test)]
-mod tests;
 mod time;
 mod void;
 

@@ -5,8 +5,6 @@ mod jobs;
 mod outcome;
 mod output;
 mod printed;
-#[cfg(test)]
-mod tests;
 
 use jobs::{checked, compared, listed, packed, rewritten};
 use line3::{Job, LineFault, job};

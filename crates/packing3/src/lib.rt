@@ -4,7 +4,5 @@
 mod block;
 mod packing;
 mod stream;
-#[cfg(test)]
-mod tests;
 
 pub use packing::Packing;

@@ -6,8 +6,6 @@ mod names;
 mod scan;
 mod scan_items;
 mod scan_table;
-#[cfg(test)]
-mod tests;
 
 pub use names::proc_name;
 pub use scan_table::{scan_arguments, scan_results};

@@ -8,8 +8,6 @@ mod first_words;
 mod message;
 mod reply;
 mod scan;
-#[cfg(test)]
-mod tests;
 mod word;
 
 pub use call::{CallHead, ProcId};

@@ -12,8 +12,6 @@ mod mounts;
 mod reading;
 mod results;
 mod tagged;
-#[cfg(test)]
-mod tests;
 
 pub use args::Args;
 pub use creation::{

@@ -1,9 +1,10 @@
-use super::show;
-use super::text::{push_decimal, push_hex, push_quoted};
+// Listings of captures in memory.
+
+use crate::samples::hashers;
 use canon3::{MemSink, Summary};
-use capture3::{Error, Fault, Hashers, MemSource, Place};
+use capture3::{Error, Fault, MemSource, Place};
+use listing3::show;
 use std::alloc::{AllocError, Global};
-use std::hash::{BuildHasherDefault, FoldHasher};
 use std::test::Fail;
 use xdr3::Reason;
 
@@ -43,15 +44,6 @@ fn lines(alloc: Global) -> Result<Vec<u8>, AllocError> {
         text.extend_from_slice(part.as_bytes())?;
     }
     Ok(text)
-}
-
-fn hashers() -> Hashers<BuildHasherDefault<FoldHasher>> {
-    Hashers {
-        calls: BuildHasherDefault::default(),
-        xids: BuildHasherDefault::default(),
-        handles: BuildHasherDefault::default(),
-        verfs: BuildHasherDefault::default(),
-    }
 }
 
 // In blocks of 7 bytes, where the read with this number fails.
@@ -140,19 +132,5 @@ fn a_failed_flush(rt: HostRuntime) -> Result<(), Fail> {
     let mut sink = MemSink::new(rt.alloc(), 999, 999, 7)?;
     assert_eq!(rt; listed(&rt, &bytes, 0, &mut sink), Err(Error::Write));
     assert_eq!(rt; sink.bytes(), lines(rt.alloc())?.as_slice());
-    Ok(())
-}
-
-#[test]
-fn values_of_each_kind(rt: HostRuntime) -> Result<(), Fail> {
-    let mut text = Vec::new(rt.alloc());
-    push_decimal(&mut text, 18_446_744_073_709_551_615)?;
-    push_decimal(&mut text, 0)?;
-    push_hex(&mut text, &[0, 0xaf])?;
-    push_quoted(&mut text, b"a\"\\\n\xff\x7f ~")?;
-    assert_eq!(rt;
-        text.as_slice(),
-        b"18446744073709551615000af\"a\\x22\\x5c\\x0a\\xff\\x7f ~\"".as_slice()
-    );
     Ok(())
 }

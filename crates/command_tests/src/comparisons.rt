@@ -1,7 +1,7 @@
 // Comparisons of captures in memory.
 
-use super::{commit, hashers};
-use crate::{SameError, Verdict, Which, same};
+use crate::samples::{commit, hashers};
+use canon3::{SameError, Verdict, Which, same};
 use capture3::{Error, Fault, MemSource, Place, Side};
 use std::alloc::{AllocError, Global};
 use std::test::Fail;

@@ -1,14 +1,16 @@
+// Items of XDR: what is read of bodies, told to a visitor, and written.
+
 ghost use Rattle.std.specs.Prelude.{◌∷◌, [], codes};
 ghost use Rattle.xdr3.specs.Item.{Hyper, Opaque, Text, Word};
 ghost use Rattle.xdr3.specs.Shape.{both, hyper, opaque, word};
 
-use super::{
+use std::alloc::{AllocError, Global};
+use std::test::Fail;
+use xdr3::{
     Field, GetError, Input, PlainField, Reason, Stop, Visit, Walk, Writer, Xdr, get_counted,
     get_linked, get_optional, get_sized, read, scan_plain, walk_counted, walk_fields, walk_linked,
     walk_optional,
 };
-use std::alloc::{AllocError, Global};
-use std::test::Fail;
 
 #[derive(Clone, Copy, Debug, PartialEq, Eq)]
 struct Group {
@@ -18,7 +20,7 @@ struct Group {
 impl<'a> Xdr<'a> for Group {
     ghost shape = { word (codes "group") };
 
-    #[tactic(auto, unfolding(crate::specs::Reading::reading))]
+    #[tactic(auto, unfolding(xdr3::specs::Reading::reading))]
     fn get(_alloc: Global, input: &mut Input<'a>) -> Result<Group, GetError> {
         let number = input.word()?;
         Ok(Group { number })
@@ -42,7 +44,7 @@ struct Entry<'a> {
 impl<'a> Xdr<'a> for Entry<'a> {
     ghost shape = { both (hyper (codes "fileid")) (opaque Text (codes "name") 255) };
 
-    #[tactic(auto, unfolding(crate::specs::Reading::reading))]
+    #[tactic(auto, unfolding(xdr3::specs::Reading::reading))]
     fn get(_alloc: Global, input: &mut Input<'a>) -> Result<Entry<'a>, GetError> {
         let fileid = input.hyper()?;
         let name = input.var(255)?;
@@ -155,7 +157,7 @@ fn numbers_and_names_of_reasons(rt: HostRuntime) {
 }
 
 #[test]
-#[tactic(auto, unfolding(crate::specs::Visit::AreWithinLimit))]
+#[tactic(auto, unfolding(xdr3::specs::Visit::AreWithinLimit))]
 fn spelling_of_each_item(rt: HostRuntime) -> Result<(), Fail> {
     let mut writer = Writer::new(rt.alloc());
     let all = [
@@ -202,7 +204,7 @@ fn lists_that_are_read(rt: HostRuntime) -> Result<(), Fail> {
 }
 
 #[test]
-#[tactic(auto, unfolding(crate::specs::Visit::AreWithinLimit))]
+#[tactic(auto, unfolding(xdr3::specs::Visit::AreWithinLimit))]
 fn spelling_of_lists(rt: HostRuntime) -> Result<(), Fail> {
     let mut writer = Writer::new(rt.alloc());
     let entries = [
@@ -269,7 +271,7 @@ struct Last {
     number: u64,
 }
 
-#[tactic(auto, unfolding(crate::specs::Visit::Adds, crate::specs::Visit::Keeps))]
+#[tactic(auto, unfolding(xdr3::specs::Visit::Adds, xdr3::specs::Visit::Keeps))]
 impl Visit for Last {
     ghost stands = { λ last items. Unit {0} };
 

@@ -3,7 +3,7 @@
 ghost use Rattle.std.specs.Prelude.{◌≤◌, IfOk, length};
 ghost use Rattle.xdr3.specs.Visit.{AreWithinLimit};
 
-use crate::{
+use rpc_head::{
     Accept, CallHead, Cred, Deny, ProcId, ReplyHead, Start, Verf, scan_call_head, scan_reply_head,
     start,
 };

@@ -1,8 +1,10 @@
+// Streams packed to captures in memory.
+
 ghost use Rattle.std.specs.Prelude.{◌<◌, None};
 
-use super::Packing;
 use canon3::{MemSink, Sink};
 use capture3::{DeviceFailed, Error, Fault, MemSource, Place, Source};
+use packing3::Packing;
 use std::alloc::{AllocError, Global};
 use std::process::Abort;
 use std::test::Fail;

@@ -1,10 +1,8 @@
-mod comparisons;
-mod writers;
+// Numbers, sinks and canonical forms.
 
-use super::writing::{write_all, write_record};
-use super::{MemSink, Numbers, Sink, Summary, ToWrite, canon};
-use capture3::{DeviceFailed, Error, Fault, Hashers, MemSource, Place};
-use std::alloc::{AllocError, Global};
+use crate::samples::{commits, hashers};
+use canon3::{MemSink, Numbers, Sink, Summary, ToWrite, canon, write_all};
+use capture3::{DeviceFailed, Error, Fault, MemSource, Place};
 use std::hash::{BuildHasherDefault, FoldHasher, Hash};
 use std::test::Fail;
 use xdr3::Reason;
@@ -84,60 +82,6 @@ fn all_bytes_in_pieces(rt: HostRuntime) -> Result<(), Fail> {
     assert_eq!(rt; write_all(&mut sink, b"fgh"), Err(DeviceFailed));
     assert_eq!(rt; sink.bytes(), b"abcdefg".as_slice());
     Ok(())
-}
-
-#[test]
-fn a_record_in_one_chunk(rt: HostRuntime) -> Result<(), Fail> {
-    let mut sink = MemSink::new(rt.alloc(), 99, 5, 0)?;
-    assert_eq!(rt; write_record(&mut sink, b"abc"), Ok(()));
-    assert_eq!(rt; sink.bytes(), b"\0\0\0\x07\x80\0\0\x03abc".as_slice());
-    Ok(())
-}
-
-// A COMMIT call and its reply, from its xid, its file handle after its length, and its verifier.
-fn commit(
-    alloc: Global,
-    xid: [u8; 4],
-    handle: [u8; 8],
-    verifier: [u8; 8],
-) -> Result<Vec<u8>, AllocError> {
-    let mut bytes = Vec::new(alloc);
-    bytes.extend_from_slice(b"NFS3CAP1\0\0\0\x01\0\0\0\x40\x80\0\0\x3c")?;
-    bytes.extend_from_slice(&xid)?;
-    bytes.extend_from_slice(b"\0\0\0\0\0\0\0\x02\0\x01\x86\xa3\0\0\0\x03\0\0\0\x15")?;
-    bytes.extend_from_slice(&[0; 16])?;
-    bytes.extend_from_slice(&handle)?;
-    bytes.extend_from_slice(&[0; 12])?;
-    bytes.extend_from_slice(b"\0\0\0\0\0\0\0\x30\x80\0\0\x2c")?;
-    bytes.extend_from_slice(&xid)?;
-    bytes.extend_from_slice(b"\0\0\0\x01")?;
-    bytes.extend_from_slice(&[0; 28])?;
-    bytes.extend_from_slice(&verifier)?;
-    bytes.extend_from_slice(&[0; 8])?;
-    Ok(bytes)
-}
-
-fn hashers() -> Hashers<BuildHasherDefault<FoldHasher>> {
-    Hashers {
-        calls: BuildHasherDefault::default(),
-        xids: BuildHasherDefault::default(),
-        handles: BuildHasherDefault::default(),
-        verfs: BuildHasherDefault::default(),
-    }
-}
-
-// The same with values that are not their numbers, and with their numbers.
-fn commits(alloc: Global) -> Result<(Vec<u8>, Vec<u8>), AllocError> {
-    let (xid, handle) = ([0xde, 0xad, 0xbe, 0xef], [0, 0, 0, 1, 0xaa, 0, 0, 0]);
-    let bytes = commit(alloc, xid, handle, [8; 8])?;
-    let one = [0, 0, 0, 1];
-    let numbered = commit(
-        alloc,
-        one,
-        [0, 0, 0, 4, 0, 0, 0, 1],
-        [0, 0, 0, 0, 0, 0, 0, 1],
-    )?;
-    Ok((bytes, numbered))
 }
 
 // In blocks of 7 bytes, where the read with this number fails.

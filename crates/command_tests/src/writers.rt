@@ -1,7 +1,7 @@
 // Sinks over writers of which a call fails.
 
-use super::{commits, hashers};
-use crate::{Sink, Summary, ToWrite, canon};
+use crate::samples::{commits, hashers};
+use canon3::{Sink, Summary, ToWrite, canon};
 use capture3::{DeviceFailed, Error, MemSource};
 use std::io::{self, ErrorKind, Write};
 use std::test::Fail;

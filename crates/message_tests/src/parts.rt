@@ -2,8 +2,8 @@
 
 ghost use Rattle.std.specs.Prelude.{◌≤◌, length};
 
-use crate::mount3::MountOk;
-use crate::{Fattr, FileKind, Handle, PostOpAttr, PostOpFh, Sattr, Time, TimeHow, Void, Wcc};
+use nfs3_types::mount3::MountOk;
+use nfs3_types::{Fattr, FileKind, Handle, PostOpAttr, PostOpFh, Sattr, Time, TimeHow, Void, Wcc};
 use std::alloc::{AllocError, Global};
 use std::process::Abort;
 use std::test::Fail;

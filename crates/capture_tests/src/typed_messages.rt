@@ -3,22 +3,14 @@
 
 ghost use Rattle.std.specs.Prelude.{◌≤◌, length};
 
-use crate::{Args, Results, read_call, read_reply};
+use crate::sample::NULL;
 use capture3::{Entry, parse};
 use nfs3_types::Res;
 use rpc_head::ProcId;
 use std::alloc::Global;
 use std::test::Fail;
+use typed3::{Args, Results, read_call, read_reply};
 use xdr3::{GetError, Input, Reason, Stop, Walk, Writer};
-
-/// A call of the NULL procedure of NFS version 3 and its reply, in one chunk and one fragment each.
-const NULL: [u8; 104] = [
-    0x4e, 0x46, 0x53, 0x33, 0x43, 0x41, 0x50, 0x31, 0, 0, 0, 1, 0, 0, 0, 0x2c, 0x80, 0, 0, 0x28,
-    0xde, 0xad, 0xbe, 0xef, 0, 0, 0, 0, 0, 0, 0, 2, 0, 1, 0x86, 0xa3, 0, 0, 0, 3, 0, 0, 0, 0, 0, 0,
-    0, 0, 0, 0, 0, 0, 0, 0, 0, 0, 0, 0, 0, 0, 0, 0, 0, 0, 0, 0, 0, 0x1c, 0x80, 0, 0, 0x18, 0xde,
-    0xad, 0xbe, 0xef, 0, 0, 0, 1, 0, 0, 0, 0, 0, 0, 0, 0, 0, 0, 0, 0, 0, 0, 0, 0, 0, 0, 0, 0, 0, 0,
-    0, 0,
-];
 
 /// The arguments of a WRITE of the bytes hi to the handle aa, from offset 9 on, FILE_SYNC (2).
 const WRITE: [u8; 32] = [

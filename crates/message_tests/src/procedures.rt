@@ -3,7 +3,7 @@
 
 ghost use Rattle.std.specs.Prelude.{◌≤◌, length};
 
-use crate::{proc_name, scan_arguments, scan_results};
+use procs3::{proc_name, scan_arguments, scan_results};
 use rpc_head::ProcId;
 use std::alloc::Global;
 use std::test::Fail;

@@ -1,0 +1,9 @@
+//! Tests of the reader of captures and of messages as values, on one worked capture.
+#![tactic(auto)]
+
+#[cfg(test)]
+mod captures;
+#[cfg(test)]
+mod sample;
+#[cfg(test)]
+mod typed_messages;

@@ -1,0 +1,17 @@
+//! Tests of the commands' calls on captures in memory, and of the command line.
+#![tactic(auto)]
+
+#[cfg(test)]
+mod canonical;
+#[cfg(test)]
+mod comparisons;
+#[cfg(test)]
+mod lines;
+#[cfg(test)]
+mod listings;
+#[cfg(test)]
+mod packs;
+#[cfg(test)]
+mod samples;
+#[cfg(test)]
+mod writers;

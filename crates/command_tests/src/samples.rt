@@ -1,0 +1,51 @@
+// Captures in memory, and hashers without a key: the answers do not depend on it.
+
+use capture3::Hashers;
+use std::alloc::{AllocError, Global};
+use std::hash::{BuildHasherDefault, FoldHasher};
+
+/// A COMMIT call and its reply, from its xid, its file handle after its length, and its verifier.
+pub(crate) fn commit(
+    alloc: Global,
+    xid: [u8; 4],
+    handle: [u8; 8],
+    verifier: [u8; 8],
+) -> Result<Vec<u8>, AllocError> {
+    let mut bytes = Vec::new(alloc);
+    bytes.extend_from_slice(b"NFS3CAP1\0\0\0\x01\0\0\0\x40\x80\0\0\x3c")?;
+    bytes.extend_from_slice(&xid)?;
+    bytes.extend_from_slice(b"\0\0\0\0\0\0\0\x02\0\x01\x86\xa3\0\0\0\x03\0\0\0\x15")?;
+    bytes.extend_from_slice(&[0; 16])?;
+    bytes.extend_from_slice(&handle)?;
+    bytes.extend_from_slice(&[0; 12])?;
+    bytes.extend_from_slice(b"\0\0\0\0\0\0\0\x30\x80\0\0\x2c")?;
+    bytes.extend_from_slice(&xid)?;
+    bytes.extend_from_slice(b"\0\0\0\x01")?;
+    bytes.extend_from_slice(&[0; 28])?;
+    bytes.extend_from_slice(&verifier)?;
+    bytes.extend_from_slice(&[0; 8])?;
+    Ok(bytes)
+}
+
+pub(crate) fn hashers() -> Hashers<BuildHasherDefault<FoldHasher>> {
+    Hashers {
+        calls: BuildHasherDefault::default(),
+        xids: BuildHasherDefault::default(),
+        handles: BuildHasherDefault::default(),
+        verfs: BuildHasherDefault::default(),
+    }
+}
+
+/// The same with values that are not their numbers, and with their numbers.
+pub(crate) fn commits(alloc: Global) -> Result<(Vec<u8>, Vec<u8>), AllocError> {
+    let (xid, handle) = ([0xde, 0xad, 0xbe, 0xef], [0, 0, 0, 1, 0xaa, 0, 0, 0]);
+    let bytes = commit(alloc, xid, handle, [8; 8])?;
+    let one = [0, 0, 0, 1];
+    let numbered = commit(
+        alloc,
+        one,
+        [0, 0, 0, 4, 0, 0, 0, 1],
+        [0, 0, 0, 0, 0, 0, 0, 1],
+    )?;
+    Ok((bytes, numbered))
+}
