@@ -9,10 +9,10 @@ import sys
 BUILT = pathlib.Path(__file__).resolve().parent.parent / 'crates/nfs3canon/out/nfs3canon'
 
 
-def words_of(text):
-    """PROGRAM, as a path from the top, `--only` and `-v`; the text is the help."""
+def words_of(text, built=BUILT):
+    """PROGRAM, as a path, or the one built, `--only` and `-v`; the text is the help."""
     parser = argparse.ArgumentParser(description=text, formatter_class=argparse.RawDescriptionHelpFormatter)
-    parser.add_argument('program', nargs='?', default=str(BUILT))
+    parser.add_argument('program', nargs='?', default=str(built))
     parser.add_argument('--only', default='')
     parser.add_argument('-v', action='store_true')
     words = parser.parse_args()

@@ -1,0 +1,128 @@
+// The commands' calls. At most one growth is refused in a test, so of two runs one has its whole answer.
+
+use crate::samples::{COMMIT, hashers};
+use canon3::{MemSink, Sink, Summary, Verdict, canon, check, same};
+use capture3::{Error, MemSource};
+use line3::{Job, LineFault, job};
+use listing3::show;
+use packing3::Packing;
+use std::process::Abort;
+use std::test::Fail;
+
+const COUNTS: Summary = Summary {
+    connections: 1,
+    calls: 1,
+    replies: 1,
+    handles: 1,
+};
+
+/// The answer of a command that may write, and what it wrote.
+type Run = (Result<Summary, Error>, MemSink);
+
+/// The same answer and bytes in both runs, or memory ran out in one after a front of what the other wrote.
+fn agree(rt: &impl Abort, first: &Run, second: &Run) {
+    let (refused, whole) = if first.0.is_ok() {
+        (second, first)
+    } else {
+        (first, second)
+    };
+    assert_eq!(rt; whole.0, Ok(COUNTS));
+    let (front, bytes) = (refused.1.bytes(), whole.1.bytes());
+    if refused.0.is_ok() {
+        assert_eq!(rt; front, bytes);
+    } else {
+        assert_eq!(rt; refused.0, Err(Error::Memory));
+        assert!(rt; bytes.starts_with(front));
+    }
+}
+
+#[test]
+fn a_capture_is_checked(rt: HostRuntime) {
+    let mut source = MemSource::new(&COMMIT, 50, 0);
+    let answer = check(rt.alloc(), hashers(), &mut source);
+    assert!(rt; answer == Ok(COUNTS) || answer == Err(Error::Memory));
+}
+
+fn canonical(rt: &HostRuntime, mut sink: MemSink) -> Run {
+    let mut source = MemSource::new(&COMMIT, 50, 0);
+    (canon(rt.alloc(), hashers(), &mut source, &mut sink), sink)
+}
+
+#[test]
+fn a_canonical_form_is_written(rt: HostRuntime) -> Result<(), Fail> {
+    let (Ok(first), Ok(second)) = (
+        MemSink::new(rt.alloc(), 999, 999, 0),
+        MemSink::new(rt.alloc(), 999, 999, 0),
+    ) else {
+        return Ok(());
+    };
+    agree(&rt, &canonical(&rt, first), &canonical(&rt, second));
+    Ok(())
+}
+
+fn listed(rt: &HostRuntime, mut sink: MemSink) -> Run {
+    let mut source = MemSource::new(&COMMIT, 50, 0);
+    (show(rt.alloc(), hashers(), &mut source, &mut sink), sink)
+}
+
+#[test]
+fn a_listing_is_written(rt: HostRuntime) -> Result<(), Fail> {
+    let (Ok(first), Ok(second)) = (
+        MemSink::new(rt.alloc(), 999, 999, 0),
+        MemSink::new(rt.alloc(), 999, 999, 0),
+    ) else {
+        return Ok(());
+    };
+    agree(&rt, &listed(&rt, first), &listed(&rt, second));
+    Ok(())
+}
+
+#[test]
+fn a_capture_is_compared_with_itself(rt: HostRuntime) {
+    let mut first = MemSource::new(&COMMIT, 50, 0);
+    let mut second = MemSource::new(&COMMIT, 7, 0);
+    match same(rt.alloc(), hashers(), hashers(), &mut first, &mut second) {
+        Ok(verdict) => assert_eq!(rt; verdict, Verdict::Same),
+        Err(refused) => assert_eq!(rt; refused.error, Error::Memory),
+    }
+}
+
+/// Memory is taken at the start alone, and where it is refused the sink comes back as it was.
+#[test]
+fn streams_are_packed(rt: HostRuntime) -> Result<(), Fail> {
+    let Ok(sink) = MemSink::new(rt.alloc(), 999, 999, 0) else {
+        return Ok(());
+    };
+    match Packing::start(rt.alloc(), sink) {
+        Ok(mut packing) => {
+            let mut client = MemSource::new(&COMMIT[16..80], 9, 0);
+            let mut server = MemSource::new(&COMMIT[88..136], 9, 0);
+            packing.add(&mut client, &mut server)?;
+            packing.finish()?;
+            assert!(rt; packing.sink().bytes() == COMMIT.as_slice());
+        }
+        Err((error, sink)) => {
+            assert_eq!(rt; error, Error::Memory);
+            assert!(rt; sink.bytes().is_empty());
+        }
+    }
+    Ok(())
+}
+
+#[test]
+fn a_line_is_read(rt: HostRuntime) -> Result<(), Fail> {
+    let mut words = Vec::new(rt.alloc());
+    for word in ["nfs3canon", "check", "a"] {
+        let Ok(word) = String::from_str(rt.alloc(), word) else {
+            return Ok(());
+        };
+        if words.push(word).is_err() {
+            return Ok(());
+        }
+    }
+    match job(rt.alloc(), &words) {
+        Ok(asked) => assert_eq!(rt; asked, Job::Check("a")),
+        Err(fault) => assert!(rt; matches!(fault, LineFault::Memory)),
+    }
+    Ok(())
+}

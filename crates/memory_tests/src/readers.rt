@@ -1,0 +1,58 @@
+// Readers of a capture, and of messages as values.
+
+use crate::samples::{COMMIT, hashers};
+use capture3::{Entries, Entry, Error, MemSource, Silent, new_block, parse};
+use std::alloc::Global;
+use std::process::Abort;
+use std::test::Fail;
+use typed3::{read_call, read_reply};
+
+#[test]
+fn a_capture_is_parsed(rt: HostRuntime) {
+    match parse(rt.alloc(), &COMMIT) {
+        Ok(entries) => {
+            assert_eq!(rt; entries.len(), 6);
+            for entry in entries.iter() {
+                message_is_read(&rt, rt.alloc(), entry);
+            }
+        }
+        Err(error) => assert_eq!(rt; error, Error::Memory),
+    }
+}
+
+/// A message whose reading memory was refused is read by a second call.
+fn message_is_read(rt: &impl Abort, alloc: Global, entry: &Entry) {
+    match entry {
+        Entry::Call(kept) => {
+            if read_call(alloc, kept.lend()).is_err() {
+                assert!(rt; read_call(alloc, kept.lend()).is_ok());
+            }
+        }
+        Entry::Reply(kept) => {
+            if read_reply(alloc, kept.lend()).is_err() {
+                assert!(rt; read_reply(alloc, kept.lend()).is_ok());
+            }
+        }
+        Entry::Begin | Entry::Turn | Entry::Close | Entry::End => {}
+    }
+}
+
+/// A reader that met a refused growth answers it for good, and lends nothing.
+#[test]
+fn entries_are_read_one_by_one(rt: HostRuntime) -> Result<(), Fail> {
+    let Ok(block) = new_block(rt.alloc()) else {
+        return Ok(());
+    };
+    let mut source = MemSource::new(&COMMIT, 7, 0);
+    let mut entries = Entries::through(rt.alloc(), hashers().calls, &mut source, block);
+    for _ in 0..6 {
+        if let Err(error) = entries.next(&mut Silent) {
+            assert_eq!(rt; error, Error::Memory);
+            assert!(rt; entries.next(&mut Silent).err() == Some(Error::Memory));
+            assert!(rt; entries.entry().is_none());
+            return Ok(());
+        }
+    }
+    assert!(rt; matches!(entries.next(&mut Silent), Ok(None)));
+    Ok(())
+}
