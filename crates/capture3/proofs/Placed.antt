@@ -1,5 +1,5 @@
 -- The first fault of a file stands where its reason says.
-use Rattle.std.proofs.Common.{◌≡◌, ◌⊎◌, inl, inr, ap, arith, ℕ, List, ◌∷◌, length, length-append, refl, sym, subst}
+use Rattle.std.proofs.Common.{◌≡◌, ◌⊎◌, ◌+◌, ◌≤◌, inl, inr, ap, arith, ℕ, List, [], ◌∷◌, ◌++◌, length, length-append, refl, sym, subst}
 use Rattle.xdr3.specs.declared.reason.Reason.{Reason}
 use Rattle.xdr3.specs.declared.reason.Reason.TheVariants.{BadMagic, CaptureCut, BadMark, AfterEnd, TooManyConnections, TooManyBytes, RecordCut, RecordTooLong, Short, Trailing, BadBool, BadEnum, TooLong, RpcVersion, Flavor, AuthLength, WrongSide, NoCall, XidConflict}
 use Rattle.xdr3.specs.declared.reason.Stop.{Stop}
@@ -13,7 +13,7 @@ use Rattle.capture3.specs.Bodies.{AReply, BadCall, LongCall, OtherCall, ACall, U
 use Rattle.capture3.specs.Bodies as bodies
 use Rattle.capture3.specs.Capture.{Version, One}
 use Rattle.capture3.specs.Connections.{calls_in_turn, client_position, ConnectionShows, Context, Refusal, replies_to, server_position}
-use Rattle.capture3.specs.FirstFault.{DiffersFromMagic, FirstFault, Rule, MagicDiffers, MarkIsBad, ConnectionIsTooMany, WithinConnection, ByteBehindEnd}
+use Rattle.capture3.specs.FirstFault.{BehindConnections, DiffersFromMagic, FirstFault, Rule, MagicDiffers, MarkIsBad, ConnectionIsTooMany, WithinConnection, ByteBehindEnd}
 use Rattle.capture3.specs.Laws.{HasItsPlace}
 use Rattle.capture3.specs.Records.{Judgement, RecordFault, StreamShows}
 use Rattle.capture3.specs.Sides.{place_in, Position, SideShows}
@@ -90,28 +90,34 @@ record_in_place judge position file stream shown h (inl r) =
     subst (λ (s : RecordFault). IsInPlace file (place_in position s)) (sym r.is) (h r.messages r.body r.stop r.refused file position.connection _)
 record_in_place judge position file stream shown h (inr r) = subst (λ (s : RecordFault). IsInPlace file (place_in position s)) (sym r.is) tt
 
-side_in_place : {M : Type 0} (judge : Judgement M) (position : Position) (file bytes : List ℕ) (fault : Fault) → RefusesInPlace judge position.side → SideShows judge position bytes fault → IsInPlace file fault
-side_in_place judge position file bytes fault h (inl s) = fault_is file fault _ s.is tt
-side_in_place judge position file bytes fault h (inr (inl s)) =
+side_in_place : {M : Type 0} (judge : Judgement M) (position : Position) (file bytes : List ℕ) (fault : Fault) → position.start + length bytes ≤ length file → RefusesInPlace judge position.side → SideShows judge position bytes fault → IsInPlace file fault
+side_in_place judge position file bytes fault within h (inl s) = fault_is file fault _ s.is (omega (arith, within, ap length s.split, length-append s.front s.last, s.word.0))
+side_in_place judge position file bytes fault within h (inr (inl s)) =
     fault_is file fault _ s.is (subst (λ (r : RecordFault). IsInPlace file (place_in position r)) (sym s.cut.is) tt)
-side_in_place judge position file bytes fault h (inr (inr s)) = fault_is file fault _ s.is (record_in_place judge position file _ s.shown h s.shows)
+side_in_place judge position file bytes fault within h (inr (inr s)) = fault_is file fault _ s.is (record_in_place judge position file _ s.shown h s.shows)
 
-connection_in_place : (version : Version) (context : Context) (file bytes : List ℕ) (shown : Refusal) → ConnectionShows version context bytes shown → IsInPlace file shown.fault
-connection_in_place One context file bytes shown (same, inl h) = side_in_place calls_in_turn (client_position context) file bytes shown.fault calls_in_place h
-connection_in_place One context file bytes shown (same, inr h) =
-    side_in_place (replies_to h.calls) (server_position context h.front h.client) file h.last shown.fault (replies_in_place h.calls) h.shows
+connection_in_place : (version : Version) (context : Context) (file bytes : List ℕ) (shown : Refusal) → context.start + length bytes ≤ length file → ConnectionShows version context bytes shown → IsInPlace file shown.fault
+connection_in_place One context file bytes shown within (same, inl h) = side_in_place calls_in_turn (client_position context) file bytes shown.fault within calls_in_place h
+connection_in_place One context file bytes shown within (same, inr h) =
+    side_in_place (replies_to h.calls) (server_position context h.front h.client) file h.last shown.fault (omega (arith, within, ap length h.split, length-append h.front h.last)) (replies_in_place h.calls) h.shows
 
-magic_in_place : (file bytes : List ℕ) (fault : Fault) → DiffersFromMagic bytes fault → IsInPlace file fault
-magic_in_place file bytes fault d =
-    fault_is file fault _ d.is (omega (arith, length_magic d.version, ap length d.begins, length-append d.front (d.due ∷ d.more)))
+magic_in_place : (file bytes : List ℕ) (fault : Fault) → length bytes ≤ length file → DiffersFromMagic bytes fault → IsInPlace file fault
+magic_in_place file bytes fault within d =
+    fault_is file fault _ d.is
+    (omega (arith, length_magic d.version, ap length d.begins, length-append d.front (d.due ∷ d.more)), omega (arith, within, ap length d.split, length-append d.front (d.byte ∷ [])))
 
-rule_in_place : (file bytes : List ℕ) (shown : Refusal) → Rule bytes shown → IsInPlace file shown.fault
-rule_in_place file bytes shown (MagicDiffers d e) = magic_in_place file bytes shown.fault d
-rule_in_place file bytes shown (MarkIsBad b rest bad e) = fault_is file shown.fault _ (ap (λ (r : Refusal). r.fault) e) tt
-rule_in_place file bytes shown (ConnectionIsTooMany b rest one many e) = fault_is file shown.fault _ (ap (λ (r : Refusal). r.fault) e) tt
-rule_in_place file bytes shown (WithinConnection b one h) = connection_in_place b.version _ file b.rest shown h
-rule_in_place file bytes shown (ByteBehindEnd b zero one e) = fault_is file shown.fault _ (ap (λ (r : Refusal). r.fault) e) tt
+-- a connection word stands in the file, and what comes after it
+word_within : (file bytes : List ℕ) (b : BehindConnections bytes) → length bytes ≤ length file → length b.front + 4 + length b.rest ≤ length file
+word_within file bytes b within = omega (arith, within, ap length b.split, length-append (b.front ++ b.word) b.rest, length-append b.front b.word, b.is_word.0)
+
+rule_in_place : (file bytes : List ℕ) (shown : Refusal) → length bytes ≤ length file → Rule bytes shown → IsInPlace file shown.fault
+rule_in_place file bytes shown within (MagicDiffers d e) = magic_in_place file bytes shown.fault within d
+rule_in_place file bytes shown within (MarkIsBad b rest bad e) = fault_is file shown.fault _ (ap (λ (r : Refusal). r.fault) e) (omega (arith, word_within file bytes b within))
+rule_in_place file bytes shown within (ConnectionIsTooMany b rest one many e) = fault_is file shown.fault _ (ap (λ (r : Refusal). r.fault) e) (omega (arith, word_within file bytes b within))
+rule_in_place file bytes shown within (WithinConnection b one h) = connection_in_place b.version _ file b.rest shown (word_within file bytes b within) h
+rule_in_place file bytes shown within (ByteBehindEnd b zero one e) = fault_is file shown.fault _ (ap (λ (r : Refusal). r.fault) e) (omega (arith, one, word_within file bytes b within))
 
 pub in_its_place : (file : List ℕ) (fault : Fault) → FirstFault file fault → HasItsPlace file fault.reason fault.place
-in_its_place file fault (inl (front, rest, shown, split, shows, e)) = fault_is file fault shown.fault e (rule_in_place file front shown shows.rule)
+in_its_place file fault (inl (front, rest, shown, split, shows, e)) =
+    fault_is file fault shown.fault e (rule_in_place file front shown (omega (arith, ap length split, length-append front rest)) shows.rule)
 in_its_place file fault (inr (clean, ill, e)) = fault_is file fault _ e refl

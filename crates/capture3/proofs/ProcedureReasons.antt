@@ -1,15 +1,14 @@
 -- For which reasons arguments and results are refused.
 use Rattle.std.proofs.Common.{ℕ, Bool, true, false, List}
-use Rattle.std.specs.Prelude.{◌||◌}
-use Rattle.std.specs.Prelude.{nat_eq, if◌then◌else◌}
+use Rattle.std.specs.Prelude.{◌||◌, nat_eq, if◌then◌else◌}
 use Rattle.xdr3.specs.Shape.{Shape, fixed, hyper, nothing, optional, word}
 use Rattle.xdr3.specs.Layout.{Layout, exactly, rest}
+use Rattle.xdr3.proofs.Reasons.{HasItemReasons, LayoutHasItemReasons}
 use Rattle.rpc_head.specs.declared.call.ProcId.{ProcId}
 use Rattle.nfs3_types.specs.Names.{names}
 use Rattle.nfs3_types.specs.Shapes.{attributes, dir_op, export, exports, file_kind, flavor, group, guard, handle, mount_list, mount_ok, mounted, post_op_attr, post_op_fh, results, set_hyper, set_word, settable, time, time_how, times, wcc, wcc_attr}
 use Rattle.procs3.specs.Shapes.{access_args, access_ok, commit_ok, create_args, create_how, create_ok, device, dirpath, entry, entry_plus, file_range, fsinfo_ok, fsstat_ok, link_args, link_wcc, lookup_ok, mkdir_args, mknod_args, mknod_what, mount_results, pathconf_ok, read_ok, readdir_args, readdir_ok, readdirplus_args, readdirplus_ok, readlink_ok, rename_args, rename_wcc, setattr_args, symlink_args, write_args, write_ok}
 use Rattle.procs3.specs.Table.{arguments_of, is_mount, is_nfs, mount_arguments, mount_results_of, nfs_arguments, nfs_results, results_of}
-use Rattle.xdr3.proofs.Reasons.{HasItemReasons, LayoutHasItemReasons}
 
 pub reasons_if : (b : Bool) (s t : Shape) → HasItemReasons s → HasItemReasons t → HasItemReasons (if b then s else t)
 reasons_if true s t h k = h

@@ -80,14 +80,14 @@ pub record AreWithinLimits (entries : List Entry) : Type 0 where
 abbrev pub most_bytes : ℕ
 most_bytes = 5369495552
 
--- Where a fault stands, by its reason: at a byte of the file, or in a record.
+-- Where a fault stands, by its reason: at a byte that the file has, at its length, or in a record.
 abbrev pub HasItsPlace : List ℕ → Reason → Place → Type 0
-HasItsPlace file BadMagic (File at) = at < 8
+HasItsPlace file BadMagic (File at) = (at < 8) × (at < length file)
 HasItsPlace file CaptureCut (File at) = at ≡ length file
-HasItsPlace file BadMark (File at) = Unit {0}
-HasItsPlace file AfterEnd (File at) = Unit {0}
-HasItsPlace file TooManyConnections (File at) = Unit {0}
-HasItsPlace file TooManyBytes (File at) = Unit {0}
+HasItsPlace file BadMark (File at) = at < length file
+HasItsPlace file AfterEnd (File at) = at < length file
+HasItsPlace file TooManyConnections (File at) = at < length file
+HasItsPlace file TooManyBytes (File at) = at < length file
 HasItsPlace file RecordCut (Record connection side number byte) = Unit {0}
 HasItsPlace file RecordTooLong (Record connection side number byte) = Unit {0}
 HasItsPlace file Short (Record connection side number byte) = Unit {0}

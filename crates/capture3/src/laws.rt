@@ -26,8 +26,8 @@ pub fn one_verdict()
     ensures { (file : List ℕ) → AreBytes file → HasOneVerdict file }
 {}
 
-/// The first fault of a file stands where its reason says: at a byte of the file or in a record, and
-/// for some reasons at one byte.
+/// The first fault of a file stands where its reason says: at a byte of the file, at its
+/// length, or in a record.
 pub fn in_its_place()
     ensures { (file : List ℕ) (fault : Fault) → FirstFault file fault
         → HasItsPlace file fault.reason fault.place }
