@@ -47,7 +47,7 @@ listed_fits : (name words : List ℕ) (items : List Item) → Fits (listed name 
 listed_fits name words items f = (f.0, f.2, f.4 ∙ ap (λ (more : List Item). Word name f.0 ∷ more) f.3)
 
 -- a start has two words
-two_words : (words : List ℕ) (items : List Item) → Fits (word names.xid then listed names.mtype words) items → (xid : ℕ) × (mtype : ℕ) × IsTrue (is_listed words mtype) × (items ≡ start_of xid mtype)
+pub two_words : (words : List ℕ) (items : List Item) → Fits (word names.xid then listed names.mtype words) items → (xid : ℕ) × (mtype : ℕ) × IsTrue (is_listed words mtype) × (items ≡ start_of xid mtype)
 two_words words items f =
     let x = word_fits names.xid f.0 f.2 in
     let m = listed_fits names.mtype words f.1 f.3 in

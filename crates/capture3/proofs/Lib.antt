@@ -35,3 +35,6 @@ pub mod FileRules
 pub mod Loosened
 pub mod Parsed
 pub mod Histories
+mod ProcedureReasons
+mod MessageReasons
+pub mod Placed

@@ -1,9 +1,13 @@
 -- Laws of captures.
-use Rattle.std.specs.Prelude.{◌≡◌, ◌⊎◌, ◌↔◌, ℕ, ◌+◌, ◌≤◌, List, [], ◌∷◌, ◌++◌, length}
-use Rattle.xdr3.specs.declared.reason.Reason.TheVariants.{CaptureCut}
+use Rattle.std.specs.Prelude.{◌≡◌, ◌⊎◌, ◌↔◌, ℕ, ◌+◌, ◌<◌, ◌≤◌, List, [], ◌∷◌, ◌++◌, length}
+use Rattle.xdr3.specs.declared.reason.Reason.{Reason}
+use Rattle.xdr3.specs.declared.reason.Reason.TheVariants.{BadMagic, CaptureCut, BadMark, AfterEnd, TooManyConnections, TooManyBytes, RecordCut, RecordTooLong, Short, Trailing, BadBool, BadEnum, TooLong, RpcVersion, Flavor, AuthLength, WrongSide, NoCall, XidConflict}
 use Rattle.xdr3.specs.declared.reason.Stop.{Stop}
 use Rattle.xdr3.specs.Item.{Item, zero_spelling}
 use Rattle.capture3.specs.declared.fault.Fault.{Fault}
+use Rattle.capture3.specs.declared.fault.Place.{Place}
+use Rattle.capture3.specs.declared.fault.Place.TheVariants.{File, Record}
+use Rattle.capture3.specs.declared.fault.Side.TheVariants.{Client, Server}
 use Rattle.capture3.specs.Bodies.{ReplyItems}
 use Rattle.capture3.specs.Capture.{Streams, max_connections}
 use Rattle.capture3.specs.Chunks.{max_bytes}
@@ -75,3 +79,26 @@ pub record AreWithinLimits (entries : List Entry) : Type 0 where
 -- The longest a capture can be: the magic, 65,535 connections of a word 1 and two words 0, the last word 0, and 1,073,741,824 stream bytes in chunks of one byte.
 abbrev pub most_bytes : ℕ
 most_bytes = 5369495552
+
+-- Where a fault stands, by its reason: at a byte that the file has, at its length, or in a record.
+abbrev pub HasItsPlace : List ℕ → Reason → Place → Type 0
+HasItsPlace file BadMagic (File at) = (at < 8) × (at < length file)
+HasItsPlace file CaptureCut (File at) = at ≡ length file
+HasItsPlace file BadMark (File at) = at < length file
+HasItsPlace file AfterEnd (File at) = at < length file
+HasItsPlace file TooManyConnections (File at) = at < length file
+HasItsPlace file TooManyBytes (File at) = at < length file
+HasItsPlace file RecordCut (Record connection side number byte) = Unit {0}
+HasItsPlace file RecordTooLong (Record connection side number byte) = Unit {0}
+HasItsPlace file Short (Record connection side number byte) = Unit {0}
+HasItsPlace file Trailing (Record connection side number byte) = Unit {0}
+HasItsPlace file BadBool (Record connection side number byte) = Unit {0}
+HasItsPlace file BadEnum (Record connection side number byte) = Unit {0}
+HasItsPlace file TooLong (Record connection side number byte) = Unit {0}
+HasItsPlace file RpcVersion (Record connection side number byte) = (side ≡ Client) × (byte ≡ 8)
+HasItsPlace file Flavor (Record connection side number byte) = Unit {0}
+HasItsPlace file AuthLength (Record connection side number byte) = Unit {0}
+HasItsPlace file WrongSide (Record connection side number byte) = byte ≡ 4
+HasItsPlace file NoCall (Record connection side number byte) = (side ≡ Server) × (byte ≡ 0)
+HasItsPlace file XidConflict (Record connection side number byte) = (side ≡ Client) × (byte ≡ 0)
+HasItsPlace _ _ _ = ⊥

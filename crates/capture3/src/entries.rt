@@ -4,6 +4,7 @@ ghost use Rattle.std.specs.Prelude.{◌≡◌, ◌≢◌, ◌≤◌, ◌<◌, �
 ghost use Rattle.std.specs.Io.KnownBytes.{IsAtEnd, ReadConsumes};
 ghost use Rattle.record_mark.specs.Taking.{IsRunning, released};
 ghost use Rattle.capture3.specs.declared.entries.Stage.TheVariants as stages;
+ghost use Rattle.capture3.specs.declared.fault.Error.{Error};
 ghost use Rattle.capture3.specs.declared.fault.Error.TheVariants as errors;
 ghost use Rattle.xdr3.specs.Item.{AreBytes};
 ghost use Rattle.capture3.specs.Device.{Counts};
@@ -63,6 +64,7 @@ pub struct Entries<'r, R, S: BuildHasher + Drop> {
     ghost running: { stage ≡ stages.Reading → ∥ IsRunning (released capture.container.joiner) ∥₁ },
     ghost spells: { ∥ SpellsLast last capture.container.joiner ∥₁ },
     ghost never_writes: { stage ≢ stages.Failed errors.Write },
+    ghost unlent: { (error : Error) → stage ≡ stages.Failed error → last ≡ None },
 }
 
 impl<'r, R: Source, S: BuildHasher + Drop> Entries<'r, R, S> {
@@ -76,6 +78,7 @@ impl<'r, R: Source, S: BuildHasher + Drop> Entries<'r, R, S> {
         ensures stands { StandsFor R.left result [] [] }
         ensures unread { result.source.now ≡ source.old }
         ensures going { failure_of result ≡ None }
+        ensures unlent { last_of result ≡ None }
         ensures block { block_size result ≡ vec_len block }
         ensures same_reference { result.source.ghost_name ≡ source.entry.ghost_name }
     {
@@ -121,6 +124,7 @@ impl<'r, R: Source, S: BuildHasher + Drop> Entries<'r, R, S> {
             → entries_left self.new < entries_left self.old) }
         ensures going { OnOk result (failure_of self.new ≡ None) }
         ensures failed { IfErr result (λ error. failure_of self.new ≡ Some error) }
+        ensures unlent { OnErr result (last_of self.new ≡ None) }
         ensures again { (error : Error) → failure_of self.old ≡ Some error → result ≡ Err error }
         ensures unread { (error : Error) → failure_of self.old ≡ Some error
             → self.new.source.now ≡ self.old.source.now }
@@ -164,6 +168,7 @@ impl<'r, R: Source, S: BuildHasher + Drop> Entries<'r, R, S> {
         ensures some { IfOk result (λ next. IsSome next) }
         ensures going { OnOk result (failure_of self.new ≡ None) }
         ensures failed { IfErr result (λ error. self.new.stage ≡ Stage.Failed error) }
+        ensures unlent { OnErr result (last_of self.new ≡ None) }
         ensures read { CountsReading (R.failures self.old.source.now)
             (R.failures self.new.source.now) result }
         ensures same_block { block_size self.new ≡ block_size self.old }
@@ -200,6 +205,7 @@ impl<'r, R: Source, S: BuildHasher + Drop> Entries<'r, R, S> {
         ensures reading { IfOk result (λ next. next ≡ None → self.new.stage ≡ Stage.Reading) }
         ensures going { OnOk result (failure_of self.new ≡ None) }
         ensures failed { IfErr result (λ error. self.new.stage ≡ Stage.Failed error) }
+        ensures unlent { OnErr result (last_of self.new ≡ None) }
         ensures read { CountsReading (R.failures self.old.source.now)
             (R.failures self.new.source.now) result }
         ensures same_block { block_size self.new ≡ block_size self.old }
@@ -235,6 +241,7 @@ impl<'r, R: Source, S: BuildHasher + Drop> Entries<'r, R, S> {
         ensures same_count { self.new.judged ≡ self.old.judged }
         ensures reading { OnOk result (self.new.stage ≡ Stage.Reading) }
         ensures failed { IfErr result (λ error. self.new.stage ≡ Stage.Failed error) }
+        ensures unlent { OnErr result (last_of self.new ≡ None) }
         ensures read { CountsReading (R.failures self.old.source.now)
             (R.failures self.new.source.now) result }
         ensures same_block { block_size self.new ≡ block_size self.old }
@@ -273,6 +280,7 @@ impl<'r, R: Source, S: BuildHasher + Drop> Entries<'r, R, S> {
         ensures on { OnOk result (self.old.judged < self.new.judged) }
         ensures reading { OnOk result (self.new.stage ≡ Stage.Reading) }
         ensures failed { IfErr result (λ error. self.new.stage ≡ Stage.Failed error) }
+        ensures unlent { OnErr result (last_of self.new ≡ None) }
         ensures never_reads { IfErr result (λ error. error ≢ Error.Read) }
         ensures unread { self.new.source.now ≡ self.old.source.now }
         ensures same_block { block_size self.new ≡ block_size self.old }
@@ -308,6 +316,7 @@ impl<'r, R: Source, S: BuildHasher + Drop> Entries<'r, R, S> {
         ensures last { OnOk result (last_of self.new ≡ Some Kind.End) }
         ensures over { OnOk result (self.new.stage ≡ Stage.Over) }
         ensures failed { IfErr result (λ error. self.new.stage ≡ Stage.Failed error) }
+        ensures unlent { OnErr result (last_of self.new ≡ None) }
         ensures never_reads { IfErr result (λ error. error ≢ Error.Read) }
         ensures unread { self.new.source.now ≡ self.old.source.now }
         ensures same_block { block_size self.new ≡ block_size self.old }

@@ -191,11 +191,12 @@ impl KeptReply {
 
 impl<'a> EntryRef<'a> {
     ghost use Rattle.capture3.specs.Entry as spec;
-    ghost use Rattle.capture3.specs.Kept.{IsKept, IsLent};
+    ghost use Rattle.capture3.specs.Kept.{IsCopy, IsKept, IsLent};
 
     /// The entry, with a body of its own.
     pub fn keep(&self, alloc: Global) -> Result<Entry, AllocError>
-        ensures { (entry : spec.Entry) → IsLent self.now entry
+        ensures copy { IfOk result (IsCopy self.now) }
+        ensures kept { (entry : spec.Entry) → IsLent self.now entry
             → IfOk result (λ kept. IsKept kept entry) }
     {
         match self {

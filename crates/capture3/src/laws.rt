@@ -9,7 +9,7 @@ ghost use Rattle.capture3.specs.Capture.{Streams};
 ghost use Rattle.capture3.specs.Connections.{calls_in_turn, replies_to};
 ghost use Rattle.capture3.specs.Entry.{Entry};
 ghost use Rattle.capture3.specs.FirstFault.{FirstFault, IsClean};
-ghost use Rattle.capture3.specs.Laws.{AreWithinLimits, HasOneVerdict, IsCutShort, IsJudgedInTurn, IsJudgedOnce, most_bytes};
+ghost use Rattle.capture3.specs.Laws.{AreWithinLimits, HasItsPlace, HasOneVerdict, IsCutShort, IsJudgedInTurn, IsJudgedOnce, most_bytes};
 ghost use Rattle.capture3.specs.Parsing.{file_next, parsed, reached, verdict};
 ghost use Rattle.capture3.specs.Reached.{Reached};
 ghost use Rattle.capture3.specs.Typed.{Typed};
@@ -24,6 +24,13 @@ ghost use Rattle.capture3.specs.Sides.{file_fault};
 /// For each file exactly one holds: one list of entries, or one first fault.
 pub fn one_verdict()
     ensures { (file : List ℕ) → AreBytes file → HasOneVerdict file }
+{}
+
+/// The first fault of a file stands where its reason says: at a byte of the file, at its
+/// length, or in a record.
+pub fn in_its_place()
+    ensures { (file : List ℕ) (fault : Fault) → FirstFault file fault
+        → HasItsPlace file fault.reason fault.place }
 {}
 
 /// Every proper prefix of a well-formed file is cut at its own length.

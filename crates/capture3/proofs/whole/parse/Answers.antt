@@ -23,7 +23,7 @@ loop-taken-preserved-in-Continue-branch-2 c =
       machine =
           rw c.in_ok-push-in-Ok-default-Some.ensures.items
           (keeps_more _ _ _ c.args.bytes.now c.loop-taken.taken c.in-Ok-default-Some.count _ _ _ c.loop-taken.entries.items invariant.machine.0 _ _ _ c.in-Ok-default-Some.field-0-1-is
-          (c.in-Ok-default-Some.ensures.machine (parsed (take c.loop-taken.taken c.args.bytes.now)) invariant.machine.0 invariant.machine.1) (λ entry h. c.in_ok-entry-in-Ok-default-Some.ensures entry (c.lend.ensures.lent entry h)) invariant.machine.2);
+          (c.in-Ok-default-Some.ensures.machine (parsed (take c.loop-taken.taken c.args.bytes.now)) invariant.machine.0 invariant.machine.1) (λ entry h. c.in_ok-entry-in-Ok-default-Some.ensures.kept entry (c.lend.ensures.lent entry h)) invariant.machine.2);
     }
 
 pub loop-taken-preserved : goal.loop-taken-preserved

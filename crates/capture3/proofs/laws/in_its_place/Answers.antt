@@ -1,0 +1,5 @@
+use Rattle.capture3.proofs.Placed.{in_its_place}
+use Rattle.capture3.proofs.laws.in_its_place.Goals as goal
+
+pub returns : goal.returns
+returns c file fault first = in_its_place file fault first
