@@ -33,6 +33,9 @@ impl WordPart {
         ensures word { TakesWord self rest.now result.0 result.1 }
     {
         let count = self.count as usize;
+        if count == 0 && rest.len() >= 4 {
+            return (4, Word::Whole(BigEndian::read_u32(&rest[..4])));
+        }
         let more = (4 - count).min(rest.len());
         let bytes = with_more(self.bytes, count, &rest[..more]);
         if count + more < 4 {
