@@ -12,13 +12,13 @@ use Rattle.canon3.specs.Comparison.{Agree, PartWith}
 use Rattle.canon3.specs.Laws.{AreFirst}
 use Rattle.canon3.specs.Parting.{IsPlaceOf, Parting, PartsAt}
 use Rattle.canon3.specs.Renaming.{Same}
-use Rattle.canon3.specs.Rewriting.{are_some, magic_unless}
+use Rattle.canon3.specs.CanonicalForm.{are_some, magic_unless}
 use Rattle.canon3.specs.Progress.{side_in}
 use Rattle.canon3.proofs.Ends.{ends_too, past}
 use Rattle.canon3.proofs.First.{first_in_order, parts_where_forms_do, same_from_bytes}
 use Rattle.canon3.specs.Spelling.{bytes_behind}
 use Rattle.canon3.proofs.Growing.{first_front, form_grows}
-use Rattle.canon3.proofs.Numbering.{canonical-same}
+use Rattle.canon3.proofs.OneFormLemmas.{canonical-same}
 use Rattle.canon3.proofs.Places.{place_from_parting}
 use Rattle.canon3.proofs.Prefixes.{canonical-take}
 

@@ -12,7 +12,7 @@ use Rattle.capture3.specs.Typed.{IsIn, reply_entry, Typed}
 use Rattle.capture3.proofs.BytesOf.{AreBytes-nil, AreBytes-append, AreBytes-front, all_bytes, checked}
 use Rattle.capture3.proofs.Verdicts.{verdict_from_typed, verdict_from_fault, is_cut_short}
 use Rattle.canon3.specs.Bytes.{record_bytes, message_bytes, entry_bytes, bytes_of}
-use Rattle.canon3.proofs.Renamings.{all_mapped}
+use Rattle.canon3.proofs.RenamingLemmas.{all_mapped}
 use Rattle.canon3.proofs.Items.{all_append, are_bytes_of_number, spellings_are_bytes}
 use Rattle.canon3.proofs.Conversations.{stream_of, Conversation, reply_items, items_of_reply, IsSpelledCall, IsSpelledReply, AreConversing}
 use Rattle.canon3.proofs.Files.{all_of, total_weight, AreCapture, all_regrouped, typed_anew}

@@ -19,7 +19,7 @@ use Rattle.capture3.specs.Typed.{IsWellFormed, Typed}
 use Rattle.canon3.specs.declared.comparison.Comparison.{Comparison}
 use Rattle.canon3.specs.declared.comparison.Finding.{Finding}
 use Rattle.canon3.specs.declared.comparison.Finding.TheVariants as findings
-use Rattle.canon3.specs.declared.numbered.Numbering.{Numbering}
+use Rattle.canon3.specs.declared.message_writer.MessageWriter.{MessageWriter}
 use Rattle.canon3.specs.declared.spelling.Spelling.{Spelling}
 use Rattle.canon3.specs.declared.progress.Progress.{Progress}
 use Rattle.capture3.specs.declared.entry.Kind.{Kind}
@@ -29,7 +29,7 @@ use Rattle.canon3.specs.declared.verdict.Verdict.TheVariants as verdicts
 use Rattle.canon3.specs.declared.verdict.Which.TheVariants.{First, Second}
 use Rattle.canon3.specs.Comparison.{Agree, Decides, HasGiven, HasGivenOn, HaveEnded, HaveParted, IsCompared, IsFound, IsReadAfter, IsReadOut, IsRefused, IsTold, Meets, met_second, PartWith, ReadsOn, StepsOn, Stops}
 use Rattle.canon3.specs.Laws.{AreFirst}
-use Rattle.canon3.specs.Numbered.{Before, behind, Stands, values_of}
+use Rattle.canon3.specs.MessageWriter.{Before, behind, Stands, values_of}
 use Rattle.canon3.specs.Renaming.{Same}
 use Rattle.canon3.specs.Spelling.{bytes_behind, HasSpelled, spelling_of}
 use Rattle.capture3.specs.Kept.{IsOfKind}
@@ -42,7 +42,7 @@ use Rattle.canon3.proofs.Visiting.{behind-append}
 
 -- ---- an entry of each
 
-module _ {S H : Type 0} (n m : Numbering S H) (form other_form : Spelling) (a b : List Entry) (e f : Entry) (first : AreFirst (a ++ e ∷ [])) (second : AreFirst (b ++ f ∷ [])) (s : HasSpelled n form a e) (t : HasSpelled m other_form b f) (g : Agree a b) where
+module _ {S H : Type 0} (n m : MessageWriter S H) (form other_form : Spelling) (a b : List Entry) (e f : Entry) (first : AreFirst (a ++ e ∷ [])) (second : AreFirst (b ++ f ∷ [])) (s : HasSpelled n form a e) (t : HasSpelled m other_form b f) (g : Agree a b) where
   pub agree_on : spelling_of form n.writer ≡ spelling_of other_form m.writer → Agree (a ++ e ∷ []) (b ++ f ∷ [])
   agree_on alike = agree_more a b e f first second g (sym s.spelled ∙ (alike ∙ t.spelled))
 
@@ -57,18 +57,18 @@ module _ {S H : Type 0} (n m : Numbering S H) (form other_form : Spelling) (a b 
 
 -- ---- a comparison whose numberings are told items
 
-abbrev pub with_first : {S H : Type 0} → Comparison S H → Numbering S H → Comparison S H
+abbrev pub with_first : {S H : Type 0} → Comparison S H → MessageWriter S H → Comparison S H
 with_first comparison n = record { first = n; second = comparison.second; progress = comparison.progress }
 
-abbrev pub with_second : {S H : Type 0} → Comparison S H → Numbering S H → Comparison S H
+abbrev pub with_second : {S H : Type 0} → Comparison S H → MessageWriter S H → Comparison S H
 with_second comparison n = record { first = comparison.first; second = n; progress = comparison.progress }
 
 -- the items told stand after the values
-told : {S H : Type 0} (was now : Numbering S H) (before : Before) (items : List Item) → Adds Stands was now items → Stands was (behind before []) → Stands now (behind before items)
+told : {S H : Type 0} (was now : MessageWriter S H) (before : Before) (items : List Item) → Adds Stands was now items → Stands was (behind before []) → Stands now (behind before items)
 unfolding Adds
 told was now before items adds stands = subst (Stands now) (sym (behind-append before [] items)) (adds (behind before []) stands)
 
-module _ {S H : Type 0} (comparison : Comparison S H) (a b : List Entry) (n : Numbering S H) where
+module _ {S H : Type 0} (comparison : Comparison S H) (a b : List Entry) (n : MessageWriter S H) where
   pub told_first : (items : List Item) → Adds Stands comparison.first n items → IsCompared comparison a b → IsTold (with_first comparison n) a b items []
   told_first items adds c = record { agree = c.agree; first = told comparison.first n (values_of a) items adds c.first; second = c.second; progress = c.progress }
 

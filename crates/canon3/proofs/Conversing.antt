@@ -16,8 +16,8 @@ use Rattle.canon3.specs.Bytes.{record_bytes}
 use Rattle.canon3.specs.Pairing.{Member, here}
 use Rattle.canon3.specs.Rank.{rank}
 use Rattle.canon3.specs.Canonical.{numbered_message}
-use Rattle.canon3.proofs.Ranks.{member-append_left, member-append_right, same_rank}
-use Rattle.canon3.proofs.Renamings.{all_mapped, all_weaker}
+use Rattle.canon3.proofs.RankLemmas.{member-append_left, member-append_right, same_rank}
+use Rattle.canon3.proofs.RenamingLemmas.{all_mapped, all_weaker}
 use Rattle.canon3.proofs.Messages.{BeginsWithWord, call_begins, reply_begins, call_numbered, reply_numbered, xid_numbered, procedure_numbered, message_spelled, message_shorter}
 use Rattle.canon3.proofs.Conversations.{all_in, of_all, in_map, map_in, stream_of, IsSmall, length_of_record, marks_of, HasBody, each_has_body, each_size, each_from, Conversation, items_of_reply, reply_items, itself, IsSpelledCall, IsSpelledReply, AreConversing, weight, streams_of}
 

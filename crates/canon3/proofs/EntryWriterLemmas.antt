@@ -15,10 +15,10 @@ use Rattle.capture3.specs.Reached.{Reached}
 use Rattle.capture3.proofs.Emits.{reached_by_machine}
 use Rattle.canon3.specs.declared.passed.Passed.{Passed}
 use Rattle.canon3.specs.EntryWriter.{GoesOn, HasMore, IsDone, IsStoppedBy, KeepsPrefixes, WritesGiven}
-use Rattle.canon3.specs.Writing.{IsOfWriting}
-use Rattle.canon3.specs.Written.{AppendsFront}
+use Rattle.canon3.specs.WriteErrors.{IsOfWriting}
+use Rattle.canon3.specs.SinkWrites.{AppendsFront}
 use Rattle.canon3.proofs.Reaching.{reached_first}
-use Rattle.canon3.proofs.Written.{front_of_first, whole_front}
+use Rattle.canon3.proofs.SinkWritesLemmas.{front_of_first, whole_front}
 
 module _ (form : List Entry → List ℕ) (prefixes : KeepsPrefixes form) where
   cut_reached : (old new : Option (List ℕ)) (given : List ℕ) (entries : List Entry) → AreFirstReached given entries → AppendsFront old new (form entries)

@@ -4,9 +4,9 @@ use Rattle.capture3.specs.Entry.{Entry}
 use Rattle.canon3.specs.Renaming.{Same}
 use Rattle.canon3.specs.Canonical.{canonical}
 use Rattle.canon3.proofs.Order.{IsWellFormed}
-use Rattle.canon3.proofs.Renamings.{Matches, same-from_matches, matches-from_same, matches_turned, matches_linked}
-use Rattle.canon3.proofs.Numbering.{canonical-same}
-use Rattle.canon3.proofs.Renumbered.{matches_canonical, same-canonical}
+use Rattle.canon3.proofs.RenamingLemmas.{Matches, same-from_matches, matches-from_same, matches_turned, matches_linked}
+use Rattle.canon3.proofs.OneFormLemmas.{canonical-same}
+use Rattle.canon3.proofs.CanonicalLemmas.{matches_canonical, same-canonical}
 
 pub same_reflexive : (a : List Entry) → IsWellFormed a → Same a a
 same_reflexive a w = let m = matches_canonical a w in same-from_matches (matches_linked m (matches_turned m))

@@ -15,7 +15,7 @@ use Rattle.canon3.specs.Values.{xid_of, call_xids, handles, verifiers}
 use Rattle.canon3.specs.Bytes.{message_bytes, entry_bytes, bytes_of}
 use Rattle.canon3.specs.Canonical.{numbered_message, numbered, canonical}
 use Rattle.canon3.specs.Laws.{AreOfTheirBytes}
-use Rattle.canon3.proofs.Renamings.{all_weaker}
+use Rattle.canon3.proofs.RenamingLemmas.{all_weaker}
 use Rattle.canon3.proofs.Conversations.{chunks_of, IsSmall, is_stream, Conversation, items_of_reply, reply_items, IsSpelledCall, AreConversing, weight, streams_of}
 use Rattle.canon3.proofs.Conversing.{conversing, conversing_weight, converses_anew, small_items, xids_of, length_of_xids, numbered_reply, numbered_conversation, conversing_numbered, weight_numbered}
 

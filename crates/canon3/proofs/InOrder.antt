@@ -11,8 +11,8 @@ use Rattle.capture3.proofs.Limits.{typed_within}
 use Rattle.canon3.specs.Values.{handles_in, verifiers_in, xid_of}
 use Rattle.canon3.specs.Pairing.{Member, IsHandle, IsVerifier}
 use Rattle.canon3.proofs.Order.{BeginsWithXid, IsAnswering, Between, InCalls, InReplies, Over, begin, call, turn, reply, close, end, Runs, stays, steps, IsWellFormed}
-use Rattle.canon3.proofs.Ranks.{member-append_cases}
-use Rattle.canon3.proofs.Renamings.{all_mapped, all_weaker}
+use Rattle.canon3.proofs.RankLemmas.{member-append_cases}
+use Rattle.canon3.proofs.RenamingLemmas.{all_mapped, all_weaker}
 use Rattle.canon3.proofs.Items.{IsShort, all_append, handles_are, verifiers_are, few_handles, few_verifiers}
 use Rattle.canon3.proofs.Messages.{BeginsWithWord, call_begins, reply_begins, call_short, reply_short}
 use Rattle.canon3.proofs.Conversations.{all_in, of_all, Conversation, IsSpelledCall, IsSpelledReply, AreConversing}

@@ -15,8 +15,8 @@ use Rattle.canon3.specs.Values.{handle_in, verifier_in, handles_in, verifiers_in
 use Rattle.canon3.specs.Pairing.{Member, here, there, IsHandle, IsVerifier}
 use Rattle.canon3.specs.Rank.{rank}
 use Rattle.canon3.specs.Canonical.{numbered_item}
-use Rattle.canon3.proofs.Ranks.{member-append_cases}
-use Rattle.canon3.proofs.Renamings.{all_mapped, all_weaker}
+use Rattle.canon3.proofs.RankLemmas.{member-append_cases}
+use Rattle.canon3.proofs.RenamingLemmas.{all_mapped, all_weaker}
 use Rattle.canon3.proofs.Rooms.{HasNoName, HasRoom, LayoutHasRoom}
 
 -- ---- lists of lists

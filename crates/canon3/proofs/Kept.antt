@@ -8,11 +8,11 @@ use Rattle.canon3.specs.Pairing.{Member, here, there, Pairs, IsXid}
 use Rattle.canon3.specs.Renaming.{Pairwise, none, more, message, Renames, ended, begins, calls, turns, replies, closes, ends, Same}
 use Rattle.canon3.specs.Canonical.{canonical}
 use Rattle.canon3.proofs.Order.{Stage, Between, InCalls, InReplies, Over, begin, call, turn, reply, close, end, Runs, stays, steps, IsWellFormed}
-use Rattle.canon3.proofs.Ranks.{itself}
-use Rattle.canon3.proofs.Pairings.{Agree, Alike}
-use Rattle.canon3.proofs.Renamings.{matches-from_same}
-use Rattle.canon3.proofs.Numbering.{In, pairwise-append, all_handles_paired, all_verifiers_paired}
-use Rattle.canon3.proofs.Renumbered.{same-canonical}
+use Rattle.canon3.proofs.RankLemmas.{itself}
+use Rattle.canon3.proofs.PairingLemmas.{Agree, Alike}
+use Rattle.canon3.proofs.RenamingLemmas.{matches-from_same}
+use Rattle.canon3.proofs.OneFormLemmas.{In, pairwise-append, all_handles_paired, all_verifiers_paired}
+use Rattle.canon3.proofs.CanonicalLemmas.{same-canonical}
 
 pairwise-length : {A B : Type 0} {R : A → B → Type 0} {l : List A} {m : List B} → Pairwise R l m → length l ≡ length m
 pairwise-length none = refl

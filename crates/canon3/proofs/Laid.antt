@@ -11,7 +11,7 @@ use Rattle.canon3.proofs.Conversations.{AreConversing, Conversation, IsSpelledCa
 use Rattle.canon3.proofs.Files.{entries_of, holds}
 use Rattle.canon3.proofs.Items.{all_append}
 use Rattle.canon3.proofs.Messages.{FitsCall, FitsReply}
-use Rattle.canon3.proofs.Renamings.{all_mapped}
+use Rattle.canon3.proofs.RenamingLemmas.{all_mapped}
 
 abbrev pub IsLaidOut : Entry → Type 0
 IsLaidOut (Call items) = FitsCall items

@@ -18,7 +18,7 @@ use Rattle.canon3.specs.Canonical.{numbered_item, numbered_message}
 use Rattle.canon3.proofs.Procedures.{arguments_have_room, layout_room_if, results_have_room, room_if}
 use Rattle.canon3.proofs.Rooms.{HasNoName, HasRoom, LayoutHasRoom}
 use Rattle.canon3.specs.Pairing.{Member}
-use Rattle.canon3.proofs.Ranks.{rank-le-length}
+use Rattle.canon3.proofs.RankLemmas.{rank-le-length}
 use Rattle.canon3.proofs.Items.{spells_numbered, shorter_numbered, fits_numbered, layout_numbered, handles_short, layout_short, IsShort, all_append}
 
 -- ---- heads

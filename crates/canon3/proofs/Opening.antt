@@ -4,18 +4,18 @@ use Rattle.std.specs.Prelude.{bytes_eq, nat_eq}
 use Rattle.std.specs.List.{list_any}
 use Rattle.std.proofs.lemmas.Bool.Decides.{Decides-eqb}
 use Rattle.xdr3.specs.Item.{Item, Word, zero_spelling}
-use Rattle.canon3.specs.declared.numbered.Numbering.{Numbering}
-use Rattle.canon3.specs.declared.numbered.Stage.TheVariants.{Begins}
-use Rattle.canon3.specs.Following.{items_after, message_after}
-use Rattle.canon3.specs.Gathering.{HoldsHandles}
-use Rattle.canon3.specs.Numbered.{AreFew, Before, behind, Holds, IsGoing, IsUnderWay, Stands}
+use Rattle.canon3.specs.declared.message_writer.MessageWriter.{MessageWriter}
+use Rattle.canon3.specs.declared.message_writer.Stage.TheVariants.{Begins}
+use Rattle.canon3.specs.CanonicalStream.{items_after, message_after}
+use Rattle.canon3.specs.HandleTable.{HoldsHandles}
+use Rattle.canon3.specs.MessageWriter.{AreFew, Before, behind, Holds, IsGoing, IsUnderWay, Stands}
 use Rattle.canon3.specs.Pairing.{Member, here, there}
 use Rattle.canon3.specs.Rank.{distinct, StandsFor}
 use Rattle.canon3.specs.Values.{handles_in, verifiers_in}
-use Rattle.canon3.proofs.Ranks.{any-distinct, distinct-push, equivalence, itself, rank-append}
+use Rattle.canon3.proofs.RankLemmas.{any-distinct, distinct-push, equivalence, itself, rank-append}
 use Rattle.canon3.proofs.Visiting.{behind-same}
 
-module _ {S H : Type 0} (n : Numbering S H) (before : Before) where
+module _ {S H : Type 0} (n : MessageWriter S H) (before : Before) where
   -- the tables hold what was there before, and no message is begun
   pub begins : Holds n before → n.stage ≡ Begins → n.writer ≡ [] → Stands n (behind before [])
   begins h stage none going = record {

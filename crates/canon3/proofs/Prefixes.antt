@@ -11,11 +11,11 @@ use Rattle.canon3.proofs.Order.{IsWellFormed}
 use Rattle.capture3.specs.Capture.{One, magic}
 use Rattle.canon3.specs.Bytes.{entry_bytes, bytes_of}
 use Rattle.canon3.specs.Parting.{PartsAt}
-use Rattle.canon3.proofs.Ranks.{member-append_left}
-use Rattle.canon3.proofs.Renumbered.{Within}
-use Rattle.canon3.proofs.Following.{canonical-after, take-after}
+use Rattle.canon3.proofs.RankLemmas.{member-append_left}
+use Rattle.canon3.proofs.CanonicalLemmas.{Within}
+use Rattle.canon3.proofs.CanonicalStreamLemmas.{canonical-after, take-after}
 use Rattle.canon3.proofs.Nesting.{runs-take}
-use Rattle.canon3.proofs.Numbering.{canonical-same}
+use Rattle.canon3.proofs.OneFormLemmas.{canonical-same}
 use Rattle.canon3.proofs.Equality.{same_from_canonical}
 
 module _ {X : Type 0} (f : Entry → List X) (i : ℕ) (es : List Entry) where

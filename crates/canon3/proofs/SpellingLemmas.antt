@@ -4,15 +4,15 @@ use Rattle.std.specs.Prelude.{bytes_eq, nat_eq}
 use Rattle.xdr3.specs.Item.{Item, Word, word_bytes}
 use Rattle.rpc_head.specs.declared.call.ProcId.{ProcId}
 use Rattle.capture3.specs.Entry.{Entry, Begin, Call, Turn, Reply, Close, End, items_of}
-use Rattle.canon3.specs.declared.numbered.Numbering.{Numbering}
+use Rattle.canon3.specs.declared.message_writer.MessageWriter.{MessageWriter}
 use Rattle.canon3.specs.declared.spelling.Spelling.TheVariants.{Zero, One, Message}
 use Rattle.capture3.specs.declared.entry.Kind.{Kind}
 use Rattle.capture3.specs.declared.entry.Kind.TheVariants as kinds
 use Rattle.canon3.specs.Bytes.{chunk_bytes, message_bytes, record_bytes}
-use Rattle.canon3.specs.Following.{message_after, open_xids}
-use Rattle.canon3.specs.Gathering.{HoldsHandles}
+use Rattle.canon3.specs.CanonicalStream.{message_after, open_xids}
+use Rattle.canon3.specs.HandleTable.{HoldsHandles}
 use Rattle.canon3.specs.Laws.{AreFirst}
-use Rattle.canon3.specs.Numbered.{AreFew, behind, Holds, IsGoing, Stands, values_of}
+use Rattle.canon3.specs.MessageWriter.{AreFew, behind, Holds, IsGoing, Stands, values_of}
 use Rattle.canon3.specs.Rank.{StandsFor}
 use Rattle.canon3.specs.Spelling.{HasSpelled}
 use Rattle.capture3.specs.Kept.{IsOfKind}
@@ -27,7 +27,7 @@ are_few entries one first =
     let order = first_in_order (entries ++ one ∷ []) first in
     (subst (λ (l : List (List ℕ)). length l < 2 ^ 32) (handles_push entries one) order.few_handles, subst (λ (l : List (List ℕ)). length l < 2 ^ 32) (verifiers_push entries one) order.few_verifiers)
 
-module _ {S H : Type 0} (n : Numbering S H) (entries : List Entry) where
+module _ {S H : Type 0} (n : MessageWriter S H) (entries : List Entry) where
   held_more : (one : Entry) → Holds n (record { handles = handles entries ++ handles_in (items_of one); verifiers = verifiers entries ++ verifiers_in (items_of one); xids = open_xids (open_xids [] entries) (one ∷ []) })
       → Holds n (values_of (entries ++ one ∷ []))
   held_more one h = record {

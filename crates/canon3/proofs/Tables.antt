@@ -4,9 +4,9 @@ use Rattle.std.specs.Prelude.{bytes_eq, IfOk}
 use Rattle.std.proofs.lemmas.List.{map-append}
 use Rattle.nfs3_types.specs.declared.handle.Handle as declared
 use Rattle.nfs3_types.specs.Handle.{bytes_of}
-use Rattle.canon3.specs.Gathering.{HoldsHandles, same_handle}
+use Rattle.canon3.specs.HandleTable.{HoldsHandles, same_handle}
 use Rattle.canon3.specs.Rank.{number_limit, rank, StandsFor}
-use Rattle.canon3.proofs.Gathering.{rank_mapped}
+use Rattle.canon3.proofs.HandleTableLemmas.{rank_mapped}
 
 mapped_more : (given : List declared.Handle) (handle : declared.Handle) (hs : List (List ℕ)) (bytes : List ℕ) → map bytes_of given ≡ hs → bytes_of handle ≡ bytes → map bytes_of (given ++ handle ∷ []) ≡ hs ++ bytes ∷ []
 mapped_more given handle hs bytes are is = map-append bytes_of given (handle ∷ []) ∙ ap₂ (λ (l : List (List ℕ)) (b : List ℕ). l ++ b ∷ []) are is

@@ -14,20 +14,20 @@ use Rattle.xdr3.proofs.Walks.{adds_both}
 use Rattle.xdr3.specs.Item.{Item, Hyper, Word, WriteVerf, Opaque, Rest, Handle, word_bytes, zero_spelling_of, zero_spelling}
 use Rattle.xdr3.specs.Visit.{Adds, Keeps}
 use Rattle.nfs3_types.specs.declared.handle.Handle as declared
-use Rattle.canon3.specs.declared.numbered.Numbering.{Numbering}
-use Rattle.canon3.specs.declared.numbered.Stage.{Stage}
-use Rattle.canon3.specs.declared.numbered.Stage.TheVariants.{Begins, Goes, Failed}
+use Rattle.canon3.specs.declared.message_writer.MessageWriter.{MessageWriter}
+use Rattle.canon3.specs.declared.message_writer.Stage.{Stage}
+use Rattle.canon3.specs.declared.message_writer.Stage.TheVariants.{Begins, Goes, Failed}
 use Rattle.canon3.specs.Canonical.{numbered_item}
-use Rattle.canon3.specs.Following.{items_after}
-use Rattle.canon3.specs.Gathering.{HoldsHandles}
-use Rattle.canon3.specs.Numbered.{AreFew, Before, IsBehind, IsSpelled, IsUnderWay, listed, behind, Stands}
+use Rattle.canon3.specs.CanonicalStream.{items_after}
+use Rattle.canon3.specs.HandleTable.{HoldsHandles}
+use Rattle.canon3.specs.MessageWriter.{AreFew, Before, IsBehind, IsSpelled, IsUnderWay, listed, behind, Stands}
 use Rattle.canon3.specs.Pairing.{here}
 use Rattle.canon3.specs.Rank.{number_limit, rank, StandsFor}
 use Rattle.canon3.specs.Renaming.{IsPlain}
 use Rattle.canon3.specs.Values.{handle_in, verifier_in, handles_in, verifiers_in}
-use Rattle.canon3.proofs.Following.{items_after-push}
-use Rattle.canon3.proofs.Numbering.{plain_handle, plain_verifier, plain_numbered}
-use Rattle.canon3.proofs.Ranks.{member-append_right, rank-le-length}
+use Rattle.canon3.proofs.CanonicalStreamLemmas.{items_after-push}
+use Rattle.canon3.proofs.OneFormLemmas.{plain_handle, plain_verifier, plain_numbered}
+use Rattle.canon3.proofs.RankLemmas.{member-append_right, rank-le-length}
 
 pub is_none : (l : List ℕ) (b : Bool) → b ≡ (length l == 0) → b ≡ true → l ≡ []
 is_none [] b e t = refl
@@ -109,7 +109,7 @@ spelled_more stage table old new before (Word name x ∷ items) i j later is wri
     )
 spelled_more stage table old new before (_ ∷ items) i j later is write s = tt
 
-module _ {S H : Type 0} (old new : Numbering S H) (i : Item) where
+module _ {S H : Type 0} (old new : MessageWriter S H) (i : Item) where
   -- what a visit keeps, besides its writing
   pub record Follows : Type 0 where
     pub handles : (hs : List (List ℕ)) → HoldsHandles old.handles hs → HoldsHandles new.handles (hs ++ handle_in i)
@@ -160,8 +160,8 @@ uncapped same decides l x n few e =
 
 -- ---- items as they are
 
-module _ {S H : Type 0} (n : Numbering S H) (bytes : List ℕ) where
-  abbrev pub with_writer : Numbering S H
+module _ {S H : Type 0} (n : MessageWriter S H) (bytes : List ℕ) where
+  abbrev pub with_writer : MessageWriter S H
   with_writer = record { handles = n.handles; verfs = n.verfs; xids = n.xids; writer = bytes; stage = n.stage }
 
   follows_plain : (i : Item) (table : List ℕ) (stage : Stage) → IsPlain i → Follows n (record { handles = n.handles; verfs = n.verfs; xids = table; writer = bytes; stage = stage }) i
@@ -238,11 +238,11 @@ unfolding Adds
 spells_on bytes items = λ before is. ap (λ (l : List ℕ). l ++ zero_spelling items) is ∙ sym (flat_map-append zero_spelling_of before items)
 
 module _ {S H : Type 0} where
-  adds_field : (n : Numbering S H) (bytes : List ℕ) (field : PlainField) (run : List ℕ) → n.stage ≢ Begins → Adds Spells n.writer bytes (plain_item field run ∷ []) → Adds Stands n (with_writer n bytes) (plain_item field run ∷ [])
+  adds_field : (n : MessageWriter S H) (bytes : List ℕ) (field : PlainField) (run : List ℕ) → n.stage ≢ Begins → Adds Spells n.writer bytes (plain_item field run ∷ []) → Adds Stands n (with_writer n bytes) (plain_item field run ∷ [])
   adds_field n bytes (fields.Word name) run goes write = adds_word n bytes name.now (big_number 4 run) goes write
   adds_field n bytes (fields.Hyper name) run goes write = adds_plain n bytes (Hyper name.now (big_number 8 run)) tt (λ before items going spelled. tt) write
 
-  adds_fields : (n : Numbering S H) (all : List PlainField) (run : List ℕ) → n.stage ≢ Begins → Adds Stands n (with_writer n (n.writer ++ zero_spelling (run_items all run))) (run_items all run)
+  adds_fields : (n : MessageWriter S H) (all : List PlainField) (run : List ℕ) → n.stage ≢ Begins → Adds Stands n (with_writer n (n.writer ++ zero_spelling (run_items all run))) (run_items all run)
   unfolding Adds
   adds_fields n [] run goes = λ before stands. subst (λ (b : List ℕ). Stands (with_writer n b) (before ++ [])) (sym (append-nil n.writer)) (subst (Stands n) (sym (append-nil before)) stands)
   adds_fields n (field ∷ all) run goes =
@@ -255,25 +255,25 @@ module _ {S H : Type 0} where
       (subst (λ (b : List ℕ). Adds Stands (with_writer n mid) (with_writer n b) rest) spelled (adds_fields (with_writer n mid) all (drop (width field) run) goes))
 
   -- a run after the xid is written as it is
-  pub adds_run : (n : Numbering S H) (bytes : List ℕ) (all : List PlainField) (run : List ℕ) → n.stage ≢ Begins → Adds Spells n.writer bytes (run_items all run) → Adds Stands n (with_writer n bytes) (run_items all run)
+  pub adds_run : (n : MessageWriter S H) (bytes : List ℕ) (all : List PlainField) (run : List ℕ) → n.stage ≢ Begins → Adds Spells n.writer bytes (run_items all run) → Adds Stands n (with_writer n bytes) (run_items all run)
   unfolding Adds
   adds_run n bytes all run goes write =
       let is : bytes ≡ n.writer ++ zero_spelling (run_items all run) = write (Rest [] n.writer ∷ []) (sym (append-nil n.writer)) in
       subst (λ (b : List ℕ). Adds Stands n (with_writer n b) (run_items all run)) (sym is) (adds_fields n all run goes)
 
   -- a run of no fields
-  pub adds_nothing : (n : Numbering S H) (all : List PlainField) (run : List ℕ) → length all ≡ 0 → Adds Stands n n (run_items all run)
+  pub adds_nothing : (n : MessageWriter S H) (all : List PlainField) (run : List ℕ) → length all ≡ 0 → Adds Stands n n (run_items all run)
   unfolding Adds
   adds_nothing n [] run none = λ before stands. subst (Stands n) (sym (append-nil before)) stands
   adds_nothing n (field ∷ all) run none = absurd (omega (arith, none))
 
   -- a run that begins with the xid
-  pub adds_xid_run : (n mid : Numbering S H) (bytes : List ℕ) (name : List ℕ) (all : List PlainField) (run : List ℕ) → Adds Stands n mid (Word name (big_number 4 run) ∷ []) → mid.stage ≡ Goes
+  pub adds_xid_run : (n mid : MessageWriter S H) (bytes : List ℕ) (name : List ℕ) (all : List PlainField) (run : List ℕ) → Adds Stands n mid (Word name (big_number 4 run) ∷ []) → mid.stage ≡ Goes
       → Adds Spells mid.writer bytes (run_items all (drop 4 run)) → Adds Stands n (with_writer mid bytes) (Word name (big_number 4 run) ∷ run_items all (drop 4 run))
   adds_xid_run n mid bytes name all run first goes write =
       adds_both Stands n mid (with_writer mid bytes) (Word name (big_number 4 run) ∷ []) (run_items all (drop 4 run)) first (adds_run mid bytes all (drop 4 run) (behind_xid mid bytes (inl goes)) write)
 
-  number_spelled : (n : Numbering S H) (bytes : List ℕ) (name : List ℕ) (x : ℕ) (before : Before) (items : List Item) → n.stage ≡ Begins → IsSpelled n.stage n.xids n.writer before items → IsSpelled Goes n.xids bytes before (items ++ Hyper name x ∷ [])
+  number_spelled : (n : MessageWriter S H) (bytes : List ℕ) (name : List ℕ) (x : ℕ) (before : Before) (items : List Item) → n.stage ≡ Begins → IsSpelled n.stage n.xids n.writer before items → IsSpelled Goes n.xids bytes before (items ++ Hyper name x ∷ [])
   number_spelled n bytes name x before [] begins s = tt
   number_spelled n bytes name x before (Word other y ∷ items) begins s =
       let stage : n.stage ≡ Goes = s.0 in
@@ -281,14 +281,14 @@ module _ {S H : Type 0} where
   number_spelled n bytes name x before (_ ∷ items) begins s = tt
 
   -- nothing is said of a message that begins with a number
-  pub adds_number_run : (n : Numbering S H) (bytes : List ℕ) (name : List ℕ) (all : List PlainField) (run : List ℕ) → n.stage ≡ Begins
+  pub adds_number_run : (n : MessageWriter S H) (bytes : List ℕ) (name : List ℕ) (all : List PlainField) (run : List ℕ) → n.stage ≡ Begins
       → Adds Spells n.writer bytes (Hyper name (big_number 8 run) ∷ run_items all (drop 8 run))
       → Adds Stands n (record { handles = n.handles; verfs = n.verfs; xids = n.xids; writer = bytes; stage = Goes }) (Hyper name (big_number 8 run) ∷ run_items all (drop 8 run))
   unfolding Adds
   adds_number_run n bytes name all run begins write =
       let item : Item = Hyper name (big_number 8 run) in
       let mid : List ℕ = n.writer ++ zero_spelling (item ∷ []) in
-      let went : Numbering S H = record { handles = n.handles; verfs = n.verfs; xids = n.xids; writer = mid; stage = Goes } in
+      let went : MessageWriter S H = record { handles = n.handles; verfs = n.verfs; xids = n.xids; writer = mid; stage = Goes } in
       let rest : List Item = run_items all (drop 8 run) in
       let is : bytes ≡ mid ++ zero_spelling rest =
       write (Rest [] n.writer ∷ []) (sym (append-nil n.writer)) ∙ ap (λ (l : List ℕ). n.writer ++ l) (flat_map-append zero_spelling_of (item ∷ []) rest) ∙ sym (append_assoc n.writer (zero_spelling (item ∷ [])) (zero_spelling rest)) in
@@ -298,7 +298,7 @@ module _ {S H : Type 0} where
 
 -- ---- numbers in place of values
 
-module _ {S H : Type 0} (n : Numbering S H) (bytes : List ℕ) where
+module _ {S H : Type 0} (n : MessageWriter S H) (bytes : List ℕ) where
   pub adds_handle : (table : List declared.Handle) (name handle written : List ℕ) (number : ℕ) → handle ≢ [] → written ≡ word_bytes number ++ []
       → ((hs : List (List ℕ)) → HoldsHandles n.handles hs → number ≡ min (rank bytes_eq handle (hs ++ handle ∷ [])) number_limit)
       → ((hs : List (List ℕ)) → HoldsHandles n.handles hs → HoldsHandles table (hs ++ handle ∷ []))

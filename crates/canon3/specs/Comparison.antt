@@ -22,7 +22,7 @@ use Rattle.canon3.specs.declared.verdict.Which.{Which}
 use Rattle.canon3.specs.declared.verdict.Which.TheVariants.{First, Second}
 use Rattle.canon3.specs.Bytes.{bytes_of}
 use Rattle.canon3.specs.Canonical.{canonical}
-use Rattle.canon3.specs.Numbered.{behind, Stands, values_of}
+use Rattle.canon3.specs.MessageWriter.{behind, Stands, values_of}
 use Rattle.canon3.specs.Parting.{IsPlaceOf, Parting}
 use Rattle.canon3.specs.Renaming.{Same}
 use Rattle.canon3.specs.Progress.{HasPassed}

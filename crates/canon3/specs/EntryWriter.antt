@@ -16,9 +16,9 @@ use Rattle.canon3.specs.declared.summary.Summary.{Summary}
 use Rattle.capture3.specs.declared.entry.Kind.{Kind}
 use Rattle.canon3.specs.Laws.{AreFirst}
 use Rattle.canon3.specs.Passed.{ArePassed}
-use Rattle.canon3.specs.Summing.{IsSummary}
+use Rattle.canon3.specs.Summary.{IsSummary}
 use Rattle.capture3.specs.Kept.{IsOfKind}
-use Rattle.canon3.specs.Written.{AppendsFront}
+use Rattle.canon3.specs.SinkWrites.{AppendsFront}
 
 module _ (form : List Entry → List ℕ) where
   -- What an error says, where the source gave these bytes and has so much left, and the sink had the old bytes and has the new ones. The fault is

@@ -5,7 +5,7 @@ use Rattle.capture3.specs.declared.entry.Kind.{Kind}
 use Rattle.capture3.specs.declared.entry.Kind.TheVariants as kinds
 use Rattle.canon3.specs.declared.passed.Passed.{Passed}
 use Rattle.canon3.specs.Progress.{HasPassed, steps_of}
-use Rattle.canon3.specs.Summing.{is_call, is_reply}
+use Rattle.canon3.specs.Summary.{is_call, is_reply}
 
 abbrev pub calls : Kind → Bool
 calls (kinds.Call id) = true

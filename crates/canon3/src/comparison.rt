@@ -10,7 +10,7 @@ ghost use Rattle.canon3.specs.Progress.{steps_of};
 ghost use Rattle.capture3.specs.Kept.{IsOfKind};
 ghost use Rattle.capture3.specs.Entry.{items_of};
 
-use crate::numbered::Numbering;
+use crate::message_writer::MessageWriter;
 use crate::progress::Progress;
 use crate::spelling::{are_alike, spelling_of_entry};
 use crate::verdict::{SameError, Verdict, Which};
@@ -52,13 +52,13 @@ pub fn same<A: Source, B: Source, S: BuildHasher + Drop>(
     let mut entries = Entries::through(alloc, first_hashers.calls, first, block);
     let mut others = Entries::through(alloc, second_hashers.calls, second, other_block);
     let comparison = Comparison {
-        first: Numbering::new(
+        first: MessageWriter::new(
             alloc,
             first_hashers.handles,
             first_hashers.verfs,
             first_hashers.xids,
         ),
-        second: Numbering::new(
+        second: MessageWriter::new(
             alloc,
             second_hashers.handles,
             second_hashers.verfs,
@@ -219,8 +219,8 @@ fn read_next<R: Source, S: BuildHasher + Drop>(
 /// Two captures that are read side by side, each with numbers of its own.
 #[derive(Drop)]
 struct Comparison<S: BuildHasher + Drop> {
-    first: Numbering<S>,
-    second: Numbering<S>,
+    first: MessageWriter<S>,
+    second: MessageWriter<S>,
     progress: Progress,
 }
 

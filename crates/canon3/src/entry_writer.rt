@@ -9,8 +9,8 @@ ghost use Rattle.canon3.specs.EntryWriter.{GoesOn, HasWritten, IsEnded, IsOver, 
 ghost use Rattle.canon3.specs.Passed.{ArePassed, passed_steps};
 ghost use Rattle.canon3.specs.Rank.{distinct, number_limit};
 ghost use Rattle.canon3.specs.Values as values;
-ghost use Rattle.canon3.specs.Writing.{CountsWriting, IsOfWriting};
-ghost use Rattle.canon3.specs.Written.{IsFlushed};
+ghost use Rattle.canon3.specs.WriteErrors.{CountsWriting, IsOfWriting};
+ghost use Rattle.canon3.specs.SinkWrites.{IsFlushed};
 
 use crate::passed::Passed;
 use crate::sink::Sink;

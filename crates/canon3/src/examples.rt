@@ -2,7 +2,7 @@
 //! its proof computes it.
 
 ghost use Rattle.canon3.specs.Examples.{Commits, Connections, IsWrong, TwoGetattrs, by_bytes, empty_numbered, handles_anew, p, q, verifiers_anew, xids_across};
-ghost use Rattle.canon3.specs.Summing.{IsSummary};
+ghost use Rattle.canon3.specs.Summary.{IsSummary};
 ghost use Rattle.canon3.specs.Vectors.{IsWorked, RefusedCalls, RefusedCredentials, RefusedReplies, by_system, by_system_entries, by_system_form, committing, committing_entries, committing_form, directory, directory_entries, directory_form, exchange, exchange_entries, exchange_form, mounting, mounting_entries, mounting_form, p_file, q_file, raw_entries, raw_of, two_calls_form};
 
 /// A GETATTR call and its reply.

@@ -3,7 +3,7 @@
 ghost use Rattle.std.specs.Prelude.{◌≡◌, ◌++◌, ◌∷◌, List, [], bytes_eq, length, min, OnErr, OnOk};
 ghost use Rattle.xdr3.specs.Item.{Item};
 ghost use Rattle.nfs3_types.specs.declared.handle.Handle as handles;
-ghost use Rattle.canon3.specs.Gathering.{Gathers, same_handle};
+ghost use Rattle.canon3.specs.HandleTable.{Gathers, same_handle};
 ghost use Rattle.canon3.specs.Rank.{distinct, number_limit, StandsFor};
 ghost use Rattle.canon3.specs.Values.{handles_in};
 
@@ -47,9 +47,9 @@ impl<S: BuildHasher + Drop> HandleTable<S> {
     }
 }
 
-#[tactic(auto, using(crate::proofs::Gathering::gathers_none), unfolding(xdr3::specs::Visit::Adds, xdr3::specs::Visit::Keeps))]
+#[tactic(auto, using(crate::proofs::HandleTableLemmas::gathers_none), unfolding(xdr3::specs::Visit::Adds, xdr3::specs::Visit::Keeps))]
 impl<S: BuildHasher + Drop> Visit for HandleTable<S> {
-    ghost use Rattle.canon3.specs.Gathering.{Gathers};
+    ghost use Rattle.canon3.specs.HandleTable.{Gathers};
 
     ghost stands = { λ table items. Gathers table.numbers items };
 

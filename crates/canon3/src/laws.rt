@@ -12,7 +12,7 @@ ghost use Rattle.canon3.specs.Rank.{rank, distinct, with_key, IsInjectiveOn};
 ghost use Rattle.canon3.specs.Pairing.{Member, Pairs, OneToOne, IsHandle, AreBeside};
 ghost use Rattle.canon3.specs.Renaming.{Pairwise, Same};
 ghost use Rattle.canon3.specs.Canonical.{canonical};
-ghost use Rattle.canon3.specs.Following.{entries_after};
+ghost use Rattle.canon3.specs.CanonicalStream.{entries_after};
 ghost use Rattle.canon3.specs.Bytes.{bytes_of};
 ghost use Rattle.canon3.specs.Laws.{AreFirst, AreOfTheirBytes, CallStaysACall, EndTogether, FrontsAreDecided, HavePlaces, PartOnce, PartSomewhere, PartWhereFormsDo, ReplyStaysAReply};
 

@@ -1,31 +1,30 @@
 //! Counts of a capture, what it is up to renaming, and where its canonical form is written to.
 #![tactic(auto)]
 
+mod canonical_form;
 mod comparison;
+mod container_writer;
 mod entry_writer;
 pub mod examples;
-mod form;
 mod handles;
 pub mod laws;
-mod numbered;
+mod message_writer;
 mod numbers;
 mod passed;
-mod plan;
 mod progress;
-mod rewriting;
 mod sink;
 mod spelling;
 mod summary;
 mod verdict;
-mod writing;
+mod whole_writes;
 
+pub use canonical_form::canon;
 pub use comparison::same;
 pub use entry_writer::{EntryWriter, write_entries};
 pub use handles::HandleTable;
 pub use numbers::Numbers;
 pub use passed::Passed;
-pub use rewriting::canon;
 pub use sink::{MemSink, Sink, ToWrite};
 pub use summary::{Summary, check};
 pub use verdict::{SameError, Verdict, Which};
-pub use writing::write_all;
+pub use whole_writes::write_all;

@@ -4,7 +4,7 @@ ghost use Rattle.std.specs.Prelude.{◌≡◌, ◌<◌, ◌≤◌, ◌+◌, ◌^
 ghost use Rattle.capture3.specs.Entry as spec;
 ghost use Rattle.canon3.specs.Passed.{ArePassed, calls, passed_steps, replies};
 ghost use Rattle.canon3.specs.Rank.{distinct, number_limit};
-ghost use Rattle.canon3.specs.Summing.{Sums};
+ghost use Rattle.canon3.specs.Summary.{Sums};
 ghost use Rattle.capture3.specs.Kept.{IsOfKind};
 ghost use Rattle.canon3.specs.Values as values;
 

@@ -1,11 +1,10 @@
 ghost use Rattle.std.specs.Prelude.{◌≡◌, ◌≤◌, ◌<◌, ◌+◌, ◌-◌, ◌↔◌, ◌⊎◌, ℕ, List, [], length, take, drop, min, Option, None, Some, IfOk, IsErr, OnOk, OnErr, vec_len, vec_capacity};
 ghost use Rattle.std.specs.Io.KnownBytes.{WriteAppends, Keeps};
 ghost use Rattle.capture3.specs.Device.{Counts};
-ghost use Rattle.canon3.specs.Memory.{MemoryWritten};
-ghost use Rattle.canon3.specs.Written.{IsFlushed};
+ghost use Rattle.canon3.specs.MemSink.{MemoryWritten};
+ghost use Rattle.canon3.specs.SinkWrites.{IsFlushed};
 
-use crate::plan::FaultPlan;
-use capture3::DeviceFailed;
+use capture3::{DeviceFailed, FaultPlan};
 use std::alloc::{AllocError, Global};
 use std::io::Write;
 use std::marker::Model;
@@ -105,7 +104,7 @@ pub struct MemSink {
 
 impl Model for MemSink {
     ghost use Rattle.std.specs.Prelude.{◌<◌, ◌≤◌, ◌+◌, take, vec_len, vec_capacity};
-    ghost use Rattle.canon3.specs.Memory.{MemoryWritten};
+    ghost use Rattle.canon3.specs.MemSink.{MemoryWritten};
 
     ghost Value = { MemoryWritten };
 

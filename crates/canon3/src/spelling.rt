@@ -3,12 +3,12 @@
 ghost use Rattle.std.specs.Prelude.{◌≡◌, ◌≢◌, ◌<◌, ◌^◌, ◌++◌, ◌∷◌, List, [], length, IfOk, MatchBool};
 ghost use Rattle.capture3.specs.Entry as spec;
 ghost use Rattle.canon3.specs.Laws.{AreFirst};
-ghost use Rattle.canon3.specs.Numbered.{behind, Stands, values_of};
+ghost use Rattle.canon3.specs.MessageWriter.{behind, Stands, values_of};
 ghost use Rattle.canon3.specs.Spelling.{HasSpelled, spelling_of};
 ghost use Rattle.capture3.specs.Kept.{IsOfKind};
 ghost use Rattle.capture3.specs.Entry.{items_of};
 
-use crate::numbered::Numbering;
+use crate::message_writer::MessageWriter;
 use capture3::Kind;
 use std::alloc::AllocError;
 use std::hash::BuildHasher;
@@ -20,24 +20,24 @@ pub(crate) enum Spelling {
     Zero,
     /// The word 1.
     One,
-    /// The message that the numbering holds.
+    /// The message that the writer holds.
     Message,
 }
 
-/// What an entry is written as, whose items the numbering was told. After an error nothing can follow.
+/// What an entry is written as, whose items the writer was told. After an error nothing can follow.
 pub(crate) fn spelling_of_entry<S: BuildHasher + Drop>(
-    numbering: &mut Numbering<S>,
+    message_writer: &mut MessageWriter<S>,
     kind: Kind,
 ) -> Result<Spelling, AllocError>
     ensures { (entries : List spec.Entry) (one : spec.Entry) → IsOfKind kind one
         → AreFirst (entries ++ one ∷ []) → length (entries ++ one ∷ []) < 2 ^ 32
-        → Stands numbering.old (behind (values_of entries) (items_of one))
-        → IfOk result (λ form. HasSpelled numbering.new form entries one) }
+        → Stands message_writer.old (behind (values_of entries) (items_of one))
+        → IfOk result (λ form. HasSpelled message_writer.new form entries one) }
 {
-    numbering.unless_failed()?;
+    message_writer.unless_failed()?;
     match kind {
         Kind::Begin => {
-            numbering.begin_connection();
+            message_writer.begin_connection();
             Ok(Spelling::One)
         }
         Kind::Call(_) | Kind::Reply(_) => Ok(Spelling::Message),

@@ -7,8 +7,8 @@ ghost use Rattle.capture3.specs.Entry as spec;
 ghost use Rattle.capture3.specs.FirstFault.{FirstFault};
 ghost use Rattle.capture3.specs.Position.{most_entries};
 ghost use Rattle.canon3.specs.Passed.{passed_steps};
-ghost use Rattle.canon3.specs.Summing.{ConcludesGiven, IsSummary, Sums};
-ghost use Rattle.canon3.specs.Tallying.{GoesOn, IsOver, IsUnderWay, Tallies};
+ghost use Rattle.canon3.specs.Summary.{ConcludesGiven, IsSummary, Sums};
+ghost use Rattle.canon3.specs.Tally.{GoesOn, IsOver, IsUnderWay, Tallies};
 
 use crate::handles::HandleTable;
 use crate::passed::Passed;

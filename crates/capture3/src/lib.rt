@@ -26,6 +26,7 @@ pub use entry::{CallRef, Entry, EntryRef, KeptCall, KeptReply, Kind, ReplyRef};
 pub use fault::{Error, Fault, Place, Side};
 pub use hashers::Hashers;
 pub use packing::{pack_chunk, pack_header};
+pub use plan::FaultPlan;
 pub use position::{MAX_BYTES, MAX_CONNECTIONS};
 pub use silent::Silent;
 pub use source::{FromRead, MemSource, Source};

@@ -3,15 +3,17 @@ ghost use Rattle.capture3.specs.Device.{Counts};
 
 use crate::device::DeviceFailed;
 
-/// Which call of a device in memory fails, and how many have failed.
+/// Which call of a device in memory fails, and how many have failed: for sources and sinks in memory.
 #[derive(Clone, Copy)]
-pub(crate) struct FaultPlan {
-    pub(crate) fails_in: u64,
-    pub(crate) failures: u64,
+pub struct FaultPlan {
+    /// The call with this number, counted from the next as 1, fails; none where it is 0.
+    pub fails_in: u64,
+    /// Up to 2^64 - 1.
+    pub failures: u64,
 }
 
 impl FaultPlan {
-    pub(crate) fn new(fails_in: u64) -> FaultPlan
+    pub fn new(fails_in: u64) -> FaultPlan
         ensures { result ≡ record { fails_in = fails_in; failures = 0 } }
     {
         FaultPlan {
@@ -20,7 +22,8 @@ impl FaultPlan {
         }
     }
 
-    pub(crate) fn next_call(&mut self) -> Result<(), DeviceFailed>
+    /// A call: whether it fails.
+    pub fn next_call(&mut self) -> Result<(), DeviceFailed>
         ensures fails { IsErr result ↔ (self.old.fails_in ≡ 1) }
         ensures next { self.new.fails_in ≡ self.old.fails_in - 1 }
         ensures count { Counts self.old.failures self.new.failures result }
@@ -35,7 +38,8 @@ impl FaultPlan {
         Ok(())
     }
 
-    pub(crate) fn fail(&mut self) -> DeviceFailed
+    /// A failure besides.
+    pub fn fail(&mut self) -> DeviceFailed
         ensures count { self.new.failures ≡ min (self.old.failures + 1) (2 ^ 64 - 1) }
         ensures plan { self.new.fails_in ≡ self.old.fails_in }
     {

@@ -19,16 +19,16 @@ use Rattle.capture3.specs.Kept.{IsOfKind}
 use Rattle.listing3.specs.declared.line_writer.LineWriter.{LineWriter}
 use Rattle.canon3.specs.declared.progress.Progress.{Progress}
 use Rattle.canon3.specs.EntryWriter.{HasWrittenOrCut}
-use Rattle.canon3.specs.Gathering.{Gathers}
+use Rattle.canon3.specs.HandleTable.{Gathers}
 use Rattle.canon3.specs.Laws.{AreFirst}
 use Rattle.canon3.specs.Progress.{HasPassed}
 use Rattle.canon3.specs.Values.{handles_in}
-use Rattle.canon3.specs.Written.{AppendsFront}
-use Rattle.canon3.proofs.Gathering.{gathers_none}
+use Rattle.canon3.specs.SinkWrites.{AppendsFront}
+use Rattle.canon3.proofs.HandleTableLemmas.{gathers_none}
 use Rattle.canon3.proofs.Laid.{IsLaidOut, last_laid}
 use Rattle.canon3.proofs.Messages.{is_headed_call, is_headed_reply}
 use Rattle.canon3.proofs.Visiting.{still_err}
-use Rattle.canon3.proofs.Written.{front_of_second}
+use Rattle.canon3.proofs.SinkWritesLemmas.{front_of_second}
 use Rattle.listing3.proofs.ListingLemmas.{shown_push}
 use Rattle.listing3.specs.LineWriter.{always, behind, IsBehind, IsTextOf, items_before, Stands}
 use Rattle.listing3.specs.Listing.{entry_line, line, opening, prefix, procedure_name, shown, shown_item, shown_items}

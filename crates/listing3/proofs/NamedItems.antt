@@ -6,7 +6,7 @@ use Rattle.xdr3.specs.Item.{Item, Word, Hyper, Fixed, WriteVerf, Opaque, Rest, K
 use Rattle.xdr3.specs.Shape.{Shape, choose, hyper, fixed, write_verf, opaque, nothing, both, linked, counted, sized, Fits, links, joined}
 use Rattle.xdr3.specs.Layout.{Layout, exactly, rest, after, FitsLayout}
 use Rattle.canon3.proofs.Items.{all_append}
-use Rattle.canon3.proofs.Renamings.{all_weaker}
+use Rattle.canon3.proofs.RenamingLemmas.{all_weaker}
 use Rattle.listing3.specs.Listing.{item_name}
 
 -- ---- kinds of items

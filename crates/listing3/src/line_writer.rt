@@ -9,12 +9,12 @@ ghost use Rattle.capture3.specs.Device as devices;
 ghost use Rattle.capture3.specs.Entry as spec;
 ghost use Rattle.capture3.specs.Entry.{items_of};
 ghost use Rattle.capture3.specs.Kept.{IsOfKind};
-ghost use Rattle.canon3.specs.Gathering.{Gathers};
+ghost use Rattle.canon3.specs.HandleTable.{Gathers};
 ghost use Rattle.canon3.specs.Laws.{AreFirst};
 ghost use Rattle.canon3.specs.Passed.{passed_steps};
-ghost use Rattle.canon3.specs.Summing.{all_items};
-ghost use Rattle.canon3.specs.Writing.{CountsWriting, IsOfWriting};
-ghost use Rattle.canon3.specs.Written.{AppendsFront};
+ghost use Rattle.canon3.specs.Summary.{all_items};
+ghost use Rattle.canon3.specs.WriteErrors.{CountsWriting, IsOfWriting};
+ghost use Rattle.canon3.specs.SinkWrites.{AppendsFront};
 ghost use Rattle.listing3.specs.LineWriter.{behind, Stands};
 ghost use Rattle.listing3.specs.Listing.{entry_line, line, opening, prefix, procedure_name};
 

@@ -3,8 +3,8 @@
 ghost use Rattle.std.specs.Prelude.{OnOk};
 ghost use Rattle.capture3.specs.Entries.{CountsReading};
 ghost use Rattle.canon3.specs.EntryWriter.{WritesGiven};
-ghost use Rattle.canon3.specs.Writing.{CountsWriting};
-ghost use Rattle.canon3.specs.Written.{IsFlushed};
+ghost use Rattle.canon3.specs.WriteErrors.{CountsWriting};
+ghost use Rattle.canon3.specs.SinkWrites.{IsFlushed};
 ghost use Rattle.listing3.specs.Listing.{shown};
 
 use crate::line_writer::LineWriter;

@@ -15,7 +15,7 @@ use Rattle.capture3.specs.Chunks.{max_bytes}
 use Rattle.byteorder.specs.Numbers.{length-bytes_high_first}
 use Rattle.packing3.specs.Stopped.{PassesLimit, Tells}
 use Rattle.canon3.specs.Bytes.{chunk_bytes}
-use Rattle.canon3.specs.Written.{AppendsFront}
+use Rattle.canon3.specs.SinkWrites.{AppendsFront}
 use Rattle.packing3.specs.declared.stream.Extent.{Extent}
 use Rattle.packing3.specs.Packed.{AreCut, IsPackedStream, full_size}
 use Rattle.packing3.specs.Streaming.{AreFull, Grows, HasChunk, HasFull, HasStream, IsStopped, StopsInChunk, StopsInStream, last_chunk}

@@ -6,8 +6,8 @@ use Rattle.std.proofs.KnownBytes.{Appends-trans, Consumes-nil}
 use Rattle.xdr3.specs.Item.{word_bytes}
 use Rattle.capture3.specs.declared.fault.Error.{Error}
 use Rattle.capture3.specs.declared.fault.Error.TheVariants as errors
-use Rattle.canon3.specs.Written.{AppendsFront}
-use Rattle.canon3.proofs.Written.{front_of_first}
+use Rattle.canon3.specs.SinkWrites.{AppendsFront}
+use Rattle.canon3.proofs.SinkWritesLemmas.{front_of_first}
 use Rattle.packing3.specs.declared.stream.Extent.{Extent}
 use Rattle.packing3.specs.Streaming.{Grows, HasConnection, HasStream, IsStopped, StopsInConnection, StopsInStream}
 use Rattle.packing3.proofs.Chunks.{grows_more, packed_none}

@@ -11,8 +11,8 @@ use Rattle.capture3.specs.declared.fault.Error.TheVariants as errors
 use Rattle.capture3.specs.declared.fault.Place.TheVariants as places
 use Rattle.capture3.specs.Capture.{One, Streams, magic, max_connections, size, total_size}
 use Rattle.capture3.specs.Chunks.{max_bytes}
-use Rattle.canon3.specs.Written.{AppendsFront}
-use Rattle.canon3.proofs.Written.{front_of_second}
+use Rattle.canon3.specs.SinkWrites.{AppendsFront}
+use Rattle.canon3.proofs.SinkWritesLemmas.{front_of_second}
 use Rattle.packing3.specs.declared.packing.Packing.{Packing}
 use Rattle.packing3.specs.Packed.{ArePacked, IsPackedConnection}
 use Rattle.packing3.specs.Packing.{Adds, FailsToAdd, Finishes, IsFull, StandsFor, ending_of}

@@ -6,8 +6,8 @@ use Rattle.capture3.specs.declared.fault.Error.TheVariants as errors
 use Rattle.capture3.specs.declared.fault.Place.TheVariants as places
 use Rattle.xdr3.specs.declared.reason.Reason.TheVariants as reasons
 use Rattle.capture3.specs.Capture.{One, magic, Streams, total_size, max_connections, IsCapture}
-use Rattle.canon3.specs.Writing.{CountsWriting}
-use Rattle.canon3.specs.Written.{AppendsFront}
+use Rattle.canon3.specs.WriteErrors.{CountsWriting}
+use Rattle.canon3.specs.SinkWrites.{AppendsFront}
 use Rattle.packing3.specs.declared.packing.Packing.{Packing}
 use Rattle.packing3.specs.Packed.{ArePacked, IsPacked}
 use Rattle.packing3.specs.Stopped.{HasNoRoom, BreaksOff}

@@ -4,8 +4,8 @@ ghost use Rattle.std.specs.Prelude.{◌≡◌, ◌<◌, ◌≤◌, ◌+◌, ◌^
 ghost use Rattle.std.specs.Io.KnownBytes.{Appends};
 ghost use Rattle.capture3.specs.Chunks.{max_bytes};
 ghost use Rattle.capture3.specs.Entries.{CountsReading};
-ghost use Rattle.canon3.specs.Writing.{CountsWriting};
-ghost use Rattle.canon3.specs.Written.{AppendsFront};
+ghost use Rattle.canon3.specs.WriteErrors.{CountsWriting};
+ghost use Rattle.canon3.specs.SinkWrites.{AppendsFront};
 ghost use Rattle.packing3.specs.Packed.{full_size};
 ghost use Rattle.packing3.specs.Devices.{CountsReadings};
 ghost use Rattle.packing3.specs.Streaming.{HasChunk, HasConnection, HasStream, GrowsLittle, StopsInChunk, StopsInConnection, StopsInStream};

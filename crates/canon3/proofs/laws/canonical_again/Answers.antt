@@ -1,4 +1,4 @@
-use Rattle.canon3.proofs.Renumbered.{same-canonical}
+use Rattle.canon3.proofs.CanonicalLemmas.{same-canonical}
 use Rattle.canon3.proofs.Equality.{canonical-canonical}
 use Rattle.canon3.proofs.First.{first_in_order}
 use Rattle.canon3.proofs.laws.canonical_again.Goals as goal

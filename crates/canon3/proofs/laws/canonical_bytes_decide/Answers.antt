@@ -1,6 +1,6 @@
 use Rattle.std.proofs.Common.{ap}
 use Rattle.canon3.specs.Bytes.{bytes_of}
-use Rattle.canon3.proofs.Numbering.{canonical-same}
+use Rattle.canon3.proofs.OneFormLemmas.{canonical-same}
 use Rattle.canon3.proofs.First.{same_from_bytes}
 use Rattle.canon3.proofs.laws.canonical_bytes_decide.Goals as goal
 

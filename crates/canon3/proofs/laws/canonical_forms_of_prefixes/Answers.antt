@@ -1,5 +1,5 @@
 use Rattle.canon3.specs.Canonical.{canonical}
-use Rattle.canon3.proofs.Following.{canonical-after}
+use Rattle.canon3.proofs.CanonicalStreamLemmas.{canonical-after}
 use Rattle.canon3.proofs.Prefixes.{canonical-take, bytes_of-take}
 use Rattle.canon3.proofs.First.{first_in_order, first_taken}
 use Rattle.canon3.proofs.laws.canonical_forms_of_prefixes.Goals as goal

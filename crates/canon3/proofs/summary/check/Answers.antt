@@ -1,7 +1,7 @@
 use Rattle.std.proofs.Common.{ap, sym, subst, ◌≡◌, ◌∙◌}
 use Rattle.capture3.specs.Entries.{CountsReading}
-use Rattle.canon3.specs.Summing.{ConcludesGiven}
-use Rattle.canon3.proofs.Summing.{faults_of, nothing_concluded, summary_of}
+use Rattle.canon3.specs.Summary.{ConcludesGiven}
+use Rattle.canon3.proofs.SummaryLemmas.{faults_of, nothing_concluded, summary_of}
 use Rattle.canon3.proofs.summary.check.Goals as goal
 
 pub returns-clause-ok : goal.returns-clause-ok

@@ -1,6 +1,6 @@
 use Rattle.std.proofs.Common.{[]}
 use Rattle.std.proofs.KnownBytes.{Consumes-nil}
-use Rattle.canon3.proofs.Summing.{summary_is}
+use Rattle.canon3.proofs.SummaryLemmas.{summary_is}
 use Rattle.canon3.proofs.summary.summed.Goals as goal
 
 pub returns-in-Ok-clause-concludes : goal.returns-in-Ok-clause-concludes

@@ -1,11 +1,11 @@
 use Rattle.std.proofs.Common.{arith, take, ◌≤◌}
 use Rattle.std.proofs.lemmas.List.{length-take-le}
 use Rattle.std.proofs.lemmas.Result.{err_from_is_err_and}
-use Rattle.canon3.proofs.Written.{front_of_first, front_of_second}
+use Rattle.canon3.proofs.SinkWritesLemmas.{front_of_first, front_of_second}
 use Rattle.xdr3.specs.Item.{word_bytes}
 use Rattle.std.proofs.Common.{refl, subst, ◌++◌}
 use Rattle.std.specs.Io.KnownBytes.{Appends}
-use Rattle.canon3.specs.Written.{AppendsFront}
+use Rattle.canon3.specs.SinkWrites.{AppendsFront}
 use Rattle.packing3.specs.Packed.{full_size}
 use Rattle.packing3.proofs.Chunks.{chunk_cut, chunk_refused, chunk_some}
 use Rattle.packing3.proofs.stream.write_chunk.Goals as goal

@@ -1,7 +1,7 @@
 use Rattle.std.proofs.Common.{refl, subst, ◌+◌}
 use Rattle.std.proofs.lemmas.Result.{IfErr-weaker, err_from_is_err_and, on_ok_weaker}
 use Rattle.std.specs.Io.KnownBytes.{Appends}
-use Rattle.canon3.specs.Written.{AppendsFront}
+use Rattle.canon3.specs.SinkWrites.{AppendsFront}
 use Rattle.packing3.specs.declared.stream.Extent.{Extent}
 use Rattle.packing3.proofs.Chunks.{one_word}
 use Rattle.packing3.proofs.Connections.{stops_at_mark, stops_in_client, stops_in_server, whole_connection}

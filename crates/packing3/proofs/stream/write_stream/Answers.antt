@@ -1,7 +1,7 @@
 use Rattle.std.proofs.Common.{rules, arith, refl, subst, ◌≤◌, ◌<◌, ◌∙◌}
 use Rattle.std.proofs.lemmas.Result.{err_from_is_err_and}
 use Rattle.std.specs.Io.KnownBytes.{Appends}
-use Rattle.canon3.specs.Written.{AppendsFront}
+use Rattle.canon3.specs.SinkWrites.{AppendsFront}
 use Rattle.packing3.specs.Packed.{full_size}
 use Rattle.packing3.proofs.Chunks.{more_full, one_word, stops_at_end, stops_in_chunk, whole_stream}
 use Rattle.packing3.proofs.stream.write_stream.Goals as goal

@@ -1,5 +1,5 @@
 use Rattle.std.proofs.Common.{◌∙◌, ap₂, ap, subst, sym, [], ◌∷◌, ◌++◌}
-use Rattle.canon3.specs.Numbered.{values_of}
+use Rattle.canon3.specs.MessageWriter.{values_of}
 use Rattle.canon3.specs.Spelling.{spelling_of}
 use Rattle.canon3.specs.Progress.{HasPassed, place_from}
 use Rattle.canon3.proofs.ComparisonLemmas.{agree_on, parts_here}
@@ -11,7 +11,7 @@ returns-then-are_alike-clause-compares g c a b e f of other_of first second few 
     let s = c.in-Ok.ensures a e of first few told.first in
     let t = c.in-Ok-spelling_of_entry.ensures b f other_of second other_few told.second in
     record {
-      agree = agree_on c.spelling_of_entry.new.numbering c.spelling_of_entry-2.new.numbering c.in-Ok.form c.in-Ok-spelling_of_entry.form a b e f first second s t told.agree
+      agree = agree_on c.spelling_of_entry.new.message_writer c.spelling_of_entry-2.new.message_writer c.in-Ok.form c.in-Ok-spelling_of_entry.form a b e f first second s t told.agree
           (ap (spelling_of c.in-Ok.form) (sym c.bytes-message.ensures) ∙ (c.if-are_alike.ensures ∙ ap (spelling_of c.in-Ok-spelling_of_entry.form) c.bytes.ensures));
       first = c.begin_message.ensures.stands (values_of (a ++ e ∷ [])) s.holds;
       second = c.begin_message-then-are_alike.ensures.stands (values_of (b ++ f ∷ [])) t.holds;
@@ -20,7 +20,7 @@ returns-then-are_alike-clause-compares g c a b e f of other_of first second few 
 
 pub returns-clause-compares : goal.returns-clause-compares
 returns-clause-compares g c a b e f of other_of first second few other_few told =
-    parts_here c.spelling_of_entry.new.numbering c.spelling_of_entry-2.new.numbering c.in-Ok.form c.in-Ok-spelling_of_entry.form a b e f first second
+    parts_here c.spelling_of_entry.new.message_writer c.spelling_of_entry-2.new.message_writer c.in-Ok.form c.in-Ok-spelling_of_entry.form a b e f first second
     (c.in-Ok.ensures a e of first few told.first) (c.in-Ok-spelling_of_entry.ensures b f other_of second other_few told.second)
     told.agree c.args.self.now.progress c.place.result
     (λ same. c.if-are_alike.ensures (ap (spelling_of c.in-Ok.form) c.bytes-message.ensures ∙ (same ∙ ap (spelling_of c.in-Ok-spelling_of_entry.form) (sym c.bytes.ensures)))) told.progress

@@ -1,7 +1,7 @@
 use Rattle.std.proofs.Common.{Ok, Err, subst, sym}
 use Rattle.capture3.specs.Entry.{items_of}
 use Rattle.canon3.specs.Comparison.{Compares, Meets}
-use Rattle.canon3.specs.Numbered.{Stands}
+use Rattle.canon3.specs.MessageWriter.{Stands}
 use Rattle.canon3.proofs.ComparisonLemmas.{Hands, hands, not_ended, refused_meets, told_second, with_second}
 use Rattle.canon3.proofs.comparison.Comparison.meet.Goals as goal
 

@@ -1,6 +1,6 @@
 use Rattle.std.proofs.Common.{Ok, Err, subst}
 use Rattle.capture3.specs.Entry.{items_of}
-use Rattle.canon3.specs.Numbered.{Stands}
+use Rattle.canon3.specs.MessageWriter.{Stands}
 use Rattle.canon3.proofs.ComparisonLemmas.{first_stops, Hands, hands, stepped, told_first}
 use Rattle.canon3.proofs.comparison.Comparison.step.Goals as goal
 

@@ -1,4 +1,4 @@
-use Rattle.canon3.proofs.Summing.{is_done}
+use Rattle.canon3.proofs.SummaryLemmas.{is_done}
 use Rattle.canon3.proofs.summary.Tally.add_all.Goals as goal
 
 pub returns-clause-over : goal.returns-clause-over

@@ -2,7 +2,7 @@ use Rattle.std.proofs.Common.{◌≡◌, ◌≤◌, ◌+◌, List, ℕ, None, Op
 use Rattle.capture3.specs.Entries.{entries_left, failure_of}
 use Rattle.capture3.specs.Position.{most_entries}
 use Rattle.canon3.specs.Passed.{passed_steps}
-use Rattle.canon3.specs.Tallying.{IsUnderWay}
+use Rattle.canon3.specs.Tally.{IsUnderWay}
 use Rattle.canon3.proofs.summary.Tally.add_all.Given as goal
 
 abbrev pub invariant-loop : goal.invariant-loop

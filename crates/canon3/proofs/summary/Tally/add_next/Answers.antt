@@ -2,10 +2,10 @@ use Rattle.std.proofs.Common.{List, Ok, [], ◌∷◌, ◌++◌, subst, sym}
 use Rattle.std.proofs.KnownBytes.{Consumes-trans}
 use Rattle.xdr3.specs.Item.{Item}
 use Rattle.xdr3.specs.Visit.{Adds}
-use Rattle.canon3.specs.Gathering.{Gathers}
-use Rattle.canon3.specs.Summing.{all_items}
+use Rattle.canon3.specs.HandleTable.{Gathers}
+use Rattle.canon3.specs.Summary.{all_items}
 use Rattle.capture3.specs.Entries.{HandsOut}
-use Rattle.canon3.proofs.Summing.{items_behind}
+use Rattle.canon3.proofs.SummaryLemmas.{items_behind}
 use Rattle.canon3.proofs.summary.Tally.add_next.Goals as goal
 
 pub returns-in-Ok-Some-clause-goes_on : goal.returns-in-Ok-Some-clause-goes_on

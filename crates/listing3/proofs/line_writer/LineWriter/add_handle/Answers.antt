@@ -2,7 +2,7 @@ use Rattle.std.proofs.Common.{[], ◌∷◌, ◌++◌, ap, length}
 use Rattle.hex.specs.Hex.{encode_lower}
 use Rattle.xdr3.specs.Item.{Handle, Opaque}
 use Rattle.xdr3.specs.Visit.{Adds, Keeps}
-use Rattle.canon3.proofs.Gathering.{still_ok}
+use Rattle.canon3.proofs.HandleTableLemmas.{still_ok}
 use Rattle.canon3.proofs.Visiting.{settled}
 use Rattle.listing3.specs.LineWriter.{Stands}
 use Rattle.listing3.specs.Listing.{opening}

@@ -1,5 +1,5 @@
 use Rattle.std.proofs.Common.{[], append-nil, refl, subst, sym}
-use Rattle.canon3.specs.Gathering.{Gathers}
+use Rattle.canon3.specs.HandleTable.{Gathers}
 use Rattle.listing3.proofs.LineLemmas.{stands_behind}
 use Rattle.listing3.proofs.line_writer.LineWriter.begin_message.Goals as goal
 

@@ -6,8 +6,8 @@ use Rattle.xdr3.specs.Item.{Word}
 use Rattle.rpc_head.specs.declared.call.ProcId.{ProcId}
 use Rattle.rpc_head.specs.Names.{names}
 use Rattle.capture3.specs.Entry.{Entry, items_of}
-use Rattle.canon3.specs.Summing.{all_items}
-use Rattle.canon3.specs.Written.{AppendsFront}
+use Rattle.canon3.specs.Summary.{all_items}
+use Rattle.canon3.specs.SinkWrites.{AppendsFront}
 use Rattle.listing3.specs.LineWriter.{behind, Stands}
 use Rattle.listing3.specs.Listing.{client, entry_line, line}
 use Rattle.listing3.proofs.LineLemmas.{listed_call, listed_reply, no_line}

@@ -1,7 +1,7 @@
 use Rattle.std.proofs.Common.{subst, ◌+◌}
 use Rattle.std.specs.Io.KnownBytes.{Appends}
-use Rattle.canon3.specs.Written.{AppendsFront}
-use Rattle.canon3.proofs.Gathering.{still_ok}
+use Rattle.canon3.specs.SinkWrites.{AppendsFront}
+use Rattle.canon3.proofs.HandleTableLemmas.{still_ok}
 use Rattle.canon3.proofs.Visiting.{still_err}
 use Rattle.listing3.proofs.LineLemmas.{is_line, no_xid}
 use Rattle.listing3.proofs.line_writer.LineWriter.write_line.Goals as goal

@@ -1,9 +1,9 @@
 use Rattle.std.proofs.Common.{List, [], ◌++◌, subst, sym}
 use Rattle.xdr3.specs.Item.{Item}
 use Rattle.capture3.specs.Entry.{items_of}
-use Rattle.canon3.specs.Gathering.{Gathers}
-use Rattle.canon3.specs.Summing.{all_items}
-use Rattle.canon3.proofs.Summing.{items_behind}
+use Rattle.canon3.specs.HandleTable.{Gathers}
+use Rattle.canon3.specs.Summary.{all_items}
+use Rattle.canon3.proofs.SummaryLemmas.{items_behind}
 use Rattle.listing3.specs.LineWriter.{behind, Stands}
 use Rattle.listing3.proofs.LineLemmas.{behind-append, is_behind, listed_more}
 use Rattle.listing3.proofs.line_writer.LineWriterEntryWriter.write.Goals as goal

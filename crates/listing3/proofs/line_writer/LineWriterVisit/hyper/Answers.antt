@@ -1,6 +1,6 @@
 use Rattle.std.proofs.Common.{refl}
 use Rattle.xdr3.specs.Item.{Hyper}
-use Rattle.canon3.proofs.Gathering.{still_ok}
+use Rattle.canon3.proofs.HandleTableLemmas.{still_ok}
 use Rattle.canon3.proofs.Visiting.{still_err}
 use Rattle.listing3.proofs.LineLemmas.{adds_plain, keeps_text, no_word}
 use Rattle.listing3.proofs.line_writer.LineWriterVisit.hyper.Goals as goal

@@ -1,6 +1,6 @@
 use Rattle.std.proofs.Common.{refl, subst, sym}
 use Rattle.xdr3.specs.Item.{Word}
-use Rattle.canon3.proofs.Gathering.{still_ok}
+use Rattle.canon3.proofs.HandleTableLemmas.{still_ok}
 use Rattle.canon3.proofs.Visiting.{still_err}
 use Rattle.listing3.proofs.LineLemmas.{adds_plain, adds_xid, IsLater, keeps_text}
 use Rattle.listing3.proofs.line_writer.LineWriterVisit.word.Goals as goal

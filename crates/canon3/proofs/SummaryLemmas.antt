@@ -1,0 +1,146 @@
+-- From what was handed out to what a capture has.
+use Rattle.std.proofs.Common.{◌≡◌, ◌≤◌, ⊎_elim, ℕ, ◌+◌, Bool, true, false, cond, min, Option, None, Some, Result, Ok, Err, IfOk, IfErr, List, [], ◌∷◌, ◌++◌, count_by, length, refl, sym, ap, subst, ◌∙◌, append-nil, arith}
+use Rattle.std.specs.Prelude.{bytes_eq}
+use Rattle.std.specs.Cmp.Lexicographic.{nat_list_eq_equiv}
+use Rattle.std.specs.Io.KnownBytes.{Consumes, IsAtEnd}
+use Rattle.std.proofs.KnownBytes.{Consumes-all, Consumes-nil}
+use Rattle.std.proofs.lemmas.Grind.{flat_map-append}
+use Rattle.std.proofs.lemmas.List.Sums.{sum_by-append, sum_by-cons}
+use Rattle.std.specs.declared.hash.BuildHasher as BuildHasher
+use Rattle.std.specs.declared.hash.Hasher as Hasher
+use Rattle.xdr3.specs.Item.{Item}
+use Rattle.capture3.specs.declared.entries.Entries.{Entries}
+use Rattle.capture3.specs.declared.fault.Error.{Error}
+use Rattle.capture3.specs.declared.fault.Error.TheVariants as errors
+use Rattle.capture3.specs.declared.fault.Fault.{Fault}
+use Rattle.capture3.specs.Entry.{Entry, Begin, Call, Turn, Reply, Close, End, items_of}
+use Rattle.capture3.specs.FirstFault.{FirstFault}
+use Rattle.capture3.specs.Reached.{Reached}
+use Rattle.capture3.specs.Typed.{Typed}
+use Rattle.capture3.proofs.Emits.{reached_by_machine}
+use Rattle.canon3.specs.declared.passed.Passed.{Passed}
+use Rattle.canon3.specs.declared.summary.Summary.{Summary}
+use Rattle.canon3.specs.declared.summary.Tally.{Tally}
+use Rattle.capture3.specs.declared.entry.Kind.{Kind}
+use Rattle.capture3.specs.declared.entry.Kind.TheVariants as kinds
+use Rattle.canon3.specs.Rank.{distinct, number_limit}
+use Rattle.canon3.specs.Parting.{connections}
+use Rattle.canon3.specs.Passed.{ArePassed, calls, replies}
+use Rattle.canon3.specs.Progress.{HasPassed}
+use Rattle.canon3.specs.Summary.{all_items, ConcludesGiven, is_begin, is_call, is_reply, IsSummary, Sums}
+use Rattle.canon3.specs.Tally.{GoesOn, IsDone}
+use Rattle.capture3.specs.Kept.{IsOfKind}
+use Rattle.canon3.specs.Values.{handles}
+use Rattle.canon3.proofs.InOrder.{typed_in_order}
+use Rattle.canon3.proofs.RankLemmas.{length-with_keys}
+
+-- one more is counted where it is one of them
+pub counts_behind : {X : Type 0} (p : X → Bool) (n m : ℕ) (items : List X) (one : X) → m ≡ n + cond (p one) 1 0 → n ≡ count_by p items → m ≡ count_by p (items ++ one ∷ [])
+counts_behind p n m items one more is =
+    let whole : count_by p (items ++ one ∷ []) ≡ count_by p items + count_by p (one ∷ []) = sum_by-append (λ x. cond (p x) 1 0) items (one ∷ []) in
+    let last : count_by p (one ∷ []) ≡ cond (p one) 1 0 + count_by p [] = sum_by-cons (λ x. cond (p x) 1 0) one [] in
+    omega (arith, more, is, whole, last)
+
+pub items_behind : (front : List Entry) (last : Entry) → all_items (front ++ last ∷ []) ≡ all_items front ++ items_of last
+items_behind front last = flat_map-append items_of front (last ∷ []) ∙ ap (λ (l : List Item). all_items front ++ l) (append-nil (items_of last))
+
+call_same : (kind : Kind) (entry : Entry) → IsOfKind kind entry → calls kind ≡ is_call entry
+call_same kinds.Begin entry is = sym (ap is_call is)
+call_same (kinds.Call id) entry is = sym (ap is_call is.2)
+call_same kinds.Turn entry is = sym (ap is_call is)
+call_same (kinds.Reply id) entry is = sym (ap is_call is.1)
+call_same kinds.Close entry is = sym (ap is_call is)
+call_same kinds.End entry is = sym (ap is_call is)
+
+reply_same : (kind : Kind) (entry : Entry) → IsOfKind kind entry → replies kind ≡ is_reply entry
+reply_same kinds.Begin entry is = sym (ap is_reply is)
+reply_same (kinds.Call id) entry is = sym (ap is_reply is.2)
+reply_same kinds.Turn entry is = sym (ap is_reply is)
+reply_same (kinds.Reply id) entry is = sym (ap is_reply is.1)
+reply_same kinds.Close entry is = sym (ap is_reply is)
+reply_same kinds.End entry is = sym (ap is_reply is)
+
+-- an entry is counted, after its place in the capture
+pub passed_more : (old new : Passed) (kind : Kind) (entry : Entry) (entries : List Entry) → IsOfKind kind entry → HasPassed new.progress (entries ++ entry ∷ [])
+    → new.calls ≡ old.calls + cond (calls kind) 1 0 → new.replies ≡ old.replies + cond (replies kind) 1 0 → ArePassed old entries → ArePassed new (entries ++ entry ∷ [])
+passed_more old new kind entry entries is progress called replied t = record {
+  progress = progress;
+  calls_are = counts_behind is_call old.calls new.calls entries entry (called ∙ ap (λ b. old.calls + cond b 1 0) (call_same kind entry is)) t.calls_are;
+  replies_are = counts_behind is_reply old.replies new.replies entries entry (replied ∙ ap (λ b. old.replies + cond b 1 0) (reply_same kind entry is)) t.replies_are;
+}
+
+-- an entry is a call or a reply at most
+pub counts_once : (kind : Kind) → cond (calls kind) 1 0 + cond (replies kind) 1 0 ≤ 1
+counts_once kinds.Begin = omega arith
+counts_once (kinds.Call id) = omega arith
+counts_once kinds.Turn = omega arith
+counts_once (kinds.Reply id) = omega arith
+counts_once kinds.Close = omega arith
+counts_once kinds.End = omega arith
+
+pub connections_counted : (entries : List Entry) → connections entries ≡ count_by is_begin entries
+connections_counted [] = refl
+connections_counted (Begin ∷ entries) =
+    let whole : count_by is_begin (Begin ∷ entries) ≡ 1 + count_by is_begin entries = sum_by-cons (λ entry. cond (is_begin entry) 1 0) Begin entries in
+    omega (arith, whole, connections_counted entries)
+connections_counted (Call items ∷ entries) = connections_counted entries
+connections_counted (Turn ∷ entries) = connections_counted entries
+connections_counted (Reply id items ∷ entries) = connections_counted entries
+connections_counted (Close ∷ entries) = connections_counted entries
+connections_counted (End ∷ entries) = connections_counted entries
+
+-- ---- along a reader
+
+module _ {R S H : Type 0} {builds : BuildHasher.Ghosts S H} {hashes : Hasher.Ghosts H} (left : R → Option (List ℕ)) (first : Option (List ℕ)) (reader : Entries R S H builds hashes) (tally : Tally S H) where
+  pub is_done : (more : Bool) → more ≡ false → GoesOn left first reader tally (Ok more) → IsDone left first reader tally
+  is_done false ends done = done
+  is_done true ends done = absurd (cc)
+
+-- there are few enough handles to be counted
+few_distinct : (bytes : List ℕ) (entries : List Entry) → Typed bytes entries → min (length (distinct bytes_eq (handles entries))) number_limit ≡ length (distinct bytes_eq (handles entries))
+few_distinct bytes entries typed = omega (arith, (typed_in_order bytes entries typed).few_handles, length-with_keys bytes_eq nat_list_eq_equiv (handles entries) [])
+
+pub summary_is : (bytes : List ℕ) (summary : Summary) (entries : List Entry) → Typed bytes entries → Sums summary entries → IsSummary bytes summary
+summary_is bytes summary entries typed sums = record {
+  entries = entries;
+  typed = typed;
+  connections = sums.connections;
+  calls = sums.calls;
+  replies = sums.replies;
+  handles = sums.handles ∙ few_distinct bytes entries typed;
+}
+
+-- where all bytes are told
+pub summary_of : (bytes : List ℕ) (old new : Option (List ℕ)) (result : Result Summary Error) → old ≡ Some bytes → ConcludesGiven old new result → IfOk result (IsSummary bytes)
+summary_of bytes old new (Ok summary) tells (given, consumed, (ended, is)) =
+    let all : given ≡ bytes = Consumes-all (Some bytes) new given [] given (subst (λ (o : Option (List ℕ)). Consumes o new given) tells consumed) ended refl in
+    subst (λ (b : List ℕ). IsSummary b summary) all is
+summary_of bytes old new (Err error) tells c = tt
+
+rest_of : (bytes given : List ℕ) (new : Option (List ℕ)) → Consumes (Some bytes) new given → (rest : List ℕ) × (new ≡ Some rest) × (bytes ≡ given ++ rest)
+rest_of bytes given None consumed = absurd consumed
+rest_of bytes given (Some rest) consumed = (rest, refl, consumed)
+
+-- the fault that is met is the first of all bytes
+pub faults_of : (bytes : List ℕ) (old new : Option (List ℕ)) (result : Result Summary Error) → old ≡ Some bytes → ConcludesGiven old new result
+    → IfErr result (λ error. (fault : Fault) → error ≡ errors.Refused fault → FirstFault bytes fault)
+faults_of bytes old new (Ok summary) tells c = tt
+faults_of bytes old new (Err (errors.Refused met)) tells (given, consumed, (entries, is)) =
+    let from = subst (λ (o : Option (List ℕ)). Consumes o new given) tells consumed in
+    let r = rest_of bytes given new from in
+    let first : FirstFault bytes met =
+    ⊎_elim
+    (λ (shown : (rest : List ℕ) → FirstFault (given ++ rest) met × Reached (given ++ rest) entries). subst (λ (b : List ℕ). FirstFault b met) (sym r.2) (shown r.0).0)
+    (λ (shown : IsAtEnd new × FirstFault given met × Reached given entries). subst (λ (b : List ℕ). FirstFault b met) (Consumes-all (Some bytes) new given [] given from shown.0 refl) shown.1)
+    is in
+    λ fault e. subst (λ (f : Fault). FirstFault bytes f) (refused_is met fault e) first
+  where
+    refused_is : (met fault : Fault) → errors.Refused met ≡ errors.Refused fault → met ≡ fault
+    refused_is met fault e = cc
+faults_of bytes old new (Err errors.Read) tells c = λ fault e. absurd (cc)
+faults_of bytes old new (Err errors.Write) tells c = λ fault e. absurd (cc)
+faults_of bytes old new (Err errors.Memory) tells c = λ fault e. absurd (cc)
+
+-- before any byte was read
+pub nothing_concluded : (left : Option (List ℕ)) → ConcludesGiven left left (Err errors.Memory)
+nothing_concluded left = ([], Consumes-nil left, ([], (_, reached_by_machine [] (λ k. omega arith))))

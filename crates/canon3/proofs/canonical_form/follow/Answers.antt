@@ -1,0 +1,13 @@
+use Rattle.std.proofs.Common.{[], ◌∷◌, ◌++◌, ap, subst, ◌∙◌}
+use Rattle.std.specs.Io.KnownBytes.{Appends}
+use Rattle.canon3.specs.MessageWriter.{values_of}
+use Rattle.canon3.specs.Spelling.{spelling_of}
+use Rattle.canon3.proofs.canonical_form.follow.Goals as goal
+
+pub returns-in-Ok-write_spelling-clause-follows : goal.returns-in-Ok-write_spelling-clause-follows
+returns-in-Ok-write_spelling-clause-follows g c entries one of first few stands =
+    let s = c.in-Ok.ensures entries one of first few stands in (
+      c.begin_message.ensures.going,
+      c.begin_message.ensures.stands (values_of (entries ++ one ∷ [])) s.holds,
+      subst (Appends (g.W.Sink.written c.args.sink.now) (g.W.Sink.written c.write_spelling.new.sink)) (ap (spelling_of c.in-Ok.form) c.bytes.ensures ∙ s.spelled) c.in-Ok-write_spelling.ensures.ok,
+    )

@@ -1,0 +1,16 @@
+use Rattle.xdr3.specs.Plain.{run_items}
+use Rattle.xdr3.specs.Visit.{Adds}
+use Rattle.canon3.specs.MessageWriter.{Stands}
+use Rattle.canon3.proofs.HandleTableLemmas.{still_ok}
+use Rattle.canon3.proofs.Visiting.{adds_run, behind_xid, settled}
+use Rattle.canon3.proofs.message_writer.MessageWriterVisit.plain.Goals as goal
+
+pub returns-in-Goes : goal.returns-in-Goes
+returns-in-Goes g c = record {
+  ok = still_ok c.plain.result (adds_run c.args.self.now c.plain.new.self c.args.fields.now c.args.bytes.now (behind_xid c.args.self.now c.plain.new.self c.in-Goes.is)) c.plain.ensures.ok;
+}
+
+pub returns-in-Begins : goal.returns-in-Begins
+returns-in-Begins g c = record {
+  ok = settled (λ n. Adds (Stands {S = g.row.S.Denot} {H = g.row.S-Hasher.Denot}) c.args.self.now n (run_items c.args.fields.now c.args.bytes.now)) c.write_first-written.result c.settle.result c.write_first-written.new.self c.settle.new.self c.settle.ensures.result c.settle.ensures.ok c.write_first-written.ensures.ok;
+}

@@ -1,7 +1,0 @@
-use Rattle.canon3.proofs.Gathering.{still_ok}
-use Rattle.canon3.proofs.Visiting.{adds_xid}
-use Rattle.canon3.proofs.numbered.Numbering.write_xid.Goals as goal
-
-pub returns-clause-ok : goal.returns-clause-ok
-returns-clause-ok g c =
-    still_ok c.word.result (adds_xid c.args.self.now c.word.new.self c.number_of.new.self c.args.name.now c.args.n c.in-Ok.number c.requires c.in-Ok.ensures.number c.in-Ok.ensures.given) c.word.ensures.ok

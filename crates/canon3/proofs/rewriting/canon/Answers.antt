@@ -1,5 +1,0 @@
-use Rattle.canon3.proofs.Growing.{form_fronts}
-use Rattle.canon3.proofs.rewriting.canon.Goals as goal
-
-pub write_entries-requires-clause-prefixes : goal.write_entries-requires-clause-prefixes
-write_entries-requires-clause-prefixes g c = form_fronts

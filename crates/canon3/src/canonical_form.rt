@@ -1,0 +1,125 @@
+// The canonical form of a capture, from a source to a sink.
+
+ghost use Rattle.std.specs.Prelude.{◌≡◌, ◌<◌, ◌^◌, ◌++◌, ◌∷◌, List, [], length, IfErr, OnErr, OnOk};
+ghost use Rattle.std.specs.Io.KnownBytes.{Appends};
+ghost use Rattle.capture3.specs.Entries.{CountsReading};
+ghost use Rattle.capture3.specs.Entry as spec;
+ghost use Rattle.canon3.specs.Laws.{AreFirst};
+ghost use Rattle.canon3.specs.MessageWriter.{behind, Stands, values_of};
+ghost use Rattle.canon3.specs.CanonicalForm.{Follows, magic_before, RewritesGiven};
+ghost use Rattle.capture3.specs.Kept.{IsOfKind};
+ghost use Rattle.capture3.specs.Entry.{items_of};
+ghost use Rattle.canon3.specs.WriteErrors.{CountsWriting, IsOfWriting};
+ghost use Rattle.canon3.specs.SinkWrites.{AppendsFront, IsFlushed};
+
+use crate::container_writer::write_spelling;
+use crate::entry_writer::{EntryWriter, write_entries};
+use crate::message_writer::MessageWriter;
+use crate::passed::Passed;
+use crate::sink::Sink;
+use crate::spelling::spelling_of_entry;
+use crate::summary::Summary;
+use crate::whole_writes::write_all;
+use capture3::{Error, Hashers, Kind, Source, pack_header};
+use std::alloc::Global;
+use std::hash::BuildHasher;
+
+/// Reads a capture to its end, writes its canonical form as it comes, and flushes the sink: each file
+/// handle that is not empty (RFC 1813, section 2.5), write verifier and xid (RFC 5531, section 9) is
+/// written as its number. It holds one block of the source's bytes, one record, the calls of the open
+/// connection, and the values that have numbers.
+///
+/// # Errors
+///
+/// `Refused` with the first fault of a capture that is not well formed, and `Read` where a read failed:
+/// the form of the entries before it is written whole. `Write` where a write or the flush failed, and
+/// `Memory` where it ran out: a front of the form is written. After an error nothing is flushed.
+pub fn canon<R: Source, W: Sink, S: BuildHasher + Drop>(
+    alloc: Global,
+    hashers: Hashers<S>,
+    source: &mut R,
+    sink: &mut W,
+) -> Result<Summary, Error>
+    ensures rewrites { RewritesGiven (R.left source.old) (R.left source.new) (W.written sink.old)
+        (W.written sink.new) result }
+    ensures flushes { OnOk result (IsFlushed (W.written sink.new) (W.flushed sink.new)) }
+    ensures read { CountsReading (R.failures source.old) (R.failures source.new) result }
+    ensures write { CountsWriting (W.failures sink.old) (W.failures sink.new) result }
+{
+    let mut message_writer = MessageWriter::new(
+        alloc,
+        hashers.handles,
+        hashers.verfs,
+        hashers.xids,
+    );
+    write_entries(alloc, hashers.calls, source, sink, &mut message_writer)
+}
+
+/// Writes the magic, where no connection began.
+fn open<W: Sink>(passed: &Passed, sink: &mut W) -> Result<(), Error>
+    ensures ok { OnOk result
+        (Appends (W.written sink.old) (W.written sink.new)
+        (magic_before passed.now.progress.connections)) }
+    ensures err { OnErr result
+        (AppendsFront (W.written sink.old) (W.written sink.new)
+        (magic_before passed.now.progress.connections)) }
+    ensures count { CountsWriting (W.failures sink.old) (W.failures sink.new) result }
+    ensures error { IfErr result (λ error. error ≡ Error.Write) }
+{
+    if passed.connections() > 0 {
+        return Ok(());
+    }
+    match write_all(sink, &pack_header()) {
+        Ok(()) => Ok(()),
+        Err(_) => Err(Error::Write),
+    }
+}
+
+/// Writes the entry after the magic, and begins the next message.
+fn follow<S: BuildHasher + Drop, W: Sink>(
+    message_writer: &mut MessageWriter<S>,
+    sink: &mut W,
+    kind: Kind,
+) -> Result<(), Error>
+    ensures follows { (entries : List spec.Entry) (one : spec.Entry) → IsOfKind kind one
+        → AreFirst (entries ++ one ∷ []) → length (entries ++ one ∷ []) < 2 ^ 32
+        → Stands message_writer.old (behind (values_of entries) (items_of one))
+        → Follows message_writer.new (W.written sink.old) (W.written sink.new) entries one
+        result }
+    ensures count { CountsWriting (W.failures sink.old) (W.failures sink.new) result }
+    ensures error { IfErr result IsOfWriting }
+{
+    let form = match spelling_of_entry(message_writer, kind) {
+        Ok(form) => form,
+        Err(_) => return Err(Error::Memory),
+    };
+    match write_spelling(sink, form, message_writer.writer.bytes()) {
+        Ok(()) => {
+            message_writer.begin_message();
+            Ok(())
+        }
+        Err(error) => Err(error),
+    }
+}
+
+impl<S: BuildHasher + Drop> EntryWriter for MessageWriter<S> {
+    ghost use Rattle.canon3.specs.MessageWriter.{IsGoing};
+    ghost use Rattle.canon3.specs.CanonicalForm.{canonical_bytes, values_before};
+
+    ghost form = { canonical_bytes };
+
+    ghost before = { values_before };
+
+    ghost going = { IsGoing };
+
+    fn write<W: Sink>(&mut self, passed: &Passed, sink: &mut W, kind: Kind) -> Result<(), Error> {
+        match open(passed, sink) {
+            Ok(()) => follow(self, sink, kind),
+            Err(error) => Err(error),
+        }
+    }
+
+    fn handles(&self) -> u32 {
+        self.handles.len()
+    }
+}

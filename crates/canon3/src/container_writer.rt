@@ -1,0 +1,74 @@
+// What entries are written as, to a sink.
+
+ghost use Rattle.std.specs.Prelude.{◌≡◌, IfErr, OnErr, OnOk};
+ghost use Rattle.std.specs.Io.KnownBytes.{Appends};
+ghost use Rattle.xdr3.specs.Item.{word_bytes};
+ghost use Rattle.canon3.specs.Bytes.{chunk_bytes, record_bytes};
+ghost use Rattle.canon3.specs.Spelling.{spelling_of};
+ghost use Rattle.canon3.specs.WriteErrors.{CountsWriting, IsOfWriting};
+ghost use Rattle.canon3.specs.SinkWrites.{AppendsFront};
+
+use crate::sink::Sink;
+use crate::spelling::Spelling;
+use crate::whole_writes::{write_all, write_record};
+use capture3::{Error, pack_chunk};
+use record_mark::BODY_LIMIT;
+
+/// Writes what an entry is written as. After an error a front of it was written.
+///
+/// # Errors
+///
+/// `Write` where a write failed, and `Memory` where the message has more than 16,777,216 bytes.
+pub(crate) fn write_spelling<W: Sink>(
+    sink: &mut W,
+    form: Spelling,
+    message: &[u8],
+) -> Result<(), Error>
+    ensures ok { OnOk result
+        (Appends (W.written sink.old) (W.written sink.new) (spelling_of form message.now)) }
+    ensures err { OnErr result
+        (AppendsFront (W.written sink.old) (W.written sink.new)
+        (spelling_of form message.now)) }
+    ensures count { CountsWriting (W.failures sink.old) (W.failures sink.new) result }
+    ensures error { IfErr result IsOfWriting }
+{
+    match form {
+        Spelling::Zero => write_word(sink, 0),
+        Spelling::One => write_word(sink, 1),
+        Spelling::Message => write_message(sink, message),
+    }
+}
+
+fn write_word<W: Sink>(sink: &mut W, n: u32) -> Result<(), Error>
+    ensures ok { OnOk result (Appends (W.written sink.old) (W.written sink.new) (word_bytes n)) }
+    ensures err { OnErr result
+        (AppendsFront (W.written sink.old) (W.written sink.new) (word_bytes n)) }
+    ensures count { CountsWriting (W.failures sink.old) (W.failures sink.new) result }
+    ensures error { IfErr result IsOfWriting }
+{
+    match write_all(sink, &pack_chunk(n)) {
+        Ok(()) => Ok(()),
+        Err(_) => Err(Error::Write),
+    }
+}
+
+/// Writes a message as one chunk.
+// No message of a capture has more bytes than a record may have, and with numbers it has no more.
+fn write_message<W: Sink>(sink: &mut W, message: &[u8]) -> Result<(), Error>
+    ensures ok { OnOk result
+        (Appends (W.written sink.old) (W.written sink.new)
+        (chunk_bytes (record_bytes message.now))) }
+    ensures err { OnErr result
+        (AppendsFront (W.written sink.old) (W.written sink.new)
+        (chunk_bytes (record_bytes message.now))) }
+    ensures count { CountsWriting (W.failures sink.old) (W.failures sink.new) result }
+    ensures error { IfErr result IsOfWriting }
+{
+    if message.len() > BODY_LIMIT as usize {
+        return Err(Error::Memory);
+    }
+    match write_record(sink, message) {
+        Ok(()) => Ok(()),
+        Err(_) => Err(Error::Write),
+    }
+}

@@ -1,0 +1,58 @@
+// Bytes that a sink is to take whole.
+
+ghost use Rattle.std.specs.Prelude.{◌≡◌, ◌≤◌, ◌+◌, ◌^◌, ◌++◌, length, OnErr, OnOk};
+ghost use Rattle.std.specs.Io.KnownBytes.{Appends};
+ghost use Rattle.capture3.specs.Device.{Counts};
+ghost use Rattle.record_mark.specs.RecordMark.{max_body};
+ghost use Rattle.xdr3.specs.Item.{word_bytes};
+ghost use Rattle.canon3.specs.Bytes.{chunk_bytes, record_bytes};
+ghost use Rattle.canon3.specs.SinkWrites.{AppendsFront};
+
+use crate::sink::Sink;
+use capture3::{DeviceFailed, pack_chunk};
+use record_mark::{BODY_LIMIT, header};
+
+/// Writes all of the bytes, in as many pieces as the sink takes them. After an error a front of them was
+/// written.
+pub fn write_all<W: Sink>(sink: &mut W, bytes: &[u8]) -> Result<(), DeviceFailed>
+    ensures ok { OnOk result (Appends (W.written sink.old) (W.written sink.new) bytes.now) }
+    ensures err { OnErr result (AppendsFront (W.written sink.old) (W.written sink.new) bytes.now) }
+    ensures count { Counts (W.failures sink.old) (W.failures sink.new) result }
+{
+    let mut rest = bytes;
+    while !rest.is_empty() {
+        let count = match sink.write_some(rest) {
+            Ok(count) => count,
+            Err(error) => return Err(error),
+        };
+        rest = &rest[count..];
+    }
+    Ok(())
+}
+
+/// Writes a record's body as one chunk that is one last fragment. At most 16,777,216 bytes in it. After an
+/// error a front of the chunk was written.
+pub(crate) fn write_record<W: Sink>(sink: &mut W, body: &[u8]) -> Result<(), DeviceFailed>
+    requires { length body.now ≤ max_body }
+    ensures ok { OnOk result (Appends (W.written sink.old) (W.written sink.new)
+        (chunk_bytes (record_bytes body.now))) }
+    ensures err { OnErr result (AppendsFront (W.written sink.old) (W.written sink.new)
+        (chunk_bytes (record_bytes body.now))) }
+    ensures count { Counts (W.failures sink.old) (W.failures sink.new) result }
+{
+    match write_all(sink, &front(body.len() as u32)) {
+        Ok(()) => write_all(sink, body),
+        Err(error) => Err(error),
+    }
+}
+
+/// The length of the chunk of a body of `len` bytes, and the body's header.
+fn front(len: u32) -> [u8; 8]
+    requires { len ≤ BODY_LIMIT }
+    ensures { result ≡ word_bytes (4 + len) ++ word_bytes (2 ^ 31 + len) }
+{
+    let mut front = [0u8; 8];
+    front[..4].copy_from_slice(&pack_chunk(4 + len));
+    front[4..].copy_from_slice(&header(len));
+    front
+}
