@@ -1,6 +1,6 @@
 // The lines of messages, one after another.
 
-ghost use Rattle.std.specs.Prelude.{◌≡◌, ◌≤◌, ◌<◌, ◌+◌, ◌^◌, ◌++◌, ◌∷◌, ℕ, List, [], codes, decimal, length, IfErr, OnErr, OnOk};
+ghost use Rattle.std.specs.Prelude.{◌≡◌, ◌≤◌, ◌<◌, ◌+◌, ◌*◌, ◌^◌, ◌++◌, ◌∷◌, ℕ, List, [], codes, decimal, length, take, IfErr, OnErr, OnOk};
 ghost use Rattle.std.specs.Io.KnownBytes.{Appends};
 ghost use Rattle.xdr3.specs.Item.{Handle as HandleKind, Item, Opaque, Word};
 ghost use Rattle.xdr3.specs.Visit.{Adds, Keeps};
@@ -19,7 +19,7 @@ ghost use Rattle.listing3.specs.LineWriter.{behind, Stands};
 ghost use Rattle.listing3.specs.Listing.{entry_line, line, opening, prefix, procedure_name};
 
 use crate::item_text::ItemText;
-use crate::text::{push_decimal, push_name};
+use crate::text::{DIGITS, make_room, put_bytes, put_decimal, put_name};
 use canon3::{EntryWriter, HandleTable, Passed, Sink, write_all};
 use capture3::{DeviceFailed, Error, Kind};
 use procs3::proc_name;
@@ -50,9 +50,9 @@ fn name_of_procedure(id: ProcId) -> &'static str
     }
 }
 
-/// Appends a line up to the procedure's name.
-fn push_head(
-    out: &mut Vec<u8>,
+/// Writes a line up to the procedure's name in place of what is held.
+fn write_head(
+    head: &mut Vec<u8>,
     passed: &Passed,
     side: &'static str,
     xid: u32,
@@ -60,38 +60,32 @@ fn push_head(
 ) -> Result<(), AllocError>
     requires { passed_steps passed.now + 1 < 2 ^ 32 }
     ensures ok { OnOk result
-        (out.new.items ≡ out.old.items ++
-        (prefix passed.now.progress.connections side.now (passed.now.progress.records + 1) ++
-        ((opening (codes "xid") ++ decimal xid) ++ (32 ∷ name.now)))) }
+        (head.new.items ≡
+        prefix passed.now.progress.connections side.now (passed.now.progress.records + 1) ++
+        ((opening (codes "xid") ++ decimal xid) ++ (32 ∷ name.now))) }
 {
-    push_prefix(out, passed.connections(), side, passed.records() + 1)?;
-    push_xid(out, xid)?;
-    out.extend_from_slice(b" ")?;
-    out.extend_from_slice(name.as_bytes())
+    make_room(head, 0, side.len() + (2 * DIGITS + 2))?;
+    let end = put_prefix(head, passed.connections(), side, passed.records() + 1);
+    make_room(head, end, name.len() + (DIGITS + 6))?;
+    let end = put_name(head, end, "xid");
+    let end = put_decimal(head, end, u64::from(xid));
+    let end = put_bytes(head, end, b" ");
+    let end = put_bytes(head, end, name.as_bytes());
+    head.truncate(end);
+    Ok(())
 }
 
-fn push_prefix(
-    out: &mut Vec<u8>,
-    connection: u32,
-    side: &'static str,
-    number: u32,
-) -> Result<(), AllocError>
-    ensures ok { OnOk result
-        (out.new.items ≡ out.old.items ++ prefix connection side.now number) }
+fn put_prefix(head: &mut [u8], connection: u32, side: &'static str, number: u32) -> usize
+    requires { length side.now + (2 * DIGITS + 2) ≤ length head.old }
+    ensures within { result ≤ length side.now + (2 * DIGITS + 2) }
+    ensures written { take result head.new ≡ prefix connection side.now number }
+    ensures len { length head.new ≡ length head.old }
 {
-    push_decimal(out, u64::from(connection))?;
-    out.extend_from_slice(b" ")?;
-    out.extend_from_slice(side.as_bytes())?;
-    out.extend_from_slice(b" ")?;
-    push_decimal(out, u64::from(number))
-}
-
-fn push_xid(out: &mut Vec<u8>, xid: u32) -> Result<(), AllocError>
-    ensures ok { OnOk result
-        (out.new.items ≡ out.old.items ++ (opening (codes "xid") ++ decimal xid)) }
-{
-    push_name(out, "xid")?;
-    push_decimal(out, u64::from(xid))
+    let end = put_decimal(head, 0, u64::from(connection));
+    let end = put_bytes(head, end, b" ");
+    let end = put_bytes(head, end, side.as_bytes());
+    let end = put_bytes(head, end, b" ");
+    put_decimal(head, end, u64::from(number))
 }
 
 /// Writes all of one piece and then of the other.
@@ -161,8 +155,7 @@ impl<S: BuildHasher + Drop> LineWriter<S> {
             ++ ((opening (codes "xid") ++ decimal xid) ++ (32 ∷ procedure_name id))) }
         ensures items { OnOk result (self.new.items ≡ self.old.items ++ 10 ∷ []) }
     {
-        self.head.clear();
-        push_head(&mut self.head, passed, side, xid, name_of_procedure(id))?;
+        write_head(&mut self.head, passed, side, xid, name_of_procedure(id))?;
         self.items.end_line()
     }
 
