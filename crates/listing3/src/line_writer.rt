@@ -18,8 +18,8 @@ ghost use Rattle.canon3.specs.Written.{AppendsFront};
 ghost use Rattle.listing3.specs.LineWriter.{behind, Stands};
 ghost use Rattle.listing3.specs.Listing.{entry_line, line, opening, prefix, procedure_name};
 
+use crate::head_text::HeadText;
 use crate::item_text::ItemText;
-use crate::text::{DIGITS, make_room, put_bytes, put_decimal, put_name};
 use canon3::{EntryWriter, HandleTable, Passed, Sink, write_all};
 use capture3::{DeviceFailed, Error, Kind};
 use procs3::proc_name;
@@ -36,8 +36,7 @@ pub(crate) struct LineWriter<S: BuildHasher + Drop> {
     // The xid, once it was told, and the text of the items after it.
     xid: Option<u32>,
     items: ItemText,
-    // The line up to the procedure's name.
-    head: Vec<u8>,
+    head: HeadText,
 }
 
 /// The procedure's name, and `RAW` where it has none.
@@ -48,44 +47,6 @@ fn name_of_procedure(id: ProcId) -> &'static str
         Some(name) => name,
         None => "RAW",
     }
-}
-
-/// Writes a line up to the procedure's name in place of what is held.
-fn write_head(
-    head: &mut Vec<u8>,
-    passed: &Passed,
-    side: &'static str,
-    xid: u32,
-    name: &'static str,
-) -> Result<(), AllocError>
-    requires { passed_steps passed.now + 1 < 2 ^ 32 }
-    ensures ok { OnOk result
-        (head.new.items ≡
-        prefix passed.now.progress.connections side.now (passed.now.progress.records + 1) ++
-        ((opening (codes "xid") ++ decimal xid) ++ (32 ∷ name.now))) }
-{
-    make_room(head, 0, side.len() + (2 * DIGITS + 2))?;
-    let end = put_prefix(head, passed.connections(), side, passed.records() + 1);
-    make_room(head, end, name.len() + (DIGITS + 6))?;
-    let end = put_name(head, end, "xid");
-    let end = put_decimal(head, end, u64::from(xid));
-    let end = put_bytes(head, end, b" ");
-    let end = put_bytes(head, end, name.as_bytes());
-    head.truncate(end);
-    Ok(())
-}
-
-fn put_prefix(head: &mut [u8], connection: u32, side: &'static str, number: u32) -> usize
-    requires { length side.now + (2 * DIGITS + 2) ≤ length head.old }
-    ensures within { result ≤ length side.now + (2 * DIGITS + 2) }
-    ensures written { take result head.new ≡ prefix connection side.now number }
-    ensures len { length head.new ≡ length head.old }
-{
-    let end = put_decimal(head, 0, u64::from(connection));
-    let end = put_bytes(head, end, b" ");
-    let end = put_bytes(head, end, side.as_bytes());
-    let end = put_bytes(head, end, b" ");
-    put_decimal(head, end, u64::from(number))
 }
 
 /// Writes all of one piece and then of the other.
@@ -109,7 +70,7 @@ impl<S: BuildHasher + Drop> LineWriter<S> {
             handles: HandleTable::new(alloc, hasher),
             xid: None,
             items: ItemText::new(alloc),
-            head: Vec::new(alloc),
+            head: HeadText::new(alloc),
         }
     }
 
@@ -150,12 +111,12 @@ impl<S: BuildHasher + Drop> LineWriter<S> {
         requires { passed_steps passed.now + 1 < 2 ^ 32 }
         ensures handles { self.new.handles ≡ self.old.handles }
         ensures head { OnOk result
-            (self.new.head.items ≡
+            (self.new.head ≡
             prefix passed.now.progress.connections side.now (passed.now.progress.records + 1)
             ++ ((opening (codes "xid") ++ decimal xid) ++ (32 ∷ procedure_name id))) }
         ensures items { OnOk result (self.new.items ≡ self.old.items ++ 10 ∷ []) }
     {
-        write_head(&mut self.head, passed, side, xid, name_of_procedure(id))?;
+        self.head.write(passed, side, xid, name_of_procedure(id))?;
         self.items.end_line()
     }
 
@@ -163,14 +124,14 @@ impl<S: BuildHasher + Drop> LineWriter<S> {
     fn hand_over<W: Sink>(&self, sink: &mut W) -> Result<(), Error>
         ensures ok { OnOk result
             (Appends (W.written sink.old) (W.written sink.new)
-            (self.now.head.items ++ self.now.items)) }
+            (self.now.head ++ self.now.items)) }
         ensures err { OnErr result
             (AppendsFront (W.written sink.old) (W.written sink.new)
-            (self.now.head.items ++ self.now.items)) }
+            (self.now.head ++ self.now.items)) }
         ensures count { CountsWriting (W.failures sink.old) (W.failures sink.new) result }
         ensures error { IfErr result (λ error. error ≡ Error.Write) }
     {
-        match write_two(sink, &self.head, self.items.bytes()) {
+        match write_two(sink, self.head.bytes(), self.items.bytes()) {
             Ok(()) => Ok(()),
             Err(_) => Err(Error::Write),
         }

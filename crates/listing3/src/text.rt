@@ -7,7 +7,7 @@ ghost use Rattle.xdr3.specs.Visit.{body_limit};
 ghost use Rattle.listing3.specs.Listing.{opening, quoted, quoted_byte};
 
 use hex::encode_to_slice;
-use itoa::Buffer;
+use itoa::write_digits;
 use std::alloc::AllocError;
 
 /// How many digits a number has at most.
@@ -65,8 +65,9 @@ pub(crate) fn put_name(room: &mut [u8], at: usize, name: &'static str) -> usize
     end + 1
 }
 
-/// Writes a number in decimal. Most numbers of a capture have one digit.
-#[tactic(auto, using(std::proofs::lemmas::Fmt::decimal_digit, std::proofs::lemmas::List::take_more_set))]
+/// Writes a number in decimal. Most numbers of a capture have one digit, which costs no call.
+#[inline(always)]
+#[tactic(auto, using(crate::proofs::Rooms::one_digit))]
 pub(crate) fn put_decimal(room: &mut [u8], at: usize, n: u64) -> usize
     requires { at + DIGITS ≤ length room.old }
     ensures within { (at ≤ result) × (result ≤ at + DIGITS) }
@@ -77,8 +78,30 @@ pub(crate) fn put_decimal(room: &mut [u8], at: usize, n: u64) -> usize
         room[at] = b'0' + n as u8;
         return at + 1;
     }
-    let mut buffer = Buffer::new();
-    put_bytes(room, at, buffer.format(n).as_bytes())
+    put_digits(room, at, n)
+}
+
+/// Writes a number of more than one digit in decimal.
+fn put_digits(room: &mut [u8], at: usize, n: u64) -> usize
+    requires room { at + DIGITS ≤ length room.old }
+    requires more { 10 ≤ n }
+    ensures within { (at ≤ result) × (result ≤ at + DIGITS) }
+    ensures written { take result room.new ≡ take at room.old ++ decimal n }
+    ensures len { length room.new ≡ length room.old }
+{
+    let end = at + count_digits(n);
+    write_digits(n, room, end);
+    end
+}
+
+/// How many digits a number of more than one digit has.
+#[tactic(auto, using(crate::proofs::Rooms::decimal_of_length))]
+fn count_digits(n: u64) -> usize
+    requires { 10 ≤ n }
+    ensures count { result ≡ length (decimal n) }
+    ensures most { result ≤ DIGITS }
+{
+    n.ilog10() as usize + 1
 }
 
 /// Writes two lower-case hexadecimal digits for each byte.
