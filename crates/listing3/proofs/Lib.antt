@@ -3,6 +3,7 @@ pub mod ListingLemmas
 pub mod LineLemmas
 pub mod NamedItems
 pub mod NamedShapes
+pub mod Rooms
 pub mod Texts
 pub mod LineTexts
 pub mod Telling

@@ -1,11 +1,11 @@
 // The items of a message, as a line has them.
 
-ghost use Rattle.std.specs.Prelude.{◌≡◌, ◌≤◌, ◌++◌, ◌∷◌, [], length, take, decimal, IfOk, OnOk, OnErr};
+ghost use Rattle.std.specs.Prelude.{◌≡◌, ◌≤◌, ◌++◌, ◌∷◌, [], length, take, decimal, OnOk, OnErr};
 ghost use Rattle.hex.specs.Hex.{encode_lower};
 ghost use Rattle.xdr3.specs.Visit.{body_limit};
 ghost use Rattle.listing3.specs.Listing.{opening, quoted};
 
-use crate::text::{push_decimal, push_hex, push_name, push_quoted};
+use crate::text::{DIGITS, make_room, put_bytes, put_decimal, put_hex, put_name, put_quoted};
 use std::alloc::{AllocError, Global};
 use std::marker::Model;
 use xdr3::Visit;
@@ -14,15 +14,19 @@ use xdr3::Visit;
 /// visited since `new` or `forget`. A call that fails appends nothing.
 #[derive(Drop)]
 pub(crate) struct ItemText {
-    text: Vec<u8>,
+    // It begins with the text, and what stands after the text means nothing.
+    room: Vec<u8>,
+    end: usize,
 }
 
 impl Model for ItemText {
-    ghost use Rattle.std.specs.Prelude.{List, ℕ};
+    ghost use Rattle.std.specs.Prelude.{List, ℕ, ◌≤◌, take, vec_len};
 
     ghost Value = { List ℕ };
 
-    ghost view = { λ t. t.text.items };
+    ghost view = { λ t. take t.end t.room.items };
+
+    ghost invariant = { λ t. t.end ≤ vec_len t.room };
 }
 
 impl ItemText {
@@ -30,42 +34,25 @@ impl ItemText {
         ensures { result ≡ [] }
     {
         ItemText {
-            text: Vec::new(alloc),
+            room: Vec::new(alloc),
+            end: 0,
         }
     }
 
     pub(crate) fn bytes(&self) -> &[u8]
         ensures { result.now ≡ self.now }
     {
-        self.text.as_slice()
+        &self.room[..self.end]
     }
 
     /// Forgets the text and keeps its memory.
     pub(crate) fn forget(&mut self)
         ensures { self.new ≡ [] }
     {
-        self.text.clear();
+        self.end = 0;
     }
 
-    /// Ends the line.
-    pub(crate) fn end_line(&mut self) -> Result<(), AllocError>
-        ensures { OnOk result (self.new ≡ self.old ++ 10 ∷ []) }
-    {
-        self.text.extend_from_slice(b"\n")
-    }
-
-    /// Appends the name, and says where the text ended.
-    fn open(&mut self, name: &'static str) -> Result<usize, AllocError>
-        ensures before { IfOk result (λ before. before ≡ length self.old) }
-        ensures ok { OnOk result (self.new ≡ self.old ++ opening name.now) }
-        ensures err { OnErr result (self.new ≡ self.old) }
-    {
-        let before = self.text.len();
-        push_name(&mut self.text, name)?;
-        Ok(before)
-    }
-
-    /// Forgets the name where its value was not appended.
+    /// Forgets the text after its first `before` bytes where something else failed.
     pub(crate) fn settle(
         &mut self,
         before: usize,
@@ -76,18 +63,28 @@ impl ItemText {
         ensures err { OnErr written (self.new ≡ take before self.old) }
     {
         if written.is_err() {
-            self.text.truncate(before);
+            self.end = self.end.min(before);
         }
         written
+    }
+
+    /// Ends the line.
+    pub(crate) fn end_line(&mut self) -> Result<(), AllocError>
+        ensures { OnOk result (self.new ≡ self.old ++ 10 ∷ []) }
+    {
+        make_room(&mut self.room, self.end, 1)?;
+        self.end = put_bytes(&mut self.room, self.end, b"\n");
+        Ok(())
     }
 
     fn append_decimal(&mut self, name: &'static str, n: u64) -> Result<(), AllocError>
         ensures ok { OnOk result (self.new ≡ self.old ++ (opening name.now ++ decimal n)) }
         ensures err { OnErr result (self.new ≡ self.old) }
     {
-        let before = self.open(name)?;
-        let written = push_decimal(&mut self.text, n);
-        self.settle(before, written)
+        make_room(&mut self.room, self.end, name.len() + 2 + DIGITS)?;
+        let start = put_name(&mut self.room, self.end, name);
+        self.end = put_decimal(&mut self.room, start, n);
+        Ok(())
     }
 
     pub(crate) fn append_hex(&mut self, name: &'static str, bytes: &[u8]) -> Result<(), AllocError>
@@ -96,18 +93,20 @@ impl ItemText {
             (self.new ≡ self.old ++ (opening name.now ++ encode_lower bytes.now)) }
         ensures err { OnErr result (self.new ≡ self.old) }
     {
-        let before = self.open(name)?;
-        let written = push_hex(&mut self.text, bytes);
-        self.settle(before, written)
+        make_room(&mut self.room, self.end, name.len() + 2 + 2 * bytes.len())?;
+        let start = put_name(&mut self.room, self.end, name);
+        self.end = put_hex(&mut self.room, start, bytes);
+        Ok(())
     }
 
     fn append_quoted(&mut self, name: &'static str, bytes: &[u8]) -> Result<(), AllocError>
         ensures ok { OnOk result (self.new ≡ self.old ++ (opening name.now ++ quoted bytes.now)) }
         ensures err { OnErr result (self.new ≡ self.old) }
     {
-        let before = self.open(name)?;
-        let written = push_quoted(&mut self.text, bytes);
-        self.settle(before, written)
+        make_room(&mut self.room, self.end, name.len() + 2)?;
+        let start = put_name(&mut self.room, self.end, name);
+        self.end = put_quoted(&mut self.room, start, bytes)?;
+        Ok(())
     }
 }
 

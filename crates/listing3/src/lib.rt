@@ -2,6 +2,7 @@
 #![tactic(auto)]
 
 pub mod examples;
+mod head_text;
 mod item_text;
 pub mod laws;
 mod line_writer;

@@ -1,6 +1,6 @@
 // The lines of messages, one after another.
 
-ghost use Rattle.std.specs.Prelude.{◌≡◌, ◌≤◌, ◌<◌, ◌+◌, ◌^◌, ◌++◌, ◌∷◌, ℕ, List, [], codes, decimal, length, IfErr, OnErr, OnOk};
+ghost use Rattle.std.specs.Prelude.{◌≡◌, ◌≤◌, ◌<◌, ◌+◌, ◌*◌, ◌^◌, ◌++◌, ◌∷◌, ℕ, List, [], codes, decimal, length, take, IfErr, OnErr, OnOk};
 ghost use Rattle.std.specs.Io.KnownBytes.{Appends};
 ghost use Rattle.xdr3.specs.Item.{Handle as HandleKind, Item, Opaque, Word};
 ghost use Rattle.xdr3.specs.Visit.{Adds, Keeps};
@@ -18,8 +18,8 @@ ghost use Rattle.canon3.specs.SinkWrites.{AppendsFront};
 ghost use Rattle.listing3.specs.LineWriter.{behind, Stands};
 ghost use Rattle.listing3.specs.Listing.{entry_line, line, opening, prefix, procedure_name};
 
+use crate::head_text::HeadText;
 use crate::item_text::ItemText;
-use crate::text::{push_decimal, push_name};
 use canon3::{EntryWriter, HandleTable, Passed, Sink, write_all};
 use capture3::{DeviceFailed, Error, Kind};
 use procs3::proc_name;
@@ -36,8 +36,7 @@ pub(crate) struct LineWriter<S: BuildHasher + Drop> {
     // The xid, once it was told, and the text of the items after it.
     xid: Option<u32>,
     items: ItemText,
-    // The line up to the procedure's name.
-    head: Vec<u8>,
+    head: HeadText,
 }
 
 /// The procedure's name, and `RAW` where it has none.
@@ -48,50 +47,6 @@ fn name_of_procedure(id: ProcId) -> &'static str
         Some(name) => name,
         None => "RAW",
     }
-}
-
-/// Appends a line up to the procedure's name.
-fn push_head(
-    out: &mut Vec<u8>,
-    passed: &Passed,
-    side: &'static str,
-    xid: u32,
-    name: &'static str,
-) -> Result<(), AllocError>
-    requires { passed_steps passed.now + 1 < 2 ^ 32 }
-    ensures ok { OnOk result
-        (out.new.items ≡ out.old.items ++
-        (prefix passed.now.progress.connections side.now (passed.now.progress.records + 1) ++
-        ((opening (codes "xid") ++ decimal xid) ++ (32 ∷ name.now)))) }
-{
-    push_prefix(out, passed.connections(), side, passed.records() + 1)?;
-    push_xid(out, xid)?;
-    out.extend_from_slice(b" ")?;
-    out.extend_from_slice(name.as_bytes())
-}
-
-fn push_prefix(
-    out: &mut Vec<u8>,
-    connection: u32,
-    side: &'static str,
-    number: u32,
-) -> Result<(), AllocError>
-    ensures ok { OnOk result
-        (out.new.items ≡ out.old.items ++ prefix connection side.now number) }
-{
-    push_decimal(out, u64::from(connection))?;
-    out.extend_from_slice(b" ")?;
-    out.extend_from_slice(side.as_bytes())?;
-    out.extend_from_slice(b" ")?;
-    push_decimal(out, u64::from(number))
-}
-
-fn push_xid(out: &mut Vec<u8>, xid: u32) -> Result<(), AllocError>
-    ensures ok { OnOk result
-        (out.new.items ≡ out.old.items ++ (opening (codes "xid") ++ decimal xid)) }
-{
-    push_name(out, "xid")?;
-    push_decimal(out, u64::from(xid))
 }
 
 /// Writes all of one piece and then of the other.
@@ -115,7 +70,7 @@ impl<S: BuildHasher + Drop> LineWriter<S> {
             handles: HandleTable::new(alloc, hasher),
             xid: None,
             items: ItemText::new(alloc),
-            head: Vec::new(alloc),
+            head: HeadText::new(alloc),
         }
     }
 
@@ -156,13 +111,12 @@ impl<S: BuildHasher + Drop> LineWriter<S> {
         requires { passed_steps passed.now + 1 < 2 ^ 32 }
         ensures handles { self.new.handles ≡ self.old.handles }
         ensures head { OnOk result
-            (self.new.head.items ≡
+            (self.new.head ≡
             prefix passed.now.progress.connections side.now (passed.now.progress.records + 1)
             ++ ((opening (codes "xid") ++ decimal xid) ++ (32 ∷ procedure_name id))) }
         ensures items { OnOk result (self.new.items ≡ self.old.items ++ 10 ∷ []) }
     {
-        self.head.clear();
-        push_head(&mut self.head, passed, side, xid, name_of_procedure(id))?;
+        self.head.write(passed, side, xid, name_of_procedure(id))?;
         self.items.end_line()
     }
 
@@ -170,14 +124,14 @@ impl<S: BuildHasher + Drop> LineWriter<S> {
     fn hand_over<W: Sink>(&self, sink: &mut W) -> Result<(), Error>
         ensures ok { OnOk result
             (Appends (W.written sink.old) (W.written sink.new)
-            (self.now.head.items ++ self.now.items)) }
+            (self.now.head ++ self.now.items)) }
         ensures err { OnErr result
             (AppendsFront (W.written sink.old) (W.written sink.new)
-            (self.now.head.items ++ self.now.items)) }
+            (self.now.head ++ self.now.items)) }
         ensures count { CountsWriting (W.failures sink.old) (W.failures sink.new) result }
         ensures error { IfErr result (λ error. error ≡ Error.Write) }
     {
-        match write_two(sink, &self.head, self.items.bytes()) {
+        match write_two(sink, self.head.bytes(), self.items.bytes()) {
             Ok(()) => Ok(()),
             Err(_) => Err(Error::Write),
         }

@@ -1,101 +1,157 @@
-// Text of values.
+// Text of values, written into room that was taken before. A place is a count of bytes from the room's
+// start, and each function answers the place after what it wrote.
 
-ghost use Rattle.std.specs.Prelude.{◌≡◌, ◌≤◌, ◌++◌, ◌∷◌, [], length, take, decimal, OnOk, OnErr};
+ghost use Rattle.std.specs.Prelude.{◌≡◌, ◌≤◌, ◌+◌, ◌*◌, ◌++◌, ◌∷◌, [], length, take, decimal, vec_len, IfOk, OnOk, OnErr};
 ghost use Rattle.hex.specs.Hex.{encode_lower};
 ghost use Rattle.xdr3.specs.Visit.{body_limit};
 ghost use Rattle.listing3.specs.Listing.{opening, quoted, quoted_byte};
 
 use hex::encode_to_slice;
-use itoa::Buffer;
+use itoa::write_digits;
 use std::alloc::AllocError;
 
-/// Appends a space, the name and `=`. A call that fails appends nothing, here and below.
-pub(crate) fn push_name(out: &mut Vec<u8>, name: &'static str) -> Result<(), AllocError>
-    ensures ok { OnOk result (out.new.items ≡ out.old.items ++ opening name.now) }
-    ensures err { OnErr result (out.new.items ≡ out.old.items) }
+/// How many digits a number has at most.
+pub(crate) const DIGITS: usize = 20;
+
+/// Makes the room longer where it has fewer than `count` bytes after the place.
+pub(crate) fn make_room(room: &mut Vec<u8>, at: usize, count: usize) -> Result<(), AllocError>
+    requires { at ≤ vec_len room.old }
+    ensures ok { OnOk result (at + count ≤ vec_len room.new) }
+    ensures kept { take at room.new.items ≡ take at room.old.items }
+    ensures len { vec_len room.old ≤ vec_len room.new }
 {
-    let before = out.len();
-    let written = push_name_parts(out, name);
-    if written.is_err() {
-        out.truncate(before);
+    let left = room.len() - at;
+    if count <= left {
+        return Ok(());
     }
-    written
+    lengthen(room, count - left)
 }
 
-fn push_name_parts(out: &mut Vec<u8>, name: &'static str) -> Result<(), AllocError>
-    ensures ok { OnOk result (out.new.items ≡ out.old.items ++ opening name.now) }
-    ensures front { take (length out.old.items) out.new.items ≡ out.old.items }
+/// Makes the room longer by so many bytes.
+#[cold]
+fn lengthen(room: &mut Vec<u8>, count: usize) -> Result<(), AllocError>
+    ensures ok { OnOk result (vec_len room.new ≡ vec_len room.old + count) }
+    ensures kept { take (vec_len room.old) room.new.items ≡ room.old.items }
+    ensures len { vec_len room.old ≤ vec_len room.new }
 {
-    out.extend_from_slice(b" ")?;
-    out.extend_from_slice(name.as_bytes())?;
-    out.extend_from_slice(b"=")?;
-    Ok(())
+    room.reserve(count)?;
+    room.resize(room.len() + count, 0)
 }
 
-/// Appends a number in decimal. Most numbers of a capture have one digit.
-#[tactic(auto, using(std::proofs::lemmas::Fmt::decimal_digit))]
-pub(crate) fn push_decimal(out: &mut Vec<u8>, n: u64) -> Result<(), AllocError>
-    ensures ok { OnOk result (out.new.items ≡ out.old.items ++ decimal n) }
-    ensures err { OnErr result (out.new.items ≡ out.old.items) }
+/// Writes the bytes.
+pub(crate) fn put_bytes(room: &mut [u8], at: usize, bytes: &[u8]) -> usize
+    requires { at + length bytes.now ≤ length room.old }
+    ensures end { result ≡ at + length bytes.now }
+    ensures written { take result room.new ≡ take at room.old ++ bytes.now }
+    ensures kept { take at room.new ≡ take at room.old }
+    ensures len { length room.new ≡ length room.old }
+{
+    let end = at + bytes.len();
+    room[at..end].copy_from_slice(bytes);
+    end
+}
+
+/// Writes a space, the name and `=`.
+pub(crate) fn put_name(room: &mut [u8], at: usize, name: &'static str) -> usize
+    requires { at + (length name.now + 2) ≤ length room.old }
+    ensures end { result ≡ at + (length name.now + 2) }
+    ensures written { take result room.new ≡ take at room.old ++ opening name.now }
+    ensures kept { take at room.new ≡ take at room.old }
+    ensures len { length room.new ≡ length room.old }
+{
+    room[at] = b' ';
+    let end = put_bytes(room, at + 1, name.as_bytes());
+    room[end] = b'=';
+    end + 1
+}
+
+/// Writes a number in decimal. Most numbers of a capture have one digit, which costs no call.
+#[inline(always)]
+#[tactic(auto, using(crate::proofs::Rooms::one_digit))]
+pub(crate) fn put_decimal(room: &mut [u8], at: usize, n: u64) -> usize
+    requires { at + DIGITS ≤ length room.old }
+    ensures within { (at ≤ result) × (result ≤ at + DIGITS) }
+    ensures written { take result room.new ≡ take at room.old ++ decimal n }
+    ensures len { length room.new ≡ length room.old }
 {
     if n < 10 {
-        return out.extend_from_slice(&[b'0' + n as u8]);
+        room[at] = b'0' + n as u8;
+        return at + 1;
     }
-    let mut buffer = Buffer::new();
-    out.extend_from_slice(buffer.format(n).as_bytes())
+    put_digits(room, at, n)
 }
 
-/// Appends two lower-case hexadecimal digits for each byte.
-pub(crate) fn push_hex(out: &mut Vec<u8>, bytes: &[u8]) -> Result<(), AllocError>
-    requires { length bytes.now ≤ body_limit }
-    ensures ok { OnOk result (out.new.items ≡ out.old.items ++ encode_lower bytes.now) }
-    ensures err { OnErr result (out.new.items ≡ out.old.items) }
+/// Writes a number of more than one digit in decimal.
+fn put_digits(room: &mut [u8], at: usize, n: u64) -> usize
+    requires room { at + DIGITS ≤ length room.old }
+    requires more { 10 ≤ n }
+    ensures within { (at ≤ result) × (result ≤ at + DIGITS) }
+    ensures written { take result room.new ≡ take at room.old ++ decimal n }
+    ensures len { length room.new ≡ length room.old }
 {
-    let before = out.len();
-    out.reserve(2 * bytes.len())?;
-    out.resize(before + 2 * bytes.len(), 0)?;
-    match encode_to_slice(bytes, &mut out[before..]) {
-        Ok(()) => Ok(()),
+    let end = at + count_digits(n);
+    write_digits(n, room, end);
+    end
+}
+
+/// How many digits a number of more than one digit has.
+#[tactic(auto, using(crate::proofs::Rooms::decimal_of_length))]
+fn count_digits(n: u64) -> usize
+    requires { 10 ≤ n }
+    ensures count { result ≡ length (decimal n) }
+    ensures most { result ≤ DIGITS }
+{
+    n.ilog10() as usize + 1
+}
+
+/// Writes two lower-case hexadecimal digits for each byte.
+pub(crate) fn put_hex(room: &mut [u8], at: usize, bytes: &[u8]) -> usize
+    requires { at + 2 * length bytes.now ≤ length room.old }
+    ensures end { result ≡ at + 2 * length bytes.now }
+    ensures written { take result room.new ≡ take at room.old ++ encode_lower bytes.now }
+    ensures kept { take at room.new ≡ take at room.old }
+    ensures len { length room.new ≡ length room.old }
+{
+    let end = at + 2 * bytes.len();
+    match encode_to_slice(bytes, &mut room[at..end]) {
+        Ok(()) => end,
         Err(_) => unreachable!(),
     }
 }
 
-/// Appends text between quotation marks, with each byte that is not plain as `\x` and two digits.
-pub(crate) fn push_quoted(out: &mut Vec<u8>, bytes: &[u8]) -> Result<(), AllocError>
-    ensures ok { OnOk result (out.new.items ≡ out.old.items ++ quoted bytes.now) }
-    ensures err { OnErr result (out.new.items ≡ out.old.items) }
+/// Writes text between quotation marks, with each byte that is not plain as `\x` and two digits, and makes
+/// the room longer as it goes. What stood before the place is kept.
+pub(crate) fn put_quoted(room: &mut Vec<u8>, at: usize, bytes: &[u8]) -> Result<usize, AllocError>
+    requires { at ≤ vec_len room.old }
+    ensures within { IfOk result (λ end. end ≤ vec_len room.new) }
+    ensures ok { IfOk result (λ end. take end room.new.items
+        ≡ take at room.old.items ++ quoted bytes.now) }
+    ensures kept { take at room.new.items ≡ take at room.old.items }
+    ensures len { vec_len room.old ≤ vec_len room.new }
 {
-    let before = out.len();
-    let written = push_quoted_parts(out, bytes);
-    if written.is_err() {
-        out.truncate(before);
-    }
-    written
-}
-
-fn push_quoted_parts(out: &mut Vec<u8>, bytes: &[u8]) -> Result<(), AllocError>
-    ensures ok { OnOk result (out.new.items ≡ out.old.items ++ quoted bytes.now) }
-    ensures front { take (length out.old.items) out.new.items ≡ out.old.items }
-{
-    out.extend_from_slice(b"\"")?;
+    make_room(room, at, 1)?;
+    let mut end = put_bytes(room, at, b"\"");
     for &byte in bytes {
-        push_quoted_byte(out, byte)?;
+        end = put_quoted_byte(room, end, byte)?;
     }
-    out.extend_from_slice(b"\"")?;
-    Ok(())
+    make_room(room, end, 1)?;
+    Ok(put_bytes(room, end, b"\""))
 }
 
-fn push_quoted_byte(out: &mut Vec<u8>, byte: u8) -> Result<(), AllocError>
-    ensures ok { OnOk result (out.new.items ≡ out.old.items ++ quoted_byte byte) }
-    ensures err { OnErr result (out.new.items ≡ out.old.items) }
+fn put_quoted_byte(room: &mut Vec<u8>, at: usize, byte: u8) -> Result<usize, AllocError>
+    requires { at ≤ vec_len room.old }
+    ensures within { IfOk result (λ end. (at ≤ end) × (end ≤ vec_len room.new)) }
+    ensures ok { IfOk result (λ end. take end room.new.items
+        ≡ take at room.old.items ++ quoted_byte byte) }
+    ensures kept { take at room.new.items ≡ take at room.old.items }
+    ensures len { vec_len room.old ≤ vec_len room.new }
 {
+    make_room(room, at, 4)?;
     if (32..=126).contains(&byte) && byte != 34 && byte != 92 {
-        out.extend_from_slice(&[byte])
+        room[at] = byte;
+        Ok(at + 1)
     } else {
-        let mut escape = [92, 120, 0, 0];
-        match encode_to_slice(&[byte], &mut escape[2..]) {
-            Ok(()) => out.extend_from_slice(&escape),
-            Err(_) => unreachable!(),
-        }
+        let start = put_bytes(room, at, b"\\x");
+        Ok(put_hex(room, start, &[byte]))
     }
 }

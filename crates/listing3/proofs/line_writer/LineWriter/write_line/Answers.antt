@@ -14,7 +14,7 @@ returns-in-Ok-clause-ok g c front rest n stands =
     let p = c.args.passed.now.progress in
     still_ok c.hand_over.result
     (subst (Appends (g.W.Sink.written c.args.sink.now) (g.W.Sink.written c.hand_over.new.sink))
-    (is_line c.args.self.now p.connections c.args.side.now (p.records + 1) c.in-Some.xid c.args.id front rest n c.compose.new.self.head.items c.compose.new.self.items c.in-Some.is stands c.in-Ok.ensures.head c.in-Ok.ensures.items))
+    (is_line c.args.self.now p.connections c.args.side.now (p.records + 1) c.in-Some.xid c.args.id front rest n c.compose.new.self.head c.compose.new.self.items c.in-Some.is stands c.in-Ok.ensures.head c.in-Ok.ensures.items))
     c.hand_over.ensures.ok
 
 pub returns-in-Ok-clause-err : goal.returns-in-Ok-clause-err
@@ -22,5 +22,5 @@ returns-in-Ok-clause-err g c front rest n stands =
     let p = c.args.passed.now.progress in
     still_err c.hand_over.result
     (subst (AppendsFront (g.W.Sink.written c.args.sink.now) (g.W.Sink.written c.hand_over.new.sink))
-    (is_line c.args.self.now p.connections c.args.side.now (p.records + 1) c.in-Some.xid c.args.id front rest n c.compose.new.self.head.items c.compose.new.self.items c.in-Some.is stands c.in-Ok.ensures.head c.in-Ok.ensures.items))
+    (is_line c.args.self.now p.connections c.args.side.now (p.records + 1) c.in-Some.xid c.args.id front rest n c.compose.new.self.head c.compose.new.self.items c.in-Some.is stands c.in-Ok.ensures.head c.in-Ok.ensures.items))
     c.hand_over.ensures.err
