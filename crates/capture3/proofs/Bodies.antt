@@ -4,7 +4,7 @@ use Rattle.std.specs.Prelude.{◌&&◌}
 use Rattle.xdr3.specs.declared.reason.Reason.TheVariants.{WrongSide, XidConflict}
 use Rattle.xdr3.specs.declared.reason.Stop.{Stop}
 use Rattle.xdr3.specs.Item.{Item, Word, AreBytes, Spells}
-use Rattle.xdr3.specs.Layout.{Layout, ReadsLayout}
+use Rattle.xdr3.specs.Layout.{Layout, ReadsLayout, word_in}
 use Rattle.xdr3.specs.Reading.{◌>>=◌, reading, refused}
 use Rattle.xdr3.specs.Shape.{Fits, Reads, Refuses, is_listed, listed, word}
 use Rattle.xdr3.proofs.Bytes.{ok_is}
@@ -13,7 +13,7 @@ use Rattle.xdr3.proofs.Decided.{both_ways}
 use Rattle.xdr3.proofs.Items.{Spells-split}
 use Rattle.xdr3.proofs.Layouts.{reads_whole}
 use Rattle.rpc_head.specs.declared.call.ProcId.{ProcId}
-use Rattle.rpc_head.specs.Messages.{call_layout, call_start, reply_layout, reply_start, procedure_in, word_in}
+use Rattle.rpc_head.specs.Messages.{call_layout, call_start, reply_layout, reply_start, procedure_in}
 use Rattle.rpc_head.specs.Names.{names}
 use Rattle.rpc_head.specs.Shapes.{◌then◌, message_start, message_types}
 use Rattle.procs3.specs.Table.{arguments_of, results_of}

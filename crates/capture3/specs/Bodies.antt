@@ -3,10 +3,10 @@ use Rattle.std.specs.Prelude.{◌≡◌, ◌≢◌, ℕ, ◌+◌, ◌<◌, ◌==
 use Rattle.xdr3.specs.declared.reason.Reason.TheVariants.{Trailing, WrongSide, NoCall, XidConflict}
 use Rattle.xdr3.specs.declared.reason.Stop.{Stop}
 use Rattle.xdr3.specs.Item.{Item, Word, Spells}
-use Rattle.xdr3.specs.Layout.{Layout, FitsLayout, ReadsLayout, RefusesLayout}
+use Rattle.xdr3.specs.Layout.{Layout, FitsLayout, ReadsLayout, RefusesLayout, word_in}
 use Rattle.xdr3.specs.Shape.{Reads, Refuses}
 use Rattle.rpc_head.specs.declared.call.ProcId.{ProcId}
-use Rattle.rpc_head.specs.Messages.{call_layout, reply_layout, procedure_in, word_in}
+use Rattle.rpc_head.specs.Messages.{call_layout, reply_layout, procedure_in}
 use Rattle.rpc_head.specs.Names.{names}
 use Rattle.rpc_head.specs.Shapes.{message_start}
 use Rattle.procs3.specs.Table.{arguments_of, results_of}

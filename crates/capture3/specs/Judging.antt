@@ -3,10 +3,10 @@ use Rattle.std.specs.Prelude.{ℕ, Bool, true, ◌==◌, ◌&&◌, if◌then◌e
 use Rattle.xdr3.specs.declared.reason.Reason.TheVariants.{Trailing, WrongSide, NoCall, XidConflict}
 use Rattle.xdr3.specs.declared.reason.Stop.{Stop}
 use Rattle.xdr3.specs.Item.{Item}
-use Rattle.xdr3.specs.Layout.{Layout, reading_layout}
+use Rattle.xdr3.specs.Layout.{Layout, reading_layout, word_in}
 use Rattle.xdr3.specs.Reading.{◌>>=◌, reading, refused}
 use Rattle.rpc_head.specs.declared.call.ProcId.{ProcId}
-use Rattle.rpc_head.specs.Messages.{call_layout, reply_layout, procedure_in, word_in}
+use Rattle.rpc_head.specs.Messages.{call_layout, reply_layout, procedure_in}
 use Rattle.rpc_head.specs.Shapes.{message_start}
 use Rattle.procs3.specs.Table.{arguments_of, results_of}
 use Rattle.capture3.specs.Bodies.{ReplyItems, procedure_of, xid_in}

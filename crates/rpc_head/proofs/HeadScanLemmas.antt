@@ -1,6 +1,7 @@
 -- Scans of heads by those of their parts.
 use Rattle.std.proofs.Common.{◌≡◌, ℕ, false, ◌==◌, List, [], ◌∷◌, ◌++◌, Ok, Err, refl, subst, ◌∙◌, eq-eqb}
 use Rattle.std.proofs.lemmas.Bool.{ne_eqb}
+use Rattle.xdr3.specs.Layout.{word_in}
 use Rattle.xdr3.specs.declared.reason.GetError.{GetError}
 use Rattle.xdr3.specs.declared.reason.Reason.TheVariants.{BadEnum, Flavor, RpcVersion}
 use Rattle.xdr3.specs.Item.{Item, Word, Opaque, Var}
@@ -12,7 +13,6 @@ use Rattle.xdr3.proofs.Bytes.{bind_ok, pair_is}
 use Rattle.xdr3.proofs.ScanLemmas.{moves_both}
 use Rattle.xdr3.proofs.Walks.{adds_joined}
 use Rattle.rpc_head.specs.HeadScan.{ScansAccept, ScansCallHead, ScansReplyHead, credentials}
-use Rattle.rpc_head.specs.Messages.{word_in}
 use Rattle.rpc_head.specs.Names.{names}
 use Rattle.rpc_head.specs.Shapes.{◌then◌, accept, accept_stats, call_head, credential, deny, reply_head, reply_stats, rpc_versions, verifier, verifier_flavors}
 

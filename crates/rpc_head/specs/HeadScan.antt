@@ -1,12 +1,12 @@
 -- Heads that are read and told at once.
 use Rattle.std.specs.Prelude.{◌≡◌, ℕ, Bool, ◌==◌, ◌&&◌, List, Ok}
+use Rattle.xdr3.specs.Layout.{word_in}
 use Rattle.xdr3.specs.Item.{Item}
 use Rattle.xdr3.specs.Reading.{reading}
 use Rattle.xdr3.specs.Shape.{Shape}
 use Rattle.xdr3.specs.View.{MovesOn, View}
 use Rattle.xdr3.specs.Visit.{Adds}
 use Rattle.rpc_head.specs.declared.call.ProcId.{ProcId}
-use Rattle.rpc_head.specs.Messages.{word_in}
 use Rattle.rpc_head.specs.Shapes.{◌then◌, accept, call_head, credential, reply_head, verifier}
 
 -- the items of a call's head begin with rpcvers, prog, vers and proc (RFC 5531, section 9)

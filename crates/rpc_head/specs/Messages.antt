@@ -1,25 +1,11 @@
 -- How whole messages are laid out (RFC 5531, section 9).
-use Rattle.std.specs.Prelude.{ℕ, zero, suc, Bool, ◌==◌, ◌&&◌, if◌then◌else◌, List, [], ◌∷◌}
-use Rattle.xdr3.specs.Item.{Item, Fixed, Hyper, Opaque, Rest, Word, WriteVerf}
-use Rattle.xdr3.specs.Layout.{Layout, after, exactly}
+use Rattle.std.specs.Prelude.{ℕ, Bool, ◌==◌, ◌&&◌, if◌then◌else◌, List, [], ◌∷◌}
+use Rattle.xdr3.specs.Item.{Item}
+use Rattle.xdr3.specs.Layout.{Layout, after, exactly, word_in}
 use Rattle.xdr3.specs.Shape.{Shape, listed, nothing, word}
 use Rattle.rpc_head.specs.declared.call.ProcId.{ProcId}
 use Rattle.rpc_head.specs.Names.{names}
 use Rattle.rpc_head.specs.Shapes.{◌then◌, call_head, reply_head}
-
-abbrev pub number_of_word : Item → ℕ
-number_of_word (Word name n) = n
-number_of_word (Hyper name n) = 0
-number_of_word (Fixed name bytes) = 0
-number_of_word (WriteVerf name bytes) = 0
-number_of_word (Opaque kind name bytes) = 0
-number_of_word (Rest name bytes) = 0
-
--- the number of the word that stands at an index among the items, counted from 0
-abbrev pub word_in : List Item → ℕ → ℕ
-word_in [] i = 0
-word_in (item ∷ items) zero = number_of_word item
-word_in (item ∷ items) (suc i) = word_in items i
 
 -- an mtype is CALL (0) in a call and REPLY (1) in a reply (RFC 5531, section 9)
 unfoldable pub call_start : Shape
