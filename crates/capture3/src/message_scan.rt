@@ -4,7 +4,7 @@ ghost use Rattle.std.specs.Prelude.{◌≡◌, ◌≤◌, List, length, IfErr, I
 ghost use Rattle.rpc_head.specs.Starts.{start_items};
 ghost use Rattle.xdr3.specs.Item.{Item};
 ghost use Rattle.xdr3.specs.Scan.{ScansLayout, StopsLayout};
-ghost use Rattle.xdr3.specs.Visit.{Adds};
+ghost use Rattle.xdr3.specs.Visit.{Adds, body_limit};
 ghost use Rattle.capture3.specs.Judging as spec;
 ghost use Rattle.capture3.specs.MessageScan.{ScansCall, ScansReply, StopsMessage};
 ghost use Rattle.capture3.specs.Messages.{IsTableOf, results_after};
@@ -20,7 +20,7 @@ use xdr3::{GetError, Input, Reason, Visit};
 /// procedure, which may be at odds with the calls of its connection that came before it. After an error
 /// what the visitor holds is open.
 pub(crate) fn scan_call<V: Visit>(body: &[u8], visitor: &mut V) -> Result<NumberedCall, GetError>
-    requires { length body.now ≤ 16777216 }
+    requires { length body.now ≤ body_limit }
     ensures ok { IfOk result
         (λ call. ScansCall V.stands body.now call visitor.old visitor.new) }
     ensures err { (before : List (List Item))
@@ -45,7 +45,7 @@ pub(crate) fn scan_reply<C: KnownCalls, V: Visit>(
     body: &[u8],
     visitor: &mut V,
 ) -> Result<ProcId, GetError>
-    requires { length body.now ≤ 16777216 }
+    requires { length body.now ≤ body_limit }
     ensures ok { IfOk result
         (λ id. ScansReply V.stands (C.calls calls.old) body.now id visitor.old visitor.new) }
     ensures stay { C.calls calls.new ≡ C.calls calls.old }

@@ -1,7 +1,7 @@
 // Worked bodies: what is read of them, where they are refused, and what is written again.
 
 ghost use Rattle.std.specs.Prelude.{◌≤◌, IfOk, length};
-ghost use Rattle.xdr3.specs.Visit.{AreWithinLimit};
+ghost use Rattle.xdr3.specs.Visit.{AreWithinLimit, body_limit};
 
 use rpc_head::{
     Accept, CallHead, Cred, Deny, ProcId, ReplyHead, Start, Verf, scan_call_head, scan_reply_head,
@@ -23,7 +23,7 @@ fn spelled(alloc: Global, words: &[u32], len: usize) -> Result<Vec<u8>, AllocErr
 
 /// The value that the body begins with.
 fn value_in<'a, T: Xdr<'a>>(alloc: Global, body: &'a [u8]) -> Result<T, GetError>
-    requires { length body.now ≤ 16777216 }
+    requires { length body.now ≤ body_limit }
     ensures { IfOk result (λ value. AreWithinLimit (T.items value)) }
 {
     let mut input = Input::new(body);

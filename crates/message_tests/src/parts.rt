@@ -1,6 +1,7 @@
 // Parts spelled by hand from RFC 1813: what is read of them, what is written again, and what is refused.
 
 ghost use Rattle.std.specs.Prelude.{◌≤◌, length};
+ghost use Rattle.xdr3.specs.Visit.{body_limit};
 
 use nfs3_types::mount3::MountOk;
 use nfs3_types::{Fattr, FileKind, Handle, PostOpAttr, PostOpFh, Sattr, Time, TimeHow, Void, Wcc};
@@ -25,7 +26,7 @@ fn spelled(alloc: Global, words: &[u32]) -> Result<Vec<u8>, AllocError> {
 
 /// What is written of the one value that the body is.
 fn rewritten<'a, T: Xdr<'a> + Drop>(alloc: Global, body: &'a [u8]) -> Result<Writer, GetError>
-    requires { length body.now ≤ 16777216 }
+    requires { length body.now ≤ body_limit }
 {
     let mut input = Input::new(body);
     let value: T = read(alloc, &mut input)?;
@@ -37,7 +38,7 @@ fn rewritten<'a, T: Xdr<'a> + Drop>(alloc: Global, body: &'a [u8]) -> Result<Wri
 
 /// The value that the body begins with.
 fn value_in<'a, T: Xdr<'a>>(alloc: Global, body: &'a [u8]) -> Result<T, GetError>
-    requires { length body.now ≤ 16777216 }
+    requires { length body.now ≤ body_limit }
 {
     let mut input = Input::new(body);
     read(alloc, &mut input)
@@ -45,7 +46,7 @@ fn value_in<'a, T: Xdr<'a>>(alloc: Global, body: &'a [u8]) -> Result<T, GetError
 
 /// Where and why the body is refused.
 fn fault_in<'a, T: Xdr<'a> + Drop>(alloc: Global, body: &'a [u8]) -> Option<Stop>
-    requires { length body.now ≤ 16777216 }
+    requires { length body.now ≤ body_limit }
 {
     match rewritten::<T>(alloc, body) {
         Err(GetError::Stop(stop)) => Some(stop),

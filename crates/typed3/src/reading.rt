@@ -1,6 +1,7 @@
 // Lent messages, read as values.
 
 ghost use Rattle.std.specs.Prelude.{◌≡◌, ◌≤◌, length, is_some, IfErr, IfOk, IfSome};
+ghost use Rattle.xdr3.specs.Visit.{body_limit};
 ghost use Rattle.procs3.specs.Names.{name_of};
 ghost use Rattle.xdr3.specs.Gives.{Gives};
 ghost use Rattle.xdr3.specs.Layout.{reading_layout};
@@ -61,7 +62,7 @@ pub fn read_reply<'a>(alloc: Global, reply: ReplyRef<'a>) -> Result<ReplyMsg<'a>
 
 /// Reads a body as a call.
 fn call_in<'a>(alloc: Global, body: &'a [u8]) -> Result<CallMsg<'a>, GetError>
-    requires { length body.now ≤ 16777216 }
+    requires { length body.now ≤ body_limit }
     ensures call { IfOk result (λ call. IsCall body.now (call_items call)) }
     ensures variant { IfOk result (λ call. args_name call.args ≡ name_of call.head.id) }
     ensures err { IfErr result (λ error. SpellsNoCall error body.now) }
@@ -83,7 +84,7 @@ fn call_in<'a>(alloc: Global, body: &'a [u8]) -> Result<CallMsg<'a>, GetError>
 
 /// Reads a body as a reply to a call of this procedure.
 fn reply_in<'a>(alloc: Global, id: ProcId, body: &'a [u8]) -> Result<ReplyMsg<'a>, GetError>
-    requires { length body.now ≤ 16777216 }
+    requires { length body.now ≤ body_limit }
     ensures reply { IfOk result (λ reply. IsReply body.now (answered_items reply)) }
     ensures procedure { IfOk result (λ reply. reply.id ≡ id) }
     ensures success { IfOk result (λ reply. is_some reply.results ≡ is_success reply.head) }
