@@ -177,13 +177,13 @@ def try_capture(program, row):
         runs, line = Runs(program, folder), row['line']
         capture = capture_of(row['capture']) if 'capture' in row else bytes_of(row['file'])
         runs.write('a', capture)
-        form = runs.same_answer('a', line)
-        if form is None:
+        form, is_accepted = runs.same_answer('a', line), line.startswith('ok ')
+        if not is_accepted:
             refused(runs, capture, line)
-        else:
+        elif form is not None:
             accepted(runs, line, form)
         if len(capture) <= SMALL:
-            wanted = (0, line + '\n', '') if form is not None else (2, '', line + '\n')
+            wanted = (0, line + '\n', '') if is_accepted else (2, '', line + '\n')
             runs.want('check by standard input', runs.run('check', '/dev/stdin', stdin=capture), wanted)
             cut_short(runs, capture, line, 'fronts' in row)
             if 'capture' in row:

@@ -377,6 +377,8 @@ def tried(program, test):
 
 
 def main():
+    # A job in the background of a shell has it ignored, and so would what is begun here.
+    signal.signal(signal.SIGINT, signal.default_int_handler)
     try_all(words_of(__doc__), [(test.__name__, tried, test) for test in TESTS], os.cpu_count())
 
 
