@@ -80,7 +80,8 @@ pub record AreWithinLimits (entries : List Entry) : Type 0 where
 abbrev pub most_bytes : ℕ
 most_bytes = 5369495552
 
--- Where a fault stands, by its reason: at a byte that the file has, at its length, or in a record.
+-- Where a fault stands, by its reason: at a byte that the file has, at its length, or in a record. A record's body has its xid at byte 0, its mtype at
+-- byte 4, and in a call its rpcvers at byte 8 (RFC 5531, section 9).
 abbrev pub HasItsPlace : List ℕ → Reason → Place → Type 0
 HasItsPlace file BadMagic (File at) = (at < 8) × (at < length file)
 HasItsPlace file CaptureCut (File at) = at ≡ length file
