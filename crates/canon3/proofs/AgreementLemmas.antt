@@ -8,15 +8,15 @@ use Rattle.capture3.specs.Typed.{Typed}
 use Rattle.capture3.specs.declared.fault.Place.{Place}
 use Rattle.canon3.specs.Bytes.{bytes_of}
 use Rattle.canon3.specs.Canonical.{canonical}
-use Rattle.canon3.specs.Comparison.{Agree, PartWith}
+use Rattle.canon3.specs.machinery.Comparison.{Agree, PartWith}
 use Rattle.canon3.specs.Laws.{AreFirst}
 use Rattle.canon3.specs.Parting.{IsPlaceOf, Parting, PartsAt}
 use Rattle.canon3.specs.Renaming.{Same}
-use Rattle.canon3.specs.CanonicalForm.{are_some, magic_unless}
-use Rattle.canon3.specs.Progress.{side_in}
+use Rattle.canon3.specs.machinery.CanonicalForm.{are_some, magic_unless}
+use Rattle.canon3.specs.machinery.Progress.{side_in}
 use Rattle.canon3.proofs.Ends.{ends_too, past}
 use Rattle.canon3.proofs.First.{first_in_order, parts_where_forms_do, same_from_bytes}
-use Rattle.canon3.specs.Spelling.{bytes_behind}
+use Rattle.canon3.specs.machinery.Spelling.{bytes_behind}
 use Rattle.canon3.proofs.Growing.{first_front, form_grows}
 use Rattle.canon3.proofs.OneFormLemmas.{canonical-same}
 use Rattle.canon3.proofs.Places.{place_from_parting}

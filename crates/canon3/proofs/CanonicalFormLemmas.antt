@@ -12,10 +12,11 @@ use Rattle.canon3.specs.Bytes.{bytes_of}
 use Rattle.canon3.specs.Canonical.{canonical}
 use Rattle.canon3.specs.EntryWriter.{HasWrittenOrCut}
 use Rattle.canon3.specs.Laws.{AreFirst}
-use Rattle.canon3.specs.MessageWriter.{IsGoing, Stands}
+use Rattle.canon3.specs.machinery.MessageWriter.{IsGoing, WriterStands}
 use Rattle.canon3.specs.Parting.{connections}
-use Rattle.canon3.specs.CanonicalForm.{are_some, canonical_bytes, Follows, magic_before, magic_unless, values_before}
-use Rattle.canon3.specs.Spelling.{bytes_behind}
+use Rattle.canon3.specs.CanonicalForm.{canonical_bytes}
+use Rattle.canon3.specs.machinery.CanonicalForm.{are_some, Follows, magic_before, magic_unless, values_before}
+use Rattle.canon3.specs.machinery.Spelling.{bytes_behind}
 use Rattle.canon3.specs.SinkWrites.{AppendsFront}
 use Rattle.canon3.proofs.First.{first_in_order}
 use Rattle.canon3.proofs.Growing.{form_grows}
@@ -59,7 +60,7 @@ module _ {S H : Type 0} (n : MessageWriter S H) (old before between after : Opti
   with_magic : Appends before between (magic_before count) → Appends old between (bytes_of (canonical entries) ++ magic_unless (are_some entries))
   with_magic magic = Appends-trans old before between (bytes_of (canonical entries)) (magic_unless (are_some entries)) so_far (subst (Appends before between) (the_magic entries one count first counted) magic)
 
-  pub written_or_cut : {X : Type 0} (r : Result X Error) → Appends before between (magic_before count) → Follows n between after entries one r → HasWrittenOrCut canonical_bytes values_before Stands IsGoing n old after (entries ++ one ∷ []) r
+  pub written_or_cut : {X : Type 0} (r : Result X Error) → Appends before between (magic_before count) → Follows n between after entries one r → HasWrittenOrCut canonical_bytes values_before WriterStands IsGoing n old after (entries ++ one ∷ []) r
   written_or_cut (Ok x) magic (going, stands, followed) = (
     going,
     stands,

@@ -10,7 +10,8 @@ use Rattle.canon3.specs.Values.{handle_in, verifier_in, handles_in, verifiers_in
 use Rattle.canon3.specs.Rank.{rank}
 use Rattle.canon3.specs.Pairing.{here}
 use Rattle.canon3.specs.Canonical.{numbered_item, numbered_message, numbered, canonical}
-use Rattle.canon3.specs.CanonicalStream.{items_after, message_after, entries_after, open_xids}
+use Rattle.canon3.specs.CanonicalStream.{items_after, message_after, entries_after}
+use Rattle.canon3.specs.machinery.CanonicalStream.{open_xids}
 use Rattle.canon3.proofs.Order.{BeginsWithXid, IsWellFormed}
 use Rattle.canon3.proofs.Nesting.{Paired, paired, no_call}
 use Rattle.canon3.proofs.RankLemmas.{rank-append, member-append_right}

@@ -7,11 +7,13 @@ use Rattle.std.specs.declared.hash.BuildHasher as BuildHasher
 use Rattle.std.specs.declared.hash.Hasher as Hasher
 use Rattle.xdr3.specs.Item.{Item}
 use Rattle.xdr3.specs.Visit.{Adds}
-use Rattle.capture3.specs.declared.entries.Entries.{Entries}
+use Rattle.capture3.specs.declared.reader.entries.Entries.{Entries}
 use Rattle.capture3.specs.declared.fault.Error.{Error}
 use Rattle.capture3.specs.declared.fault.Error.TheVariants as errors
 use Rattle.capture3.specs.declared.fault.Place.{Place}
-use Rattle.capture3.specs.Entries.{Answers, IsMetBy, StandsFor}
+use Rattle.capture3.specs.Entries.{IsMetBy}
+use Rattle.capture3.specs.Handing.{HandsOutGiven}
+use Rattle.capture3.specs.machinery.Entries.{StandsFor}
 use Rattle.capture3.specs.Entry.{Entry, items_of}
 use Rattle.capture3.specs.FirstFault.{FirstFault}
 use Rattle.capture3.specs.Reached.{Reached}
@@ -22,18 +24,20 @@ use Rattle.canon3.specs.declared.comparison.Finding.TheVariants as findings
 use Rattle.canon3.specs.declared.message_writer.MessageWriter.{MessageWriter}
 use Rattle.canon3.specs.declared.spelling.Spelling.{Spelling}
 use Rattle.canon3.specs.declared.progress.Progress.{Progress}
-use Rattle.capture3.specs.declared.entry.Kind.{Kind}
+use Rattle.capture3.specs.declared.reader.entry.Kind.{Kind}
 use Rattle.canon3.specs.declared.verdict.SameError.{SameError}
 use Rattle.canon3.specs.declared.verdict.Verdict.{Verdict}
 use Rattle.canon3.specs.declared.verdict.Verdict.TheVariants as verdicts
 use Rattle.canon3.specs.declared.verdict.Which.TheVariants.{First, Second}
-use Rattle.canon3.specs.Comparison.{Agree, Decides, HasGiven, HasGivenOn, HaveEnded, HaveParted, IsCompared, IsFound, IsReadAfter, IsReadOut, IsRefused, IsTold, Meets, met_second, PartWith, ReadsOn, StepsOn, Stops}
+use Rattle.canon3.specs.Comparison.{DecidesSame, StopsComparing}
+use Rattle.canon3.specs.machinery.Comparison.{Agree, HasGiven, HasGivenOn, HaveEnded, HaveParted, IsCompared, IsFound, IsReadAfter, IsReadOut, SaysOfFile, IsTold, Meets, met_second, PartWith, ReadsOn, StepsOn}
 use Rattle.canon3.specs.Laws.{AreFirst}
-use Rattle.canon3.specs.MessageWriter.{Before, behind, Stands, values_of}
+use Rattle.canon3.specs.machinery.MessageWriter.{Before, behind, WriterStands, values_of}
 use Rattle.canon3.specs.Renaming.{Same}
-use Rattle.canon3.specs.Spelling.{bytes_behind, HasSpelled, spelling_of}
+use Rattle.canon3.specs.machinery.Spelling.{bytes_behind, HasSpelled, spelling_of}
 use Rattle.capture3.specs.Kept.{IsOfKind}
-use Rattle.canon3.specs.Progress.{HasPassed, place_from, side_in}
+use Rattle.canon3.specs.Progress.{HasPassed}
+use Rattle.canon3.specs.machinery.Progress.{place_from, side_in}
 use Rattle.canon3.proofs.AgreementLemmas.{agree_more, differ_here, mark_alike, no_more, not_same, parting, place_there, typed_first}
 use Rattle.canon3.proofs.First.{same_from_bytes}
 use Rattle.canon3.proofs.Reaching.{first_reached}
@@ -64,15 +68,15 @@ abbrev pub with_second : {S H : Type 0} → Comparison S H → MessageWriter S H
 with_second comparison n = record { first = comparison.first; second = n; progress = comparison.progress }
 
 -- the items told stand after the values
-told : {S H : Type 0} (was now : MessageWriter S H) (before : Before) (items : List Item) → Adds Stands was now items → Stands was (behind before []) → Stands now (behind before items)
+told : {S H : Type 0} (was now : MessageWriter S H) (before : Before) (items : List Item) → Adds WriterStands was now items → WriterStands was (behind before []) → WriterStands now (behind before items)
 unfolding Adds
-told was now before items adds stands = subst (Stands now) (sym (behind-append before [] items)) (adds (behind before []) stands)
+told was now before items adds stands = subst (WriterStands now) (sym (behind-append before [] items)) (adds (behind before []) stands)
 
 module _ {S H : Type 0} (comparison : Comparison S H) (a b : List Entry) (n : MessageWriter S H) where
-  pub told_first : (items : List Item) → Adds Stands comparison.first n items → IsCompared comparison a b → IsTold (with_first comparison n) a b items []
+  pub told_first : (items : List Item) → Adds WriterStands comparison.first n items → IsCompared comparison a b → IsTold (with_first comparison n) a b items []
   told_first items adds c = record { agree = c.agree; first = told comparison.first n (values_of a) items adds c.first; second = c.second; progress = c.progress }
 
-  pub told_second : (items others : List Item) → Adds Stands comparison.second n others → IsTold comparison a b items [] → IsTold (with_second comparison n) a b items others
+  pub told_second : (items others : List Item) → Adds WriterStands comparison.second n others → IsTold comparison a b items [] → IsTold (with_second comparison n) a b items others
   told_second items others adds c = record { agree = c.agree; first = c.first; second = told comparison.second n (values_of b) others adds c.second; progress = c.progress }
 
 -- ---- what a reader answers
@@ -81,7 +85,7 @@ rest_of : (file given : List ℕ) (left : Option (List ℕ)) → Consumes (Some 
 rest_of file given None consumed = absurd consumed
 rest_of file given (Some rest) consumed = (rest, refl, consumed)
 
-pub met_refused : (file given : List ℕ) (handed : List Entry) (left : Option (List ℕ)) (error : Error) → Consumes (Some file) left given → IsMetBy error left given handed → IsRefused file error
+pub met_refused : (file given : List ℕ) (handed : List Entry) (left : Option (List ℕ)) (error : Error) → Consumes (Some file) left given → IsMetBy error left given handed → SaysOfFile file error
 met_refused file given handed left (errors.Refused fault) consumed met =
     let (rest, is, whole) = rest_of file given left consumed in
     ⊎_elim
@@ -99,13 +103,13 @@ all_typed file given handed left consumed ended typed =
     let all : given ≡ file = Consumes-all (Some file) left given [] given consumed ended refl in
     subst (λ (l : List ℕ). Typed l handed) all typed
 
-pub first_stops : (file other : List ℕ) (error : Error) → IsRefused file error → Stops file other error First
+pub first_stops : (file other : List ℕ) (error : Error) → SaysOfFile file error → StopsComparing file other error First
 first_stops file other (errors.Refused fault) met = met
 first_stops file other errors.Read met = tt
 first_stops file other errors.Write met = tt
 first_stops file other errors.Memory met = tt
 
-pub second_stops : (file other : List ℕ) (error : Error) → IsWellFormed file → IsRefused other error → Stops file other error Second
+pub second_stops : (file other : List ℕ) (error : Error) → IsWellFormed file → SaysOfFile other error → StopsComparing file other error Second
 second_stops file other (errors.Refused fault) whole met = (whole, met)
 second_stops file other errors.Read whole met = tt
 second_stops file other errors.Write whole met = tt
@@ -118,9 +122,9 @@ module _ {R S H V : Type 0} {builds : BuildHasher.Ghosts S H} {hashes : Hasher.G
   abbrev pub Hands : Result (Option Kind) Error → Type 0
   Hands (Ok (Some kind)) = (entry : Entry) × IsOfKind kind entry × AreFirst (handed ++ entry ∷ []) × (length (handed ++ entry ∷ []) < 2 ^ 32) × Adds stands was now (items_of entry) × HasGiven left file new (handed ++ entry ∷ [])
   Hands (Ok None) = Typed file handed × HasGiven left file new handed
-  Hands (Err error) = IsRefused file error
+  Hands (Err error) = SaysOfFile file error
 
-  pub hands : (h : HasGiven left file old handed) (result : Result (Option Kind) Error) → Answers left stands old new was now h.given handed result → Hands result
+  pub hands : (h : HasGiven left file old handed) (result : Result (Option Kind) Error) → HandsOutGiven left stands old new was now h.given handed result → Hands result
   hands h (Ok (Some kind)) a =
       let (entry, is, reached, adds, stands_for) = a.hands_out in
       let few : length (handed ++ entry ∷ []) < 2 ^ 32 = omega (arith, stands_for.few) in
@@ -140,9 +144,9 @@ module _ {R S H : Type 0} {builds : BuildHasher.Ghosts S H} {hashes : Hasher.Gho
   is_read_out false ends done = done
   is_read_out true ends done = absurd (cc)
 
-pub passed_on : (file : List ℕ) (handed : List Entry) (error : Error) (result : Result (Unit {0}) Error) → IsErr result × IsErrAnd result (λ e. e ≡ error) → IsRefused file error → IsReadOut file handed result
+pub passed_on : (file : List ℕ) (handed : List Entry) (error : Error) (result : Result (Unit {0}) Error) → IsErr result × IsErrAnd result (λ e. e ≡ error) → SaysOfFile file error → IsReadOut file handed result
 passed_on file handed error (Ok x) (bad, is) met = absurd is
-passed_on file handed error (Err e) (bad, is) met = subst (IsRefused file) (sym is) met
+passed_on file handed error (Err e) (bad, is) met = subst (SaysOfFile file) (sym is) met
 
 -- a new reader
 pub fresh : {R S H : Type 0} {builds : BuildHasher.Ghosts S H} {hashes : Hasher.Ghosts H} (left : R → Option (List ℕ)) (file : List ℕ) (reader : Entries R S H builds hashes) → left reader.source.now ≡ Some file → StandsFor left reader [] [] → HasGiven left file reader []
@@ -154,7 +158,7 @@ pub turned : (a b : List Entry) → Agree a b → Agree b a
 turned a b g = record { many = sym g.many; bytes = sym g.bytes }
 
 module _ {R S H : Type 0} {builds : BuildHasher.Ghosts S H} {hashes : Hasher.Ghosts H} (left : R → Option (List ℕ)) (file other : List ℕ) (reader : Entries R S H builds hashes) (comparison : Comparison S H) (a b : List Entry) (e : Entry) where
-  pub refused_meets : (error : Error) → IsRefused other error → Meets left file other reader comparison a b e (met_second error)
+  pub refused_meets : (error : Error) → SaysOfFile other error → Meets left file other reader comparison a b e (met_second error)
   refused_meets (errors.Refused fault) met = met
   refused_meets errors.Read met = tt
   refused_meets errors.Write met = tt
@@ -181,7 +185,7 @@ module _ {A B S H : Type 0} {builds : BuildHasher.Ghosts S H} {hashes : Hasher.G
   first_of (findings.Refused fault) found = found.0
 
   -- the second has no more either
-  pub ended_decides : (h : HaveEnded left left_other file other first second) (result : Result Verdict SameError) → IsReadAfter other h.b verdicts.Same result → Decides file other result
+  pub ended_decides : (h : HaveEnded left left_other file other first second) (result : Result Verdict SameError) → IsReadAfter other h.b verdicts.Same result → DecidesSame file other result
   ended_decides h (Ok answer) (same, more, typed) =
       let none : more ≡ [] = no_more file h.a h.b more h.typed (typed_first other (h.b ++ more) [] (subst (Typed other) (sym (append-nil (h.b ++ more))) typed)) h.agree in
       let whole : Typed other h.b = subst (Typed other) (ap (λ (l : List Entry). h.b ++ l) none ∙ append-nil h.b) typed in
@@ -189,7 +193,7 @@ module _ {A B S H : Type 0} {builds : BuildHasher.Ghosts S H} {hashes : Hasher.G
       rw same (h.a, h.b, h.typed, whole, alike)
   ended_decides h (Err error) (is, met) = rw is (second_stops file other error.error (h.a, h.typed) met)
 
-  pub parted_decides : (place : Place) (h : HaveParted left left_other file other first second place) (result : Result Verdict SameError) → (more : List Entry) × Typed file ((h.a ++ h.e ∷ []) ++ more) → IsReadAfter other (h.b ++ h.f ∷ []) (verdicts.Differ place) result → Decides file other result
+  pub parted_decides : (place : Place) (h : HaveParted left left_other file other first second place) (result : Result Verdict SameError) → (more : List Entry) × Typed file ((h.a ++ h.e ∷ []) ++ more) → IsReadAfter other (h.b ++ h.f ∷ []) (verdicts.Differ place) result → DecidesSame file other result
   parted_decides place h (Ok answer) (more, typed) (same, rest, other_typed) =
       rw same ((h.a ++ h.e ∷ []) ++ more, (h.b ++ h.f ∷ []) ++ rest, typed, other_typed, not_same file other h.a h.b h.e h.f more rest place h.parts typed other_typed, parting file other h.a h.b h.e h.f more rest place h.parts typed other_typed)
   parted_decides place h (Err error) (more, typed) (is, met) = rw is (second_stops file other error.error ((h.a ++ h.e ∷ []) ++ more, typed) met)

@@ -9,7 +9,7 @@ use Rattle.record_mark.specs.RecordMark.{max_body, IsFragment, IsRecord, Marks}
 use Rattle.record_mark.specs.Word.{Joins}
 use Rattle.record_mark.proofs.Steps.{IsWord-big_bytes, heads, one_fragment}
 use Rattle.capture3.specs.Bodies.{ReplyItems, IsCall, IsReply}
-use Rattle.capture3.specs.Capture.{Streams}
+use Rattle.capture3.specs.SidedChunks.{Streams}
 use Rattle.capture3.specs.Chunks.{IsChunk, IsStream}
 use Rattle.capture3.specs.Typed.{AreEach, IsIn, HaveOneProcedure, AnswerCalls}
 use Rattle.canon3.specs.Bytes.{record_bytes, chunk_bytes, message_bytes}

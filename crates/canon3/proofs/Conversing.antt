@@ -9,7 +9,7 @@ use Rattle.xdr3.proofs.Items.{length_of_spelling}
 use Rattle.xdr3.proofs.Decided.{zero_spelled_all}
 use Rattle.rpc_head.specs.Messages.{procedure_in}
 use Rattle.capture3.specs.Bodies.{ReplyItems, IsCall, IsReply, xid_in}
-use Rattle.capture3.specs.Capture.{Streams, size}
+use Rattle.capture3.specs.SidedChunks.{Streams, size}
 use Rattle.capture3.specs.Typed.{AreEach, IsIn, HaveOneProcedure, AnswerCalls, Converses}
 use Rattle.canon3.specs.Values.{xid_of}
 use Rattle.canon3.specs.Bytes.{record_bytes}

@@ -6,15 +6,17 @@ use Rattle.std.proofs.KnownBytes.{Appends-nil, Consumes-nil}
 use Rattle.std.specs.declared.hash.BuildHasher as BuildHasher
 use Rattle.std.specs.declared.hash.Hasher as Hasher
 use Rattle.xdr3.specs.Item.{Item}
-use Rattle.capture3.specs.declared.entries.Entries.{Entries}
+use Rattle.capture3.specs.declared.reader.entries.Entries.{Entries}
 use Rattle.capture3.specs.declared.fault.Error.{Error}
 use Rattle.capture3.specs.declared.fault.Error.TheVariants as errors
-use Rattle.capture3.specs.Entries.{AreFirstReached, IsMetBy, StandsFor}
+use Rattle.capture3.specs.Entries.{IsMetBy}
+use Rattle.capture3.specs.machinery.Entries.{StandsFor}
 use Rattle.capture3.specs.Entry.{Entry}
-use Rattle.capture3.specs.Reached.{Reached}
+use Rattle.capture3.specs.Reached.{AreFirstReached, Reached}
 use Rattle.capture3.proofs.Emits.{reached_by_machine}
 use Rattle.canon3.specs.declared.passed.Passed.{Passed}
-use Rattle.canon3.specs.EntryWriter.{GoesOn, HasMore, IsDone, IsStoppedBy, KeepsPrefixes, WritesGiven}
+use Rattle.canon3.specs.EntryWriter.{IsStoppedBy, KeepsPrefixes, WritesGiven}
+use Rattle.canon3.specs.machinery.EntryWriter.{WritesOn, HasMore, HasWrittenAll}
 use Rattle.canon3.specs.WriteErrors.{IsOfWriting}
 use Rattle.canon3.specs.SinkWrites.{AppendsFront}
 use Rattle.canon3.proofs.Reaching.{reached_first}
@@ -44,7 +46,7 @@ module _ (form : List Entry → List ℕ) (prefixes : KeepsPrefixes form) where
     -- an entry was handed out and written, or cut
     pub written_goes_on : (given : List ℕ) (handed : List Entry) (one : Entry) (result : Result Bool Error) → IfOk result IsTrue → IfErr result IsOfWriting
         → Consumes first (left reader.source.now) given → AreFirstReached given (handed ++ one ∷ []) → StandsFor left reader given (handed ++ one ∷ [])
-        → HasMore form before stands going writer passed old new (handed ++ one ∷ []) result → GoesOn form before stands going left first old reader writer passed new result
+        → HasMore form before stands going writer passed old new (handed ++ one ∷ []) result → WritesOn form before stands going left first old reader writer passed new result
     written_goes_on given handed one (Ok true) more error consumed reached reads writes = record { given = given; handed = handed ++ one ∷ []; consumed = consumed; reads = reads; writes = writes }
     written_goes_on given handed one (Ok false) more error consumed reached reads writes = absurd (cc)
     written_goes_on given handed one (Err errors.Memory) more error consumed reached reads cut = record { given = given; consumed = consumed; stopped = cut_reached old new given (handed ++ one ∷ []) reached cut }
@@ -52,6 +54,6 @@ module _ (form : List Entry → List ℕ) (prefixes : KeepsPrefixes form) where
     written_goes_on given handed one (Err errors.Read) more error consumed reached reads cut = ⊎_elim (λ e. absurd (cc)) (λ e. absurd (cc)) error
     written_goes_on given handed one (Err (errors.Refused fault)) more error consumed reached reads cut = ⊎_elim (λ e. absurd (cc)) (λ e. absurd (cc)) error
 
-    pub is_done : (more : Bool) → more ≡ false → GoesOn form before stands going left first old reader writer passed new (Ok more) → IsDone form before stands going left first old reader writer passed new
+    pub is_done : (more : Bool) → more ≡ false → WritesOn form before stands going left first old reader writer passed new (Ok more) → HasWrittenAll form before stands going left first old reader writer passed new
     is_done false ends done = done
     is_done true ends done = absurd (cc)

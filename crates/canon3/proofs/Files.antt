@@ -7,7 +7,8 @@ use Rattle.xdr3.specs.Item.{Item, word_bytes}
 use Rattle.record_mark.specs.Word.{Joins}
 use Rattle.record_mark.proofs.Steps.{IsWord-big_bytes}
 use Rattle.capture3.specs.Bodies.{ReplyItems}
-use Rattle.capture3.specs.Capture.{One, magic, max_connections, Streams, total_size, IsConnection}
+use Rattle.capture3.specs.Capture.{One, magic, max_connections, total_size, IsConnection}
+use Rattle.capture3.specs.SidedChunks.{Streams}
 use Rattle.capture3.specs.Chunks.{max_bytes}
 use Rattle.capture3.specs.Entry.{Entry, Begin, Call, Turn, Reply, Close, End}
 use Rattle.capture3.specs.Typed.{reply_entry, connection_entries, HaveEntries, Typed}

@@ -7,11 +7,12 @@ use Rattle.capture3.specs.Capture.{One, magic}
 use Rattle.capture3.specs.Entry.{Entry, Begin, Call, Turn, Reply, Close, End, items_of}
 use Rattle.canon3.specs.Bytes.{bytes_of, entry_bytes}
 use Rattle.canon3.specs.Canonical.{canonical, numbered}
-use Rattle.canon3.specs.CanonicalStream.{entries_after, open_xids}
+use Rattle.canon3.specs.CanonicalStream.{entries_after}
+use Rattle.canon3.specs.machinery.CanonicalStream.{open_xids}
 use Rattle.canon3.specs.Laws.{AreFirst}
-use Rattle.canon3.specs.CanonicalForm.{are_some, magic_unless}
+use Rattle.canon3.specs.machinery.CanonicalForm.{are_some, magic_unless}
 use Rattle.canon3.specs.Values.{handles, handles_in, verifiers, verifiers_in, xid_of}
-use Rattle.canon3.specs.Spelling.{bytes_behind}
+use Rattle.canon3.specs.machinery.Spelling.{bytes_behind}
 use Rattle.canon3.proofs.First.{first_in_order}
 use Rattle.canon3.proofs.CanonicalStreamLemmas.{canonical-after, entries_after-append}
 use Rattle.canon3.proofs.Nesting.{Paired, paired}

@@ -12,11 +12,11 @@ use Rattle.xdr3.specs.Visit.{AreWithinLimit}
 use Rattle.xdr3.proofs.Items.{length_of_spelling}
 use Rattle.record_mark.specs.RecordMark.{max_body}
 use Rattle.nfs3_types.specs.declared.handle.Handle as handles
-use Rattle.nfs3_types.specs.Handle.{bytes_of}
+use Rattle.nfs3_types.specs.Handle.{handle_bytes}
 use Rattle.capture3.specs.Entry.{Entry, items_of}
 use Rattle.canon3.specs.HandleTable.{Gathers, same_handle}
-use Rattle.canon3.specs.Rank.{before, distinct, rank, with_key, with_keys, StandsFor}
-use Rattle.canon3.specs.Summary.{all_items}
+use Rattle.canon3.specs.Rank.{before, distinct, rank, with_key, with_keys, HoldsDistinct}
+use Rattle.canon3.specs.machinery.Summary.{all_items}
 use Rattle.canon3.specs.Values.{handle_in, handles, handles_in}
 
 -- ---- distinct ones by what they hold
@@ -66,20 +66,20 @@ none_in_run [] run = refl
 none_in_run (fields.Word name ∷ all) run = none_in_run all (drop 4 run)
 none_in_run (fields.Hyper name ∷ all) run = none_in_run all (drop 8 run)
 
-pub gathers_one : (old new : List handles.Handle) (handle : handles.Handle) (name bytes : List ℕ) (items : List Item) → bytes_of handle ≡ bytes → bytes ≢ []
-    → ((given : List handles.Handle) → StandsFor same_handle old given → StandsFor same_handle new (given ++ handle ∷ []))
+pub gathers_one : (old new : List handles.Handle) (handle : handles.Handle) (name bytes : List ℕ) (items : List Item) → handle_bytes handle ≡ bytes → bytes ≢ []
+    → ((given : List handles.Handle) → HoldsDistinct same_handle old given → HoldsDistinct same_handle new (given ++ handle ∷ []))
     → Gathers old items → Gathers new (items ++ Opaque Handle name bytes ∷ [])
 gathers_one old new handle name [] items is some step g = absurd (some refl)
 gathers_one old new handle name (b ∷ bs) items is some step (given, stands, are) = (
   given ++ handle ∷ [],
   step given stands,
-  map-append bytes_of given (handle ∷ []) ∙ ap (λ (l : List (List ℕ)). l ++ bytes_of handle ∷ []) are ∙ ap (λ (x : List ℕ). handles_in items ++ x ∷ []) is
+  map-append handle_bytes given (handle ∷ []) ∙ ap (λ (l : List (List ℕ)). l ++ handle_bytes handle ∷ []) are ∙ ap (λ (x : List ℕ). handles_in items ++ x ∷ []) is
       ∙ sym (flat_map-append handle_in items (Opaque Handle name (b ∷ bs) ∷ [])),
 )
 
 -- as many handles as bytes of them
-pub distinct_held : {hs : List (List ℕ)} (given : List handles.Handle) → map bytes_of given ≡ hs → length (distinct same_handle given) ≡ length (distinct bytes_eq hs)
-distinct_held given are = distinct_mapped bytes_eq bytes_of given ∙ ap (λ (l : List (List ℕ)). length (distinct bytes_eq l)) are
+pub distinct_held : {hs : List (List ℕ)} (given : List handles.Handle) → map handle_bytes given ≡ hs → length (distinct same_handle given) ≡ length (distinct bytes_eq hs)
+distinct_held given are = distinct_mapped bytes_eq handle_bytes given ∙ ap (λ (l : List (List ℕ)). length (distinct bytes_eq l)) are
 
 pub count_gathered : (table : List handles.Handle) (items : List Item) (g : Gathers table items) → length (distinct same_handle g.0) ≡ length (distinct bytes_eq (handles_in items))
 count_gathered table items (given, stands, are) = distinct_held given are

@@ -9,7 +9,7 @@ use Rattle.xdr3.specs.Item.{Item, Word, Hyper, Fixed, WriteVerf, Opaque, Rest, V
 use Rattle.xdr3.specs.Shape.{Shape, both, nothing, opaque, word, listed, Fits}
 use Rattle.xdr3.specs.Layout.{Layout, exactly, after, FitsLayout, number_of_word, word_in}
 use Rattle.rpc_head.specs.declared.call.ProcId.{ProcId}
-use Rattle.rpc_head.specs.Names.{names}
+use Rattle.rpc_head.specs.Names.{head_names}
 use Rattle.rpc_head.specs.Messages.{procedure_in, call_start, reply_start, call_layout, reply_layout, has_results}
 use Rattle.rpc_head.specs.Shapes.{◌then◌, call_head, reply_head, credential, auth_sys, parameters, gids, verifier, accept, deny, versions, auth_stats}
 use Rattle.procs3.specs.Table.{arguments_of, results_of}
@@ -49,7 +49,7 @@ auth_sys_room = (parameters_no_name, parameters_room)
 
 credential_room : HasRoom credential
 unfolding credential
-credential_room = λ n. room_if (nat_eq n 0) (opaque Var names.cred_body 400) auth_sys tt auth_sys_room
+credential_room = λ n. room_if (nat_eq n 0) (opaque Var head_names.cred_body 400) auth_sys tt auth_sys_room
 
 call_head_room : HasRoom call_head
 unfolding call_head
@@ -61,7 +61,7 @@ accept_room = λ n. room_if (nat_eq n 2) versions nothing ((λ m. tt), (λ m. tt
 
 deny_room : HasRoom deny
 unfolding deny
-deny_room = λ n. room_if (nat_eq n 0) versions (listed names.auth_stat auth_stats) ((λ m. tt), (λ m. tt)) (λ m. tt)
+deny_room = λ n. room_if (nat_eq n 0) versions (listed head_names.auth_stat auth_stats) ((λ m. tt), (λ m. tt)) (λ m. tt)
 
 reply_head_room : HasRoom reply_head
 unfolding reply_head
@@ -163,13 +163,13 @@ abbrev pub call_next : List Item → Layout
 call_next items = arguments_of (procedure_in items)
 
 abbrev pub IsHeadedCall : List Item → Type 0
-IsHeadedCall items = IsHeaded names.xid (listed names.mtype (0 ∷ [])) call_head call_next items
+IsHeadedCall items = IsHeaded head_names.xid (listed head_names.mtype (0 ∷ [])) call_head call_next items
 
 abbrev pub reply_next : ProcId → List Item → Layout
 reply_next id items = if has_results items then results_of id else exactly nothing
 
 abbrev pub IsHeadedReply : ProcId → List Item → Type 0
-IsHeadedReply id items = IsHeaded names.xid (listed names.mtype (1 ∷ [])) reply_head (reply_next id) items
+IsHeadedReply id items = IsHeaded head_names.xid (listed head_names.mtype (1 ∷ [])) reply_head (reply_next id) items
 
 abbrev pub FitsCall : List Item → Type 0
 FitsCall items = FitsLayout (call_layout arguments_of) items
@@ -179,43 +179,43 @@ FitsReply id items = FitsLayout (reply_layout (results_of id)) items
 
 pub is_headed_call : (items : List Item) → FitsCall items → IsHeadedCall items
 unfolding call_layout call_start
-is_headed_call items p = is_headed names.xid (listed names.mtype (0 ∷ [])) call_head call_next items p
+is_headed_call items p = is_headed head_names.xid (listed head_names.mtype (0 ∷ [])) call_head call_next items p
 
 pub headed_call_fits : (items : List Item) → IsHeadedCall items → FitsCall items
 unfolding call_layout call_start
-headed_call_fits items p = headed_fits names.xid (listed names.mtype (0 ∷ [])) call_head call_next items p
+headed_call_fits items p = headed_fits head_names.xid (listed head_names.mtype (0 ∷ [])) call_head call_next items p
 
 pub is_headed_reply : (id : ProcId) (items : List Item) → FitsReply id items → IsHeadedReply id items
 unfolding reply_layout reply_start
-is_headed_reply id items p = is_headed names.xid (listed names.mtype (1 ∷ [])) reply_head (reply_next id) items p
+is_headed_reply id items p = is_headed head_names.xid (listed head_names.mtype (1 ∷ [])) reply_head (reply_next id) items p
 
 pub headed_reply_fits : (id : ProcId) (items : List Item) → IsHeadedReply id items → FitsReply id items
 unfolding reply_layout reply_start
-headed_reply_fits id items p = headed_fits names.xid (listed names.mtype (1 ∷ [])) reply_head (reply_next id) items p
+headed_reply_fits id items p = headed_fits head_names.xid (listed head_names.mtype (1 ∷ [])) reply_head (reply_next id) items p
 
-procedure_under : (hs vs : List (List ℕ)) (m n : ℕ) (l : List Item) → procedure_in (Word names.xid m ∷ map (numbered_item hs vs) l) ≡ procedure_in (Word names.xid n ∷ l)
+procedure_under : (hs vs : List (List ℕ)) (m n : ℕ) (l : List Item) → procedure_in (Word head_names.xid m ∷ map (numbered_item hs vs) l) ≡ procedure_in (Word head_names.xid n ∷ l)
 procedure_under hs vs m n l = rw (words_under hs vs l 2, words_under hs vs l 3, words_under hs vs l 4) refl
 
-results_under : (hs vs : List (List ℕ)) (m n : ℕ) (l : List Item) → has_results (Word names.xid m ∷ map (numbered_item hs vs) l) ≡ has_results (Word names.xid n ∷ l)
+results_under : (hs vs : List (List ℕ)) (m n : ℕ) (l : List Item) → has_results (Word head_names.xid m ∷ map (numbered_item hs vs) l) ≡ has_results (Word head_names.xid n ∷ l)
 results_under hs vs m n l = rw (words_under hs vs l 1, words_under hs vs l 4) refl
 
 pub call_numbered : (hs vs : List (List ℕ)) (xs : List ℕ) (items : List Item) → FitsCall items → FitsCall (numbered_message hs vs xs items)
 call_numbered hs vs xs items p =
     headed_call_fits (numbered_message hs vs xs items)
-    (headed_numbered names.xid (listed names.mtype (0 ∷ [])) call_head call_next hs vs xs items (λ n. tt) call_head_room (λ l. arguments_have_room (procedure_in l)) (λ m n l. ap arguments_of (procedure_under hs vs m n l)) (is_headed_call items p))
+    (headed_numbered head_names.xid (listed head_names.mtype (0 ∷ [])) call_head call_next hs vs xs items (λ n. tt) call_head_room (λ l. arguments_have_room (procedure_in l)) (λ m n l. ap arguments_of (procedure_under hs vs m n l)) (is_headed_call items p))
 
 pub reply_numbered : (hs vs : List (List ℕ)) (xs : List ℕ) (id : ProcId) (items : List Item) → FitsReply id items → FitsReply id (numbered_message hs vs xs items)
 reply_numbered hs vs xs id items p =
     headed_reply_fits id (numbered_message hs vs xs items)
-    (headed_numbered names.xid (listed names.mtype (1 ∷ [])) reply_head (reply_next id) hs vs xs items (λ n. tt) reply_head_room
+    (headed_numbered head_names.xid (listed head_names.mtype (1 ∷ [])) reply_head (reply_next id) hs vs xs items (λ n. tt) reply_head_room
     (λ l. layout_room_if (has_results l) (results_of id) (exactly nothing) (results_have_room id) tt) (λ m n l. ap (λ b. if b then results_of id else exactly nothing) (results_under hs vs m n l)) (is_headed_reply id items p))
 
 pub call_short : (items : List Item) → FitsCall items → AllByRecursion IsShort items
-call_short items p = headed_short names.xid (listed names.mtype (0 ∷ [])) call_head call_next items (λ n. tt) call_head_room (λ l. arguments_have_room (procedure_in l)) (is_headed_call items p)
+call_short items p = headed_short head_names.xid (listed head_names.mtype (0 ∷ [])) call_head call_next items (λ n. tt) call_head_room (λ l. arguments_have_room (procedure_in l)) (is_headed_call items p)
 
 pub reply_short : (id : ProcId) (items : List Item) → FitsReply id items → AllByRecursion IsShort items
 reply_short id items p =
-    headed_short names.xid (listed names.mtype (1 ∷ [])) reply_head (reply_next id) items (λ n. tt) reply_head_room (λ l. layout_room_if (has_results l) (results_of id) (exactly nothing) (results_have_room id) tt) (is_headed_reply id items p)
+    headed_short head_names.xid (listed head_names.mtype (1 ∷ [])) reply_head (reply_next id) items (λ n. tt) reply_head_room (λ l. layout_room_if (has_results l) (results_of id) (exactly nothing) (results_have_room id) tt) (is_headed_reply id items p)
 
 -- ---- what begins with a word
 
@@ -227,10 +227,10 @@ pub record BeginsWithWord (items : List Item) : Type 0 where
   pub is : items ≡ Word name number ∷ more
 
 pub call_begins : (items : List Item) → FitsCall items → BeginsWithWord items
-call_begins items p = let h = is_headed_call items p in record { name = names.xid; number = h.number; more = (h.start ++ h.head) ++ h.back; is = h.is }
+call_begins items p = let h = is_headed_call items p in record { name = head_names.xid; number = h.number; more = (h.start ++ h.head) ++ h.back; is = h.is }
 
 pub reply_begins : (id : ProcId) (items : List Item) → FitsReply id items → BeginsWithWord items
-reply_begins id items p = let h = is_headed_reply id items p in record { name = names.xid; number = h.number; more = (h.start ++ h.head) ++ h.back; is = h.is }
+reply_begins id items p = let h = is_headed_reply id items p in record { name = head_names.xid; number = h.number; more = (h.start ++ h.head) ++ h.back; is = h.is }
 
 pub xid_numbered : (hs vs : List (List ℕ)) (xs : List ℕ) (items : List Item) → BeginsWithWord items → word_in (numbered_message hs vs xs items) 0 ≡ rank nat_eq (word_in items 0) xs
 xid_numbered hs vs xs items b = rw b.is refl

@@ -8,41 +8,41 @@ use Rattle.canon3.specs.declared.message_writer.MessageWriter.{MessageWriter}
 use Rattle.canon3.specs.declared.message_writer.Stage.TheVariants.{Begins}
 use Rattle.canon3.specs.CanonicalStream.{items_after, message_after}
 use Rattle.canon3.specs.HandleTable.{HoldsHandles}
-use Rattle.canon3.specs.MessageWriter.{AreFew, Before, behind, Holds, IsGoing, IsUnderWay, Stands}
+use Rattle.canon3.specs.machinery.MessageWriter.{AreFew, Before, behind, HoldsBefore, IsGoing, IsWithinMessage, WriterStands}
 use Rattle.canon3.specs.Pairing.{Member, here, there}
-use Rattle.canon3.specs.Rank.{distinct, StandsFor}
+use Rattle.canon3.specs.Rank.{distinct, HoldsDistinct}
 use Rattle.canon3.specs.Values.{handles_in, verifiers_in}
 use Rattle.canon3.proofs.RankLemmas.{any-distinct, distinct-push, equivalence, itself, rank-append}
 use Rattle.canon3.proofs.Visiting.{behind-same}
 
 module _ {S H : Type 0} (n : MessageWriter S H) (before : Before) where
   -- the tables hold what was there before, and no message is begun
-  pub begins : Holds n before → n.stage ≡ Begins → n.writer ≡ [] → Stands n (behind before [])
+  pub begins : HoldsBefore n before → n.stage ≡ Begins → n.writer ≡ [] → WriterStands n (behind before [])
   begins h stage none going = record {
     before = before;
     items = [];
     are = refl;
     under_way = record {
       handles = subst (HoldsHandles n.handles) (sym (append-nil before.handles)) h.handles;
-      verifiers = subst (StandsFor bytes_eq n.verfs) (sym (append-nil before.verifiers)) h.verifiers;
+      verifiers = subst (HoldsDistinct bytes_eq n.verfs) (sym (append-nil before.verifiers)) h.verifiers;
       spelled = (stage, h.xids, none);
     };
   }
 
-  pub is_under_way : (items : List Item) → IsGoing n → Stands n (behind before items) → IsUnderWay n before items
+  pub is_under_way : (items : List Item) → IsGoing n → WriterStands n (behind before items) → IsWithinMessage n before items
   is_under_way items going stands =
       let b = stands going in
       let same = behind-same before b.before items b.items b.are in
-      subst (λ k. IsUnderWay n k items) (sym same.0) (subst (IsUnderWay n b.before) (sym same.1) b.under_way)
+      subst (λ k. IsWithinMessage n k items) (sym same.0) (subst (IsWithinMessage n b.before) (sym same.1) b.under_way)
 
   -- ---- no message
 
-  pub nothing_held : IsGoing n → Stands n (behind before []) → Holds n before
+  pub nothing_held : IsGoing n → WriterStands n (behind before []) → HoldsBefore n before
   nothing_held going stands =
       let u = is_under_way [] going stands in
       record {
         handles = subst (HoldsHandles n.handles) (append-nil before.handles) u.handles;
-        verifiers = subst (StandsFor bytes_eq n.verfs) (append-nil before.verifiers) u.verifiers;
+        verifiers = subst (HoldsDistinct bytes_eq n.verfs) (append-nil before.verifiers) u.verifiers;
         xids = u.spelled.1;
       }
 
@@ -58,10 +58,10 @@ module _ {S H : Type 0} (n : MessageWriter S H) (before : Before) where
         AreFew (before.handles ++ handles_in (Word name xid ∷ rest)) (before.verifiers ++ verifiers_in (Word name xid ∷ rest)) → length xs < 2 ^ 32
         → n.writer ≡ zero_spelling (message_after before.handles before.verifiers xs (Word name xid ∷ rest))
 
-    pub call_held : IsUnderWay n before (Word name xid ∷ rest) → Holds n (after (before.xids ++ xid ∷ []))
+    pub call_held : IsWithinMessage n before (Word name xid ∷ rest) → HoldsBefore n (after (before.xids ++ xid ∷ []))
     call_held u = record { handles = u.handles; verifiers = u.verifiers; xids = u.spelled.1 }
 
-    pub call_written : IsUnderWay n before (Word name xid ∷ rest) → IsSpelledWith (before.xids ++ xid ∷ [])
+    pub call_written : IsWithinMessage n before (Word name xid ∷ rest) → IsSpelledWith (before.xids ++ xid ∷ [])
     call_written u = u.spelled.2
 
     -- ---- a reply, whose xid was there before
@@ -80,9 +80,9 @@ module _ {S H : Type 0} (n : MessageWriter S H) (before : Before) where
         let laws = equivalence nat_eq Decides-eqb in
         distinct-push nat_eq laws xid xs ∙ rw (any-distinct nat_eq laws xid xs [] (any_member m)) refl
 
-    pub reply_held : Member xid before.xids → IsUnderWay n before (Word name xid ∷ rest) → Holds n (after before.xids)
+    pub reply_held : Member xid before.xids → IsWithinMessage n before (Word name xid ∷ rest) → HoldsBefore n (after before.xids)
     reply_held m u = record { handles = u.handles; verifiers = u.verifiers; xids = u.spelled.1 ∙ distinct_again before.xids m }
 
-    pub reply_written : Member xid before.xids → length (before.xids ++ xid ∷ []) < 2 ^ 32 → IsUnderWay n before (Word name xid ∷ rest) → IsSpelledWith before.xids
+    pub reply_written : Member xid before.xids → length (before.xids ++ xid ∷ []) < 2 ^ 32 → IsWithinMessage n before (Word name xid ∷ rest) → IsSpelledWith before.xids
     reply_written m room u few fewer =
         u.spelled.2 few room ∙ ap (λ k. zero_spelling (Word name k ∷ items_after before.handles before.verifiers rest)) (rank-append nat_eq Decides-eqb (xid ∷ []) m)

@@ -11,7 +11,8 @@ use Rattle.capture3.specs.declared.fault.Side.TheVariants.{Client, Server}
 use Rattle.capture3.specs.declared.fault.Place.{Place}
 use Rattle.canon3.specs.Bytes.{bytes_of}
 use Rattle.canon3.specs.Canonical.{canonical}
-use Rattle.canon3.specs.CanonicalStream.{entries_after, open_xids}
+use Rattle.canon3.specs.CanonicalStream.{entries_after}
+use Rattle.canon3.specs.machinery.CanonicalStream.{open_xids}
 use Rattle.canon3.specs.Values.{handles, verifiers}
 use Rattle.canon3.specs.Renaming.{Same, ended}
 use Rattle.canon3.specs.Parting.{IsMessageOf, IsPlaceOf, first_message, second_message, first_ends, second_ends, next_record, PartsAt, Parting}

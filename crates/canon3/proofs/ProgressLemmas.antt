@@ -6,10 +6,11 @@ use Rattle.capture3.specs.declared.fault.Place.{Place}
 use Rattle.capture3.specs.declared.fault.Place.TheVariants as places
 use Rattle.capture3.specs.Entry.{Entry, Begin, Call, Turn, Reply, Close, End}
 use Rattle.canon3.specs.declared.progress.Progress.{Progress}
-use Rattle.capture3.specs.declared.entry.Kind.{Kind}
-use Rattle.capture3.specs.declared.entry.Kind.TheVariants as kinds
+use Rattle.capture3.specs.declared.reader.entry.Kind.{Kind}
+use Rattle.capture3.specs.declared.reader.entry.Kind.TheVariants as kinds
 use Rattle.canon3.specs.Parting.{connections, records_after, IsMessageOf, IsPlaceOf, first_message, second_message, first_ends, second_ends, next_record}
-use Rattle.canon3.specs.Progress.{HasPassed, place_from, progress_after, side_in, side_of_kind}
+use Rattle.canon3.specs.Progress.{HasPassed}
+use Rattle.canon3.specs.machinery.Progress.{place_from, progress_after, side_in, side_of_kind}
 use Rattle.capture3.specs.Kept.{IsOfKind}
 
 -- ---- one entry more

@@ -2,14 +2,15 @@
 use Rattle.std.proofs.Common.{◌≡◌, inl, inr, ℕ, ◌+◌, ◌<◌, ◌≤◌, List, [], ◌∷◌, ◌++◌, length, map, refl, sym, ap, ◌∙◌, subst, arith, append_assoc, append-nil, length-append}
 use Rattle.xdr3.specs.Item.{Item}
 use Rattle.capture3.specs.Bodies.{ReplyItems}
-use Rattle.capture3.specs.Capture.{Version, One, Streams, size, total_size, max_connections}
+use Rattle.capture3.specs.Capture.{Version, One, Two, total_size, max_connections}
+use Rattle.capture3.specs.SidedChunks.{Streams, size, BeginsMixed}
 use Rattle.capture3.specs.Chunks.{max_bytes}
-use Rattle.capture3.specs.Entries.{AreFirstReached}
 use Rattle.capture3.specs.Entry.{Entry, Begin, Call, Turn, Close, End}
-use Rattle.capture3.specs.Reached.{AreWhole, InMagic, BetweenConnections, InConnection, Reached, ReachesInside}
+use Rattle.capture3.specs.Reached.{AreFirstReached, AreWhole, InMagic, BetweenConnections, InConnection, Reached, ReachesInside}
 use Rattle.capture3.specs.Typed.{Converses, HaveEntries, connection_entries, reply_entry}
 use Rattle.capture3.proofs.Converses.{conversed}
-use Rattle.capture3.proofs.Limits.{begun_size, longest_more}
+use Rattle.capture3.proofs.Limits.{begun_size, IsBehind}
+use Rattle.capture3.proofs.Behind.{reached_more}
 use Rattle.canon3.specs.Bytes.{bytes_of}
 use Rattle.canon3.specs.Laws.{AreFirst}
 use Rattle.canon3.proofs.Conversations.{AreConversing, Conversation, weight}
@@ -51,6 +52,11 @@ open_first connections before streams calls replies entries rest messages conver
     ∙ ap (λ (l : List Entry). before ++ l) (ap (λ (l : List Entry). l ++ End ∷ []) split ∙ append_assoc entries rest (End ∷ []))
     ∙ sym (append_assoc before entries (rest ++ End ∷ [])))
 
+mixed_fits : (before : ℕ) (bytes : List ℕ) → BeginsMixed before bytes → before ≤ max_bytes
+mixed_fits before bytes (inl b) = omega (arith, b.fits)
+mixed_fits before bytes (inr (inl b)) = omega (arith, b.fits)
+mixed_fits before bytes (inr (inr b)) = omega (arith, b.fits)
+
 inside_first : (version : Version) (connections : List Streams) (before : List Entry) (bytes : List ℕ) (more : List Entry) → HaveEntries connections before → length connections < max_connections → ReachesInside version (total_size connections) bytes more → AreFirst (before ++ more)
 inside_first One connections before bytes more messages few (inl r) =
     let streams : Streams = record { client = r.holds.front; server = [] } in
@@ -64,6 +70,11 @@ inside_first One connections before bytes more messages few (inr r) =
     let replies : List Entry = Turn ∷ map reply_entry r.replies in
     subst (λ (l : List Entry). AreFirst (before ++ l)) (sym r.entries_are)
     (open_first connections before streams r.calls r.replies (calls ++ replies) (Close ∷ []) messages (conversed streams r.calls r.replies r.holds r.answers.holds) few fits refl)
+inside_first Two connections before bytes more messages few (begins, is) =
+    let streams : Streams = record { client = []; server = [] } in
+    let fits : total_size connections + size streams ≤ max_bytes = omega (arith, mixed_fits (total_size connections) bytes begins) in
+    subst (λ (l : List Entry). AreFirst (before ++ l)) (sym is)
+    (open_first connections before streams [] [] (Begin ∷ []) (Turn ∷ Close ∷ []) messages (conversed streams [] [] ([], refl, refl) ([], refl, refl)) few fits refl)
 
 -- ---- a file
 
@@ -79,7 +90,10 @@ pub reached_first : (bytes : List ℕ) (entries : List Entry) → Reached bytes 
 reached_first bytes entries (inl h) = record { file = bytes; all = entries; more = []; typed = h; split = sym (append-nil entries) }
 reached_first bytes entries (inr h) =
     let (bad, front, whole, more, longest, is_whole, is) = h in
-    subst AreFirst (sym (is ∙ ap (λ (l : List Entry). whole ++ l) (longest_more bytes front more longest) ∙ append-nil whole)) (whole_first front whole is_whole)
+    elim (reached_more bytes front whole more longest is_whole) [
+      | inl none ↦ subst AreFirst (sym (is ∙ ap (λ (l : List Entry). whole ++ l) none ∙ append-nil whole)) (whole_first front whole is_whole)
+      | inr behind ↦ subst AreFirst (sym (is ∙ behind.is)) (open_first behind.connections behind.before behind.streams behind.calls behind.replies behind.inside behind.rest behind.messages behind.converses behind.few behind.small behind.split)
+    ]
 
 -- the first of what they reach are so too
 pub first_reached : (given : List ℕ) (entries : List Entry) → AreFirstReached given entries → AreFirst entries

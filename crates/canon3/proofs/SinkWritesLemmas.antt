@@ -6,10 +6,11 @@ use Rattle.std.specs.Io.KnownBytes.{Appends}
 use Rattle.std.proofs.KnownBytes.{Appends-trans}
 use Rattle.xdr3.specs.Item.{word_bytes}
 use Rattle.canon3.specs.Bytes.{chunk_bytes, record_bytes}
-use Rattle.canon3.specs.SinkWrites.{AppendsFront, HasTaken}
+use Rattle.canon3.specs.SinkWrites.{AppendsFront}
+use Rattle.canon3.specs.machinery.SinkWrites.{TookUpTo}
 
 -- the rest of a slice is cut at its own length
-pub taken_more : {bytes rest : List ℕ} (first old new : Option (List ℕ)) (n m : ℕ) → HasTaken first old bytes rest → Appends old new (take n rest) → length rest ≤ n + m → HasTaken first new bytes (take m (drop n rest))
+pub taken_more : {bytes rest : List ℕ} (first old new : Option (List ℕ)) (n m : ℕ) → TookUpTo first old bytes rest → Appends old new (take n rest) → length rest ≤ n + m → TookUpTo first new bytes (take m (drop n rest))
 taken_more {bytes = bytes} {rest = rest} first old new n m taken appended whole =
     let cut : take m (drop n rest) ≡ drop n rest = take_all m (drop n rest) (omega (arith, length-drop n rest, whole)) in
     rw cut (record {

@@ -6,15 +6,16 @@ use Rattle.rpc_head.specs.declared.call.ProcId.{ProcId}
 use Rattle.capture3.specs.Entry.{Entry, Begin, Call, Turn, Reply, Close, End, items_of}
 use Rattle.canon3.specs.declared.message_writer.MessageWriter.{MessageWriter}
 use Rattle.canon3.specs.declared.spelling.Spelling.TheVariants.{Zero, One, Message}
-use Rattle.capture3.specs.declared.entry.Kind.{Kind}
-use Rattle.capture3.specs.declared.entry.Kind.TheVariants as kinds
+use Rattle.capture3.specs.declared.reader.entry.Kind.{Kind}
+use Rattle.capture3.specs.declared.reader.entry.Kind.TheVariants as kinds
 use Rattle.canon3.specs.Bytes.{chunk_bytes, message_bytes, record_bytes}
-use Rattle.canon3.specs.CanonicalStream.{message_after, open_xids}
+use Rattle.canon3.specs.CanonicalStream.{message_after}
+use Rattle.canon3.specs.machinery.CanonicalStream.{open_xids}
 use Rattle.canon3.specs.HandleTable.{HoldsHandles}
 use Rattle.canon3.specs.Laws.{AreFirst}
-use Rattle.canon3.specs.MessageWriter.{AreFew, behind, Holds, IsGoing, Stands, values_of}
-use Rattle.canon3.specs.Rank.{StandsFor}
-use Rattle.canon3.specs.Spelling.{HasSpelled}
+use Rattle.canon3.specs.machinery.MessageWriter.{AreFew, behind, HoldsBefore, IsGoing, WriterStands, values_of}
+use Rattle.canon3.specs.Rank.{HoldsDistinct}
+use Rattle.canon3.specs.machinery.Spelling.{HasSpelled}
 use Rattle.capture3.specs.Kept.{IsOfKind}
 use Rattle.canon3.specs.Values.{handles, handles_in, verifiers, verifiers_in}
 use Rattle.canon3.proofs.First.{first_in_order}
@@ -28,38 +29,38 @@ are_few entries one first =
     (subst (λ (l : List (List ℕ)). length l < 2 ^ 32) (handles_push entries one) order.few_handles, subst (λ (l : List (List ℕ)). length l < 2 ^ 32) (verifiers_push entries one) order.few_verifiers)
 
 module _ {S H : Type 0} (n : MessageWriter S H) (entries : List Entry) where
-  held_more : (one : Entry) → Holds n (record { handles = handles entries ++ handles_in (items_of one); verifiers = verifiers entries ++ verifiers_in (items_of one); xids = open_xids (open_xids [] entries) (one ∷ []) })
-      → Holds n (values_of (entries ++ one ∷ []))
+  held_more : (one : Entry) → HoldsBefore n (record { handles = handles entries ++ handles_in (items_of one); verifiers = verifiers entries ++ verifiers_in (items_of one); xids = open_xids (open_xids [] entries) (one ∷ []) })
+      → HoldsBefore n (values_of (entries ++ one ∷ []))
   held_more one h = record {
     handles = subst (HoldsHandles n.handles) (sym (handles_push entries one)) h.handles;
-    verifiers = subst (StandsFor bytes_eq n.verfs) (sym (verifiers_push entries one)) h.verifiers;
-    xids = subst (StandsFor nat_eq n.xids) (sym (open-append entries (one ∷ []) [])) h.xids;
+    verifiers = subst (HoldsDistinct bytes_eq n.verfs) (sym (verifiers_push entries one)) h.verifiers;
+    xids = subst (HoldsDistinct nat_eq n.xids) (sym (open-append entries (one ∷ []) [])) h.xids;
   }
 
   -- ---- an entry that is no message
 
-  held_still : (one : Entry) (xs : List ℕ) → items_of one ≡ [] → open_xids (open_xids [] entries) (one ∷ []) ≡ xs → Holds n (record { handles = handles entries; verifiers = verifiers entries; xids = xs }) → Holds n (values_of (entries ++ one ∷ []))
+  held_still : (one : Entry) (xs : List ℕ) → items_of one ≡ [] → open_xids (open_xids [] entries) (one ∷ []) ≡ xs → HoldsBefore n (record { handles = handles entries; verifiers = verifiers entries; xids = xs }) → HoldsBefore n (values_of (entries ++ one ∷ []))
   held_still one xs none leads h = held_more one (record {
     handles = subst (λ (l : List Item). HoldsHandles n.handles (handles entries ++ handles_in l)) (sym none) (subst (HoldsHandles n.handles) (sym (append-nil (handles entries))) h.handles);
-    verifiers = subst (λ (l : List Item). StandsFor bytes_eq n.verfs (verifiers entries ++ verifiers_in l)) (sym none) (subst (StandsFor bytes_eq n.verfs) (sym (append-nil (verifiers entries))) h.verifiers);
-    xids = subst (StandsFor nat_eq n.xids) (sym leads) h.xids;
+    verifiers = subst (λ (l : List Item). HoldsDistinct bytes_eq n.verfs (verifiers entries ++ verifiers_in l)) (sym none) (subst (HoldsDistinct bytes_eq n.verfs) (sym (append-nil (verifiers entries))) h.verifiers);
+    xids = subst (HoldsDistinct nat_eq n.xids) (sym leads) h.xids;
   })
 
-  pub begin_spelled : (one : Entry) → one ≡ Begin → Holds n (record { handles = handles entries; verifiers = verifiers entries; xids = [] }) → HasSpelled n One entries one
+  pub begin_spelled : (one : Entry) → one ≡ Begin → HoldsBefore n (record { handles = handles entries; verifiers = verifiers entries; xids = [] }) → HasSpelled n One entries one
   begin_spelled one is h = rw is (record { holds = held_still Begin [] refl refl h; spelled = sym (append-nil (word_bytes 1)) })
 
-  turn_spelled : Holds n (values_of entries) → HasSpelled n Zero entries Turn
+  turn_spelled : HoldsBefore n (values_of entries) → HasSpelled n Zero entries Turn
   turn_spelled h = record { holds = held_still Turn (open_xids [] entries) refl refl h; spelled = sym (append-nil (word_bytes 0)) }
 
-  close_spelled : Holds n (values_of entries) → HasSpelled n Zero entries Close
+  close_spelled : HoldsBefore n (values_of entries) → HasSpelled n Zero entries Close
   close_spelled h = record { holds = held_still Close (open_xids [] entries) refl refl h; spelled = sym (append-nil (word_bytes 0)) }
 
-  end_spelled : Holds n (values_of entries) → HasSpelled n Zero entries End
+  end_spelled : HoldsBefore n (values_of entries) → HasSpelled n Zero entries End
   end_spelled h = record { holds = held_still End (open_xids [] entries) refl refl h; spelled = sym (append-nil (word_bytes 0)) }
 
   -- ---- a message
 
-  call_spelled : (items : List Item) → BeginsWithXid items → AreFirst (entries ++ Call items ∷ []) → length (entries ++ Call items ∷ []) < 2 ^ 32 → IsGoing n → Stands n (behind (values_of entries) items) → HasSpelled n Message entries (Call items)
+  call_spelled : (items : List Item) → BeginsWithXid items → AreFirst (entries ++ Call items ∷ []) → length (entries ++ Call items ∷ []) < 2 ^ 32 → IsGoing n → WriterStands n (behind (values_of entries) items) → HasSpelled n Message entries (Call items)
   call_spelled (Word name xid ∷ rest) begins first few going stands =
       let items : List Item = Word name xid ∷ rest in
       let xs = open_xids [] entries ++ xid ∷ [] in
@@ -72,7 +73,7 @@ module _ {S H : Type 0} (n : MessageWriter S H) (entries : List Entry) where
   call_spelled _ begins first few going stands = absurd begins
 
   reply_spelled : (id : ProcId) (items : List Item) → IsAnswering (open_xids [] entries) items → AreFirst (entries ++ Reply id items ∷ []) → length (entries ++ Reply id items ∷ []) < 2 ^ 32 → IsGoing n
-      → Stands n (behind (values_of entries) items) → HasSpelled n Message entries (Reply id items)
+      → WriterStands n (behind (values_of entries) items) → HasSpelled n Message entries (Reply id items)
   reply_spelled id (Word name xid ∷ rest) known first few going stands =
       let items : List Item = Word name xid ∷ rest in
       let xs = open_xids [] entries in
@@ -87,19 +88,19 @@ module _ {S H : Type 0} (n : MessageWriter S H) (entries : List Entry) where
 
   -- ---- an entry of each kind
 
-  pub word_spelled : (kind : Kind) (one : Entry) → (kind ≡ kinds.Turn) ⊎ ((kind ≡ kinds.Close) ⊎ (kind ≡ kinds.End)) → IsOfKind kind one → IsGoing n → Stands n (behind (values_of entries) (items_of one)) → HasSpelled n Zero entries one
+  pub word_spelled : (kind : Kind) (one : Entry) → (kind ≡ kinds.Turn) ⊎ ((kind ≡ kinds.Close) ⊎ (kind ≡ kinds.End)) → IsOfKind kind one → IsGoing n → WriterStands n (behind (values_of entries) (items_of one)) → HasSpelled n Zero entries one
   word_spelled kind one (inl is) of going stands =
       let this : one ≡ Turn = subst (λ k. IsOfKind k one) is of in
-      rw this (turn_spelled (nothing_held n (values_of entries) going (subst (λ (e : Entry). Stands n (behind (values_of entries) (items_of e))) this stands)))
+      rw this (turn_spelled (nothing_held n (values_of entries) going (subst (λ (e : Entry). WriterStands n (behind (values_of entries) (items_of e))) this stands)))
   word_spelled kind one (inr (inl is)) of going stands =
       let this : one ≡ Close = subst (λ k. IsOfKind k one) is of in
-      rw this (close_spelled (nothing_held n (values_of entries) going (subst (λ (e : Entry). Stands n (behind (values_of entries) (items_of e))) this stands)))
+      rw this (close_spelled (nothing_held n (values_of entries) going (subst (λ (e : Entry). WriterStands n (behind (values_of entries) (items_of e))) this stands)))
   word_spelled kind one (inr (inr is)) of going stands =
       let this : one ≡ End = subst (λ k. IsOfKind k one) is of in
-      rw this (end_spelled (nothing_held n (values_of entries) going (subst (λ (e : Entry). Stands n (behind (values_of entries) (items_of e))) this stands)))
+      rw this (end_spelled (nothing_held n (values_of entries) going (subst (λ (e : Entry). WriterStands n (behind (values_of entries) (items_of e))) this stands)))
 
   pub message_spelled : (kind : Kind) (one : Entry) → ((id : ProcId) × (kind ≡ kinds.Call id)) ⊎ ((id : ProcId) × (kind ≡ kinds.Reply id)) → IsOfKind kind one → AreFirst (entries ++ one ∷ []) → length (entries ++ one ∷ []) < 2 ^ 32 → IsGoing n
-      → Stands n (behind (values_of entries) (items_of one)) → HasSpelled n Message entries one
+      → WriterStands n (behind (values_of entries) (items_of one)) → HasSpelled n Message entries one
   message_spelled kind one (inl (id, is)) of =
       let (items, asks, this) = subst (λ k. IsOfKind k one) is of in
       rw this (λ first few going stands. call_spelled items (last_paired entries (Call items) first).0 first few going stands)

@@ -9,7 +9,7 @@ use Rattle.std.proofs.lemmas.List.Sums.{sum_by-append, sum_by-cons}
 use Rattle.std.specs.declared.hash.BuildHasher as BuildHasher
 use Rattle.std.specs.declared.hash.Hasher as Hasher
 use Rattle.xdr3.specs.Item.{Item}
-use Rattle.capture3.specs.declared.entries.Entries.{Entries}
+use Rattle.capture3.specs.declared.reader.entries.Entries.{Entries}
 use Rattle.capture3.specs.declared.fault.Error.{Error}
 use Rattle.capture3.specs.declared.fault.Error.TheVariants as errors
 use Rattle.capture3.specs.declared.fault.Fault.{Fault}
@@ -21,14 +21,16 @@ use Rattle.capture3.proofs.Emits.{reached_by_machine}
 use Rattle.canon3.specs.declared.passed.Passed.{Passed}
 use Rattle.canon3.specs.declared.summary.Summary.{Summary}
 use Rattle.canon3.specs.declared.summary.Tally.{Tally}
-use Rattle.capture3.specs.declared.entry.Kind.{Kind}
-use Rattle.capture3.specs.declared.entry.Kind.TheVariants as kinds
+use Rattle.capture3.specs.declared.reader.entry.Kind.{Kind}
+use Rattle.capture3.specs.declared.reader.entry.Kind.TheVariants as kinds
 use Rattle.canon3.specs.Rank.{distinct, number_limit}
 use Rattle.canon3.specs.Parting.{connections}
-use Rattle.canon3.specs.Passed.{ArePassed, calls, replies}
+use Rattle.canon3.specs.Passed.{ArePassed}
+use Rattle.canon3.specs.machinery.Passed.{calls, replies}
 use Rattle.canon3.specs.Progress.{HasPassed}
-use Rattle.canon3.specs.Summary.{all_items, ConcludesGiven, is_begin, is_call, is_reply, IsSummary, Sums}
-use Rattle.canon3.specs.Tally.{GoesOn, IsDone}
+use Rattle.canon3.specs.Summary.{ConcludesGiven, is_begin, is_call, is_reply, IsSummary}
+use Rattle.canon3.specs.machinery.Summary.{all_items, Sums}
+use Rattle.canon3.specs.machinery.Tally.{TalliesOn, HasTalliedAll}
 use Rattle.capture3.specs.Kept.{IsOfKind}
 use Rattle.canon3.specs.Values.{handles}
 use Rattle.canon3.proofs.InOrder.{typed_in_order}
@@ -92,7 +94,7 @@ connections_counted (End ∷ entries) = connections_counted entries
 -- ---- along a reader
 
 module _ {R S H : Type 0} {builds : BuildHasher.Ghosts S H} {hashes : Hasher.Ghosts H} (left : R → Option (List ℕ)) (first : Option (List ℕ)) (reader : Entries R S H builds hashes) (tally : Tally S H) where
-  pub is_done : (more : Bool) → more ≡ false → GoesOn left first reader tally (Ok more) → IsDone left first reader tally
+  pub is_done : (more : Bool) → more ≡ false → TalliesOn left first reader tally (Ok more) → HasTalliedAll left first reader tally
   is_done false ends done = done
   is_done true ends done = absurd (cc)
 

@@ -5,7 +5,7 @@ use Rattle.xdr3.specs.Reading.{reading}
 use Rattle.xdr3.specs.Shape.{optional}
 use Rattle.record_mark.specs.RecordMark.{is_last, length_of}
 use Rattle.record_mark.specs.Word.{number}
-use Rattle.rpc_head.specs.Names.{names as rpc_names}
+use Rattle.rpc_head.specs.Names.{head_names as rpc_names}
 use Rattle.rpc_head.specs.Messages.{call_layout, call_start, reply_layout, reply_start}
 use Rattle.rpc_head.specs.Shapes.{accept, auth_sys, call_head, credential, deny, gids, message_start, parameters, reply_head, verifier}
 use Rattle.nfs3_types.specs.Names.{names}

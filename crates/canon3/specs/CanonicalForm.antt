@@ -1,18 +1,11 @@
 -- What is written of a capture's canonical form while it is read.
-use Rattle.std.specs.Prelude.{ℕ, ◌==◌, Bool, true, false, if◌then◌else◌, Option, List, [], ◌∷◌, ◌++◌, Result, Ok, Err}
-use Rattle.std.specs.Io.KnownBytes.{Appends}
-use Rattle.xdr3.specs.Item.{Item}
+use Rattle.std.specs.Prelude.{ℕ, Option, List, Result}
 use Rattle.capture3.specs.declared.fault.Error.{Error}
-use Rattle.capture3.specs.Capture.{One, magic}
 use Rattle.capture3.specs.Entry.{Entry}
-use Rattle.canon3.specs.declared.message_writer.MessageWriter.{MessageWriter}
 use Rattle.canon3.specs.declared.summary.Summary.{Summary}
 use Rattle.canon3.specs.Bytes.{bytes_of}
 use Rattle.canon3.specs.Canonical.{canonical}
 use Rattle.canon3.specs.EntryWriter.{WritesGiven}
-use Rattle.canon3.specs.MessageWriter.{behind, IsGoing, Stands, values_of}
-use Rattle.canon3.specs.Spelling.{bytes_behind}
-use Rattle.canon3.specs.SinkWrites.{AppendsFront}
 
 -- the bytes of the canonical form
 abbrev pub canonical_bytes : List Entry → List ℕ
@@ -21,26 +14,3 @@ canonical_bytes entries = bytes_of (canonical entries)
 -- the source gave some bytes, and the canonical form of their entries was written
 abbrev pub RewritesGiven : (before left old new : Option (List ℕ)) → Result Summary Error → Type 0
 RewritesGiven before left old new result = WritesGiven canonical_bytes before left old new result
-
--- ---- within the crate
-
--- the values of the entries so far, in front of the next message
-abbrev pub values_before : List Entry → List Item
-values_before entries = behind (values_of entries) []
-
-abbrev pub are_some : List Entry → Bool
-are_some [] = false
-are_some (entry ∷ entries) = true
-
-abbrev pub magic_unless : Bool → List ℕ
-magic_unless true = []
-magic_unless false = magic One
-
--- the magic stands before the first connection, and before the end where there is none
-abbrev pub magic_before : (connections : ℕ) → List ℕ
-magic_before connections = if connections == 0 then magic One else []
-
--- the entry's values are held after those before it, and its bytes in the canonical form are written, or a front of them
-abbrev pub Follows : {S H : Type 0} → MessageWriter S H → (old new : Option (List ℕ)) → List Entry → Entry → {X : Type 0} → Result X Error → Type 0
-Follows n old new entries one (Ok x) = IsGoing n × Stands n (values_before (entries ++ one ∷ [])) × Appends old new (bytes_behind entries (one ∷ []))
-Follows n old new entries one (Err error) = AppendsFront old new (bytes_behind entries (one ∷ []))

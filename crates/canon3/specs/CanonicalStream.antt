@@ -28,10 +28,3 @@ entries_after hs vs xs (Reply id items ∷ es) =
     Reply id (message_after hs vs xs items) ∷ entries_after (hs ++ handles_in items) (vs ++ verifiers_in items) xs es
 entries_after hs vs xs (Close ∷ es) = Close ∷ entries_after hs vs xs es
 entries_after hs vs xs (End ∷ es) = End ∷ entries_after hs vs xs es
-
--- the xids of the open connection's calls after these entries, where they were xs before
-abbrev pub open_xids : (xs : List ℕ) → List Entry → List ℕ
-open_xids xs [] = xs
-open_xids xs (Begin ∷ es) = open_xids [] es
-open_xids xs (Call items ∷ es) = open_xids (xs ++ xid_of items) es
-open_xids xs (_ ∷ es) = open_xids xs es

@@ -1,45 +1,31 @@
 -- What a comparison of two captures answers.
-use Rattle.std.specs.Prelude.{◌≡◌, ◌≢◌, ℕ, ◌+◌, ◌-◌, ◌^◌, Bool, true, false, cond, min, length, Option, None, Some, List, [], ◌∷◌, ◌++◌, Result, Ok, Err}
-use Rattle.std.specs.Io.KnownBytes.{Consumes}
-use Rattle.std.specs.declared.hash.BuildHasher as BuildHasher
-use Rattle.std.specs.declared.hash.Hasher as Hasher
-use Rattle.xdr3.specs.Item.{Item}
-use Rattle.capture3.specs.declared.entries.Entries.{Entries}
+use Rattle.std.specs.Prelude.{◌≡◌, ℕ, ◌+◌, ◌-◌, ◌^◌, Bool, true, false, cond, min, List, Result, Ok, Err}
 use Rattle.capture3.specs.declared.fault.Error.{Error}
 use Rattle.capture3.specs.declared.fault.Error.TheVariants as errors
-use Rattle.capture3.specs.declared.fault.Place.{Place}
-use Rattle.capture3.specs.Entries.{StandsFor}
 use Rattle.capture3.specs.Entry.{Entry}
 use Rattle.capture3.specs.FirstFault.{FirstFault}
 use Rattle.capture3.specs.Typed.{IsWellFormed, Typed}
-use Rattle.canon3.specs.declared.comparison.Comparison.{Comparison}
-use Rattle.canon3.specs.declared.comparison.Finding.{Finding}
-use Rattle.canon3.specs.declared.comparison.Finding.TheVariants as findings
 use Rattle.canon3.specs.declared.verdict.SameError.{SameError}
 use Rattle.canon3.specs.declared.verdict.Verdict.{Verdict}
 use Rattle.canon3.specs.declared.verdict.Verdict.TheVariants as verdicts
 use Rattle.canon3.specs.declared.verdict.Which.{Which}
 use Rattle.canon3.specs.declared.verdict.Which.TheVariants.{First, Second}
-use Rattle.canon3.specs.Bytes.{bytes_of}
-use Rattle.canon3.specs.Canonical.{canonical}
-use Rattle.canon3.specs.MessageWriter.{behind, Stands, values_of}
-use Rattle.canon3.specs.Parting.{IsPlaceOf, Parting}
+use Rattle.canon3.specs.Parting.{Parting}
 use Rattle.canon3.specs.Renaming.{Same}
-use Rattle.canon3.specs.Progress.{HasPassed}
 
 -- The fault is the first of the first file, or of the second where the first is well formed. No other error says anything of them.
-abbrev pub Stops : (file other : List ℕ) → Error → Which → Type 0
-Stops file other (errors.Refused fault) First = FirstFault file fault
-Stops file other (errors.Refused fault) Second = IsWellFormed file × FirstFault other fault
-Stops file other errors.Read which = Unit {0}
-Stops file other errors.Write which = Unit {0}
-Stops file other errors.Memory which = Unit {0}
+abbrev pub StopsComparing : (file other : List ℕ) → Error → Which → Type 0
+StopsComparing file other (errors.Refused fault) First = FirstFault file fault
+StopsComparing file other (errors.Refused fault) Second = IsWellFormed file × FirstFault other fault
+StopsComparing file other errors.Read which = Unit {0}
+StopsComparing file other errors.Write which = Unit {0}
+StopsComparing file other errors.Memory which = Unit {0}
 
 -- Both files are well formed, and their entries are the same up to renaming, or are not and part at the place; or an error came.
-abbrev pub Decides : (file other : List ℕ) → Result Verdict SameError → Type 0
-Decides file other (Ok verdicts.Same) = (a : List Entry) × (b : List Entry) × Typed file a × Typed other b × Same a b
-Decides file other (Ok (verdicts.Differ place)) = (a : List Entry) × (b : List Entry) × Typed file a × Typed other b × (Same a b → ⊥) × Parting a b place
-Decides file other (Err error) = Stops file other error.error error.which
+abbrev pub DecidesSame : (file other : List ℕ) → Result Verdict SameError → Type 0
+DecidesSame file other (Ok verdicts.Same) = (a : List Entry) × (b : List Entry) × Typed file a × Typed other b × Same a b
+DecidesSame file other (Ok (verdicts.Differ place)) = (a : List Entry) × (b : List Entry) × Typed file a × Typed other b × (Same a b → ⊥) × Parting a b place
+DecidesSame file other (Err error) = StopsComparing file other error.error error.which
 
 -- a read of this one failed
 abbrev pub is_read_of : (which one : Which) → Error → Bool
@@ -54,138 +40,3 @@ has_failed which (Err error) = is_read_of which error.which error.error
 -- A read of this one that failed is the last, and counts once, up to the last value; without one, nothing counts.
 abbrev pub CountsReadingOf : {X : Type 0} → Which → ℕ → ℕ → Result X SameError → Type 0
 CountsReadingOf which old new result = new ≡ cond (has_failed which result) (min (old + 1) (2 ^ 64 - 1)) old
-
--- ---- within the crate
-
--- as many first entries of each, whose canonical forms have equal bytes
-pub record Agree (a b : List Entry) : Type 0 where
-  pub many : length a ≡ length b
-  pub bytes : bytes_of (canonical a) ≡ bytes_of (canonical b)
-
--- after these, two entries with which the forms' bytes are not equal, and their place
-pub record PartWith (a b : List Entry) (e f : Entry) (place : Place) : Type 0 where
-  pub agree : Agree a b
-  pub differ : bytes_of (canonical (a ++ e ∷ [])) ≢ bytes_of (canonical (b ++ f ∷ []))
-  pub place_is : IsPlaceOf a (Some e) (Some f) place
-
--- these were compared, and the numberings stand for their values, and for these items of the next two messages
-pub record IsTold {S H : Type 0} (comparison : Comparison S H) (a b : List Entry) (items others : List Item) : Type 0 where
-  pub agree : Agree a b
-  pub first : Stands comparison.first (behind (values_of a) items)
-  pub second : Stands comparison.second (behind (values_of b) others)
-  pub progress : HasPassed comparison.progress a
-
--- these were compared
-abbrev pub IsCompared : {S H : Type 0} → Comparison S H → (a b : List Entry) → Type 0
-IsCompared comparison a b = IsTold comparison a b [] []
-
-abbrev pub Compares : {S H : Type 0} → Comparison S H → (a b : List Entry) (e f : Entry) → Option Place → Type 0
-Compares comparison a b e f None = IsCompared comparison (a ++ e ∷ []) (b ++ f ∷ [])
-Compares comparison a b e f (Some place) = PartWith a b e f place
-
--- an error of the second, whose refusal waits
-abbrev pub met_second : Error → Result (Option Finding) SameError
-met_second (errors.Refused fault) = Ok (Some (findings.Refused fault))
-met_second errors.Read = Err (record { which = Second; error = errors.Read })
-met_second errors.Write = Err (record { which = Second; error = errors.Write })
-met_second errors.Memory = Err (record { which = Second; error = errors.Memory })
-
--- the refusal that waits
-abbrev pub refusal_in : Option Finding → Option Error
-refusal_in (Some (findings.Refused fault)) = Some (errors.Refused fault)
-refusal_in (Some findings.Ended) = None
-refusal_in (Some (findings.Parted place)) = None
-refusal_in None = None
-
--- what an error of a reader of this file says
-abbrev pub IsRefused : List ℕ → Error → Type 0
-IsRefused file (errors.Refused fault) = FirstFault file fault
-IsRefused file errors.Read = Unit {0}
-IsRefused file errors.Write = Unit {0}
-IsRefused file errors.Memory = Unit {0}
-
--- all of the file was read, after these entries
-abbrev pub IsReadOut : {X : Type 0} → List ℕ → List Entry → Result X Error → Type 0
-IsReadOut file handed (Ok x) = (more : List Entry) × Typed file (handed ++ more)
-IsReadOut file handed (Err error) = IsRefused file error
-
--- the same of the second file, with this verdict
-abbrev pub IsReadAfter : List ℕ → List Entry → Verdict → Result Verdict SameError → Type 0
-IsReadAfter other handed verdict (Ok answer) = (answer ≡ verdict) × (more : List Entry) × Typed other (handed ++ more)
-IsReadAfter other handed verdict (Err error) = (error.which ≡ Second) × IsRefused other error.error
-
-module _ {R S H : Type 0} {builds : BuildHasher.Ghosts S H} {hashes : Hasher.Ghosts H} (left : R → Option (List ℕ)) (file : List ℕ) (reader : Entries R S H builds hashes) where
-  -- a reader of this file handed out these entries
-  pub record HasGiven (handed : List Entry) : Type 0 where
-    pub given : List ℕ
-    pub consumed : Consumes (Some file) (left reader.source.now) given
-    pub stands : StandsFor left reader given handed
-
-  -- these, and more after them
-  pub record HasGivenOn (handed : List Entry) : Type 0 where
-    pub more : List Entry
-    pub all : HasGiven (handed ++ more)
-
-  abbrev pub ReadsOn : List Entry → Result Bool Error → Type 0
-  ReadsOn handed (Ok true) = HasGivenOn handed
-  ReadsOn handed (Ok false) = (more : List Entry) × Typed file (handed ++ more)
-  ReadsOn handed (Err error) = IsRefused file error
-
-module _ {R S H : Type 0} {builds : BuildHasher.Ghosts S H} {hashes : Hasher.Ghosts H} (left : R → Option (List ℕ)) (file other : List ℕ) (reader : Entries R S H builds hashes) (comparison : Comparison S H) (a b : List Entry) (e : Entry) where
-  -- the second's entry came beside e, and they are alike
-  pub record GoesWith : Type 0 where
-    pub f : Entry
-    pub given : HasGiven left other reader (b ++ f ∷ [])
-    pub compared : IsCompared comparison (a ++ e ∷ []) (b ++ f ∷ [])
-
-  pub record PartsHere (place : Place) : Type 0 where
-    pub f : Entry
-    pub given : HasGiven left other reader (b ++ f ∷ [])
-    pub parts : PartWith a b e f place
-
-  abbrev pub Meets : Result (Option Finding) SameError → Type 0
-  Meets (Ok None) = GoesWith
-  Meets (Ok (Some findings.Ended)) = ⊥
-  Meets (Ok (Some (findings.Parted place))) = PartsHere place
-  Meets (Ok (Some (findings.Refused fault))) = FirstFault other fault
-  Meets (Err error) = Stops file other error.error error.which
-
-module _ {A B S H : Type 0} {builds : BuildHasher.Ghosts S H} {hashes : Hasher.Ghosts H} (left : A → Option (List ℕ)) (left_other : B → Option (List ℕ)) (file other : List ℕ) (first : Entries A S H builds hashes) (second : Entries B S H builds hashes) where
-  -- what the two handed out was compared
-  pub record IsUnderWay (comparison : Comparison S H) : Type 0 where
-    pub a : List Entry
-    pub b : List Entry
-    pub first_given : HasGiven left file first a
-    pub second_given : HasGiven left_other other second b
-    pub compared : IsCompared comparison a b
-
-  pub record HaveEnded : Type 0 where
-    pub a : List Entry
-    pub b : List Entry
-    pub first_given : HasGiven left file first a
-    pub second_given : HasGiven left_other other second b
-    pub agree : Agree a b
-    pub typed : Typed file a
-
-  pub record HaveParted (place : Place) : Type 0 where
-    pub a : List Entry
-    pub b : List Entry
-    pub e : Entry
-    pub f : Entry
-    pub first_given : HasGiven left file first (a ++ e ∷ [])
-    pub second_given : HasGiven left_other other second (b ++ f ∷ [])
-    pub parts : PartWith a b e f place
-
-  abbrev pub IsFound : Finding → Type 0
-  IsFound findings.Ended = HaveEnded
-  IsFound (findings.Parted place) = HaveParted place
-  IsFound (findings.Refused fault) = ((a : List Entry) × HasGiven left file first a) × FirstFault other fault
-
-  abbrev pub FindsOut : Result Finding SameError → Type 0
-  FindsOut (Ok finding) = IsFound finding
-  FindsOut (Err error) = Stops file other error.error error.which
-
-  abbrev pub StepsOn : Comparison S H → Result (Option Finding) SameError → Type 0
-  StepsOn comparison (Ok None) = IsUnderWay comparison
-  StepsOn comparison (Ok (Some finding)) = IsFound finding
-  StepsOn comparison (Err error) = Stops file other error.error error.which

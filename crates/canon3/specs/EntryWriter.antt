@@ -1,19 +1,16 @@
 -- What is written of a capture's entries while it is read. A form says which bytes a list of entries is written as.
-use Rattle.std.specs.Prelude.{◌≡◌, ℕ, ◌<◌, ◌^◌, Bool, true, false, Option, List, [], ◌∷◌, ◌++◌, length, Result, Ok, Err}
+use Rattle.std.specs.Prelude.{◌≡◌, ℕ, ◌<◌, ◌^◌, Option, List, [], ◌∷◌, ◌++◌, length, Result, Ok, Err}
 use Rattle.std.specs.Io.KnownBytes.{Appends, Consumes, IsAtEnd}
-use Rattle.std.specs.declared.hash.BuildHasher as BuildHasher
-use Rattle.std.specs.declared.hash.Hasher as Hasher
 use Rattle.xdr3.specs.Item.{Item}
-use Rattle.capture3.specs.declared.entries.Entries.{Entries}
 use Rattle.capture3.specs.declared.fault.Error.{Error}
 use Rattle.capture3.specs.declared.fault.Error.TheVariants as errors
-use Rattle.capture3.specs.Entries.{IsMetBy, StandsFor}
+use Rattle.capture3.specs.Entries.{IsMetBy}
 use Rattle.capture3.specs.Entry.{Entry, items_of}
 use Rattle.capture3.specs.Reached.{Reached}
 use Rattle.capture3.specs.Typed.{Typed}
 use Rattle.canon3.specs.declared.passed.Passed.{Passed}
 use Rattle.canon3.specs.declared.summary.Summary.{Summary}
-use Rattle.capture3.specs.declared.entry.Kind.{Kind}
+use Rattle.capture3.specs.declared.reader.entry.Kind.{Kind}
 use Rattle.canon3.specs.Laws.{AreFirst}
 use Rattle.canon3.specs.Passed.{ArePassed}
 use Rattle.canon3.specs.Summary.{IsSummary}
@@ -57,60 +54,3 @@ module _ {T : Type 0} (form : List Entry → List ℕ) (before : List Entry → 
   WritesOne was now passed kind between new result =
       (old : Option (List ℕ)) (entries : List Entry) (one : Entry) → IsOfKind kind one → AreFirst (entries ++ one ∷ []) → length (entries ++ one ∷ []) < 2 ^ 32 → ArePassed passed entries
       → stands was (before entries ++ items_of one) → Appends old between (form entries) → HasWrittenOrCut now old new (entries ++ one ∷ []) result
-
-  -- ---- within the crate
-
-  -- the writer stands for these entries, which came, and their form was written
-  pub record HasWritten (writer : T) (passed : Passed) (old new : Option (List ℕ)) (entries : List Entry) : Type 0 where
-    pub goes : going writer
-    pub stands_for : stands writer (before entries)
-    pub came : ArePassed passed entries
-    pub written : Appends old new (form entries)
-
-  -- the same, or a front of it was written
-  abbrev pub HasMore : {X : Type 0} → T → Passed → (old new : Option (List ℕ)) → List Entry → Result X Error → Type 0
-  HasMore writer passed old new entries (Ok x) = HasWritten writer passed old new entries
-  HasMore writer passed old new entries (Err error) = AppendsFront old new (form entries)
-
-  -- one entry more is written, and came, or it is cut
-  abbrev pub WritesMore : (was now : T) → (passed after : Passed) → Kind → (between new : Option (List ℕ)) → {X : Type 0} → Result X Error → Type 0
-  WritesMore was now passed after kind between new result =
-      (old : Option (List ℕ)) (entries : List Entry) (one : Entry) → IsOfKind kind one → AreFirst (entries ++ one ∷ []) → length (entries ++ one ∷ []) < 2 ^ 32 → ArePassed passed entries
-      → stands was (before entries ++ items_of one) → Appends old between (form entries) → HasMore now after old new (entries ++ one ∷ []) result
-
--- all that was left was read, and is a capture with these entries
-pub record IsEnded (first left : Option (List ℕ)) (given : List ℕ) (entries : List Entry) : Type 0 where
-  pub consumed : Consumes first left given
-  pub ended : IsAtEnd left
-  pub typed : Typed given entries
-
--- a reader that hands out entries, from when so much was left first, and a writer to a sink, from when it had the old bytes
-module _ {T R S H : Type 0} {builds : BuildHasher.Ghosts S H} {hashes : Hasher.Ghosts H} (form : List Entry → List ℕ) (before : List Entry → List Item) (stands : T → List Item → Type 0) (going : T → Type 0) (left : R → Option (List ℕ)) (first old : Option (List ℕ)) where
-  -- what it handed out was written
-  pub record IsUnderWay (reader : Entries R S H builds hashes) (writer : T) (passed : Passed) (new : Option (List ℕ)) : Type 0 where
-    pub given : List ℕ
-    pub handed : List Entry
-    pub consumed : Consumes first (left reader.source.now) given
-    pub reads : StandsFor left reader given handed
-    pub writes : HasWritten form before stands going writer passed old new handed
-
-  -- all bytes were a capture's, and the form of all its entries was written
-  pub record IsDone (reader : Entries R S H builds hashes) (writer : T) (passed : Passed) (new : Option (List ℕ)) : Type 0 where
-    pub given : List ℕ
-    pub handed : List Entry
-    pub ended : IsEnded first (left reader.source.now) given handed
-    pub writes : HasWritten form before stands going writer passed old new handed
-
-  pub record HasStopped (reader : Entries R S H builds hashes) (new : Option (List ℕ)) (error : Error) : Type 0 where
-    pub given : List ℕ
-    pub consumed : Consumes first (left reader.source.now) given
-    pub stopped : IsStoppedBy form error (left reader.source.now) given old new
-
-  abbrev pub GoesOn : Entries R S H builds hashes → T → Passed → Option (List ℕ) → Result Bool Error → Type 0
-  GoesOn reader writer passed new (Ok true) = IsUnderWay reader writer passed new
-  GoesOn reader writer passed new (Ok false) = IsDone reader writer passed new
-  GoesOn reader writer passed new (Err error) = HasStopped reader new error
-
-  abbrev pub IsOver : {X : Type 0} → Entries R S H builds hashes → T → Passed → Option (List ℕ) → Result X Error → Type 0
-  IsOver reader writer passed new (Ok x) = IsDone reader writer passed new
-  IsOver reader writer passed new (Err error) = HasStopped reader new error

@@ -45,8 +45,8 @@ call_of prog proc xid arguments =
     ∷ Word (codes "cred_flavor") 0 ∷ Opaque Var (codes "cred_body") [] ∷ Word (codes "verf_flavor") 0 ∷ Opaque Var (codes "verf_body") [] ∷ arguments)
 
 -- the head of a reply of success (RFC 5531, section 9)
-abbrev pub reply_of : (prog proc xid : ℕ) → List Item → Entry
-reply_of prog proc xid results =
+abbrev pub success_reply : (prog proc xid : ℕ) → List Item → Entry
+success_reply prog proc xid results =
     Reply (record { prog = prog; vers = 3; proc_no = proc }) (Word (codes "xid") xid ∷ Word (codes "mtype") 1 ∷ Word (codes "reply_stat") 0
     ∷ Word (codes "verf_flavor") 0 ∷ Opaque Var (codes "verf_body") [] ∷ Word (codes "accept_stat") 0 ∷ results)
 
@@ -58,22 +58,22 @@ getattr xid handle = call_of 100003 1 xid (Opaque Handle (codes "fh") handle ∷
 abbrev pub mount : ℕ → Entry
 mount xid = call_of 100005 1 xid (Opaque Text (codes "dirpath") (codes "/x") ∷ [])
 
-abbrev pub mounted : ℕ → List ℕ → Entry
-mounted xid handle = reply_of 100005 1 xid (Word (codes "status") 0 ∷ Opaque Handle (codes "fh") handle ∷ Word (codes "flavors") 1 ∷ Word (codes "flavor") 1 ∷ [])
+abbrev pub mnt_reply : ℕ → List ℕ → Entry
+mnt_reply xid handle = success_reply 100005 1 xid (Word (codes "status") 0 ∷ Opaque Handle (codes "fh") handle ∷ Word (codes "flavors") 1 ∷ Word (codes "flavor") 1 ∷ [])
 
 -- COMMIT and what it gives (RFC 1813, section 3.3.21)
 abbrev pub commit : ℕ → Entry
 commit xid = call_of 100003 21 xid (Opaque Handle (codes "fh") [] ∷ Hyper (codes "offset") 0 ∷ Word (codes "count") 0 ∷ [])
 
 abbrev pub committed : ℕ → List ℕ → Entry
-committed xid verifier = reply_of 100003 21 xid (Word (codes "status") 0 ∷ Word (codes "before") 0 ∷ Word (codes "attr") 0 ∷ WriteVerf (codes "verf") verifier ∷ [])
+committed xid verifier = success_reply 100003 21 xid (Word (codes "status") 0 ∷ Word (codes "before") 0 ∷ Word (codes "attr") 0 ∷ WriteVerf (codes "verf") verifier ∷ [])
 
 -- READDIR from the beginning and what it gives of an empty directory (RFC 1813, section 3.3.16)
 abbrev pub list_directory : ℕ → Entry
 list_directory xid = call_of 100003 16 xid (Opaque Handle (codes "fh") [] ∷ Hyper (codes "cookie") 0 ∷ Fixed (codes "cookieverf") zero_verifier ∷ Word (codes "count") 512 ∷ [])
 
-abbrev pub listed : ℕ → List ℕ → Entry
-listed xid verifier = reply_of 100003 16 xid (Word (codes "status") 0 ∷ Word (codes "attr") 0 ∷ Fixed (codes "cookieverf") verifier ∷ Word (codes "entry") 0 ∷ Word (codes "eof") 1 ∷ [])
+abbrev pub readdir_reply : ℕ → List ℕ → Entry
+readdir_reply xid verifier = success_reply 100003 16 xid (Word (codes "status") 0 ∷ Word (codes "attr") 0 ∷ Fixed (codes "cookieverf") verifier ∷ Word (codes "entry") 0 ∷ Word (codes "eof") 1 ∷ [])
 
 abbrev pub connection : (calls replies : List Entry) → List Entry
 connection calls replies = (Begin ∷ calls) ++ ((Turn ∷ replies) ++ (Close ∷ []))
@@ -144,7 +144,7 @@ pub record Commits : Type 0 where
   pub swapped : Same (commits long zero_verifier) (commits zero_verifier long)
   pub parted : Parting (commits long long) (commits long zero_verifier) (in_server 1 2)
   -- a cookie verifier is not a write verifier
-  pub cookie_stays : canonical (one (list_directory 1 ∷ []) (listed 1 long ∷ [])) ≡ one (list_directory 1 ∷ []) (listed 1 long ∷ [])
+  pub cookie_stays : canonical (one (list_directory 1 ∷ []) (readdir_reply 1 long ∷ [])) ≡ one (list_directory 1 ∷ []) (readdir_reply 1 long ∷ [])
 
 -- ---- other ways of numbering
 

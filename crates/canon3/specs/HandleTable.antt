@@ -2,17 +2,17 @@
 use Rattle.std.specs.Prelude.{◌≡◌, ℕ, Bool, List, map, bytes_eq}
 use Rattle.xdr3.specs.Item.{Item}
 use Rattle.nfs3_types.specs.declared.handle.Handle.{Handle}
-use Rattle.nfs3_types.specs.Handle.{bytes_of}
-use Rattle.canon3.specs.Rank.{StandsFor}
+use Rattle.nfs3_types.specs.Handle.{handle_bytes}
+use Rattle.canon3.specs.Rank.{HoldsDistinct}
 use Rattle.canon3.specs.Values.{handles_in}
 
 -- the two have the same bytes (RFC 1813, section 2.5)
 abbrev pub same_handle : Handle → Handle → Bool
-same_handle a b = bytes_eq (bytes_of a) (bytes_of b)
+same_handle a b = bytes_eq (handle_bytes a) (handle_bytes b)
 
 -- the table holds the distinct ones of the handles with these bytes
 abbrev pub HoldsHandles : List Handle → List (List ℕ) → Type 0
-HoldsHandles table hs = (given : List Handle) × StandsFor same_handle table given × (map bytes_of given ≡ hs)
+HoldsHandles table hs = (given : List Handle) × HoldsDistinct same_handle table given × (map handle_bytes given ≡ hs)
 
 -- the same of the handles of items that are not empty
 abbrev pub Gathers : List Handle → List Item → Type 0

@@ -14,12 +14,10 @@ pub mod Examples
 pub mod Vectors
 pub mod SinkWrites
 pub mod MemSink
-pub mod MessageWriter
 pub mod WriteErrors
 pub mod EntryWriter
 pub mod CanonicalForm
 pub mod Progress
 pub mod Passed
-pub mod Tally
-pub mod Spelling
 pub mod Comparison
+pub mod machinery

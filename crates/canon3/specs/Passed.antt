@@ -1,19 +1,9 @@
 -- What came of a capture so far.
-use Rattle.std.specs.Prelude.{◌≡◌, ℕ, ◌+◌, Bool, true, false, List, count_by, max}
+use Rattle.std.specs.Prelude.{◌≡◌, ℕ, ◌+◌, List, count_by, max}
 use Rattle.capture3.specs.Entry.{Entry}
-use Rattle.capture3.specs.declared.entry.Kind.{Kind}
-use Rattle.capture3.specs.declared.entry.Kind.TheVariants as kinds
 use Rattle.canon3.specs.declared.passed.Passed.{Passed}
 use Rattle.canon3.specs.Progress.{HasPassed, steps_of}
 use Rattle.canon3.specs.Summary.{is_call, is_reply}
-
-abbrev pub calls : Kind → Bool
-calls (kinds.Call id) = true
-calls _ = false
-
-abbrev pub replies : Kind → Bool
-replies (kinds.Reply id) = true
-replies _ = false
 
 -- these entries came
 pub record ArePassed (passed : Passed) (entries : List Entry) : Type 0 where

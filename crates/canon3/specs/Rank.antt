@@ -27,8 +27,8 @@ module _ {K : Type 0} (same : K → K → Bool) where
   rank x l = 1 + length (distinct (before x l))
 
   -- A table of numbers holds the distinct ones of the keys that were given.
-  abbrev pub StandsFor : List K → List K → Type 0
-  StandsFor table given = table ≡ distinct given
+  abbrev pub HoldsDistinct : List K → List K → Type 0
+  HoldsDistinct table given = table ≡ distinct given
 
 -- the most that a number of a table may be
 abbrev pub number_limit : ℕ

@@ -10,9 +10,3 @@ AppendsFront old new bytes = (front : List ℕ) × (back : List ℕ) × (bytes �
 abbrev pub IsFlushed : (written flushed : Option (List ℕ)) → Type 0
 IsFlushed written None = ⊤
 IsFlushed written (Some bytes) = written ≡ Some bytes
-
--- the sink took the bytes up to the rest
-pub record HasTaken (old new : Option (List ℕ)) (bytes rest : List ℕ) : Type 0 where
-  pub front : List ℕ
-  pub split : bytes ≡ front ++ rest
-  pub appended : Appends old new front

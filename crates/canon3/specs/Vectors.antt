@@ -12,7 +12,7 @@ use Rattle.capture3.specs.FirstFault.{FirstFault}
 use Rattle.capture3.specs.Typed.{Typed}
 use Rattle.canon3.specs.Bytes.{bytes_of}
 use Rattle.canon3.specs.Canonical.{canonical}
-use Rattle.canon3.specs.Examples.{aa, bb, commits, connection, getattr, long, mount, mounted, one, call_of, reply_of, zero_verifier}
+use Rattle.canon3.specs.Examples.{aa, bb, commits, connection, getattr, long, mount, mnt_reply, one, call_of, success_reply, zero_verifier}
 
 -- The file has just these entries, and its canonical form just these bytes.
 pub record IsWorked (file : List ℕ) (entries : List Entry) (form : List ℕ) : Type 0 where
@@ -70,7 +70,7 @@ abbrev pub exchange : List ℕ
 exchange = exchange_of 7 (words (5 ∷ []) ++ (codes "abcde" ++ 255 ∷ 255 ∷ 255 ∷ []))
 
 abbrev pub exchange_entries : List Entry
-exchange_entries = one (getattr 7 (codes "abcde") ∷ []) (reply_of 100003 1 7 attribute_items ∷ [])
+exchange_entries = one (getattr 7 (codes "abcde") ∷ []) (success_reply 100003 1 7 attribute_items ∷ [])
 
 abbrev pub exchange_form : List ℕ
 exchange_form = exchange_of 1 (handle_in_form 1)
@@ -100,7 +100,7 @@ abbrev pub mounting : List ℕ
 mounting = mounting_of 3 9 (words (8 ∷ []) ++ long)
 
 abbrev pub mounting_entries : List Entry
-mounting_entries = connection (mount 3 ∷ []) (mounted 3 long ∷ []) ++ one (getattr 9 long ∷ []) []
+mounting_entries = connection (mount 3 ∷ []) (mnt_reply 3 long ∷ []) ++ one (getattr 9 long ∷ []) []
 
 abbrev pub mounting_form : List ℕ
 mounting_form = mounting_of 1 1 (handle_in_form 1)
@@ -156,7 +156,7 @@ directory = directory_of 4 (handle_of 0xaa) (handle_of 0xbb)
 abbrev pub directory_entries : List Entry
 directory_entries =
     one (call_of 100003 17 4 (Opaque Handle (codes "fh") aa ∷ Hyper (codes "cookie") 0 ∷ Fixed (codes "cookieverf") zero_verifier ∷ Word (codes "dircount") 512 ∷ Word (codes "maxcount") 4096 ∷ []) ∷ [])
-    (reply_of 100003 17 4 (Word (codes "status") 0 ∷ Word (codes "attr") 0 ∷ Fixed (codes "cookieverf") zero_verifier
+    (success_reply 100003 17 4 (Word (codes "status") 0 ∷ Word (codes "attr") 0 ∷ Fixed (codes "cookieverf") zero_verifier
     ∷ (listed_items 1 (codes ".") aa ++ (listed_items 2 (codes "a") [] ++ (listed_items 3 (codes "b") bb ++ (listed_items 4 (codes "..") aa ++ Word (codes "entry") 0 ∷ Word (codes "eof") 1 ∷ [])))))
     ∷ [])
 
@@ -192,42 +192,42 @@ abbrev pub raw_of : ℕ → List ℕ
 raw_of xid = capture (streams (call_bytes 100227 1 xid (words (4 ∷ []) ++ 10 ∷ 11 ∷ 12 ∷ []) ∷ []) (reply_bytes xid (1 ∷ 2 ∷ []) ∷ []))
 
 abbrev pub raw_entries : List Entry
-raw_entries = one (call_of 100227 1 5 (Rest (codes "rest") (0 ∷ 0 ∷ 0 ∷ 4 ∷ 10 ∷ 11 ∷ 12 ∷ []) ∷ []) ∷ []) (reply_of 100227 1 5 (Rest (codes "rest") (1 ∷ 2 ∷ []) ∷ []) ∷ [])
+raw_entries = one (call_of 100227 1 5 (Rest (codes "rest") (0 ∷ 0 ∷ 0 ∷ 4 ∷ 10 ∷ 11 ∷ 12 ∷ []) ∷ []) ∷ []) (success_reply 100227 1 5 (Rest (codes "rest") (1 ∷ 2 ∷ []) ∷ []) ∷ [])
 
 -- ---- refusals
 
-abbrev pub IsRefused : (file : List ℕ) → Side → (record_number byte : ℕ) → Reason → Type 0
-IsRefused file side record_number byte reason = FirstFault file (record { place = places.Record 1 side record_number byte; reason = reason })
+abbrev pub IsRefusedAt : (file : List ℕ) → Side → (record_number byte : ℕ) → Reason → Type 0
+IsRefusedAt file side record_number byte reason = FirstFault file (record { place = places.Record 1 side record_number byte; reason = reason })
 
 -- a connection with one call, and with a GETATTR call and one reply
-abbrev pub with_call : List ℕ → List ℕ
-with_call body = capture (streams (body ∷ []) [])
+abbrev pub capture_of_call : List ℕ → List ℕ
+capture_of_call body = capture (streams (body ∷ []) [])
 
-abbrev pub with_reply : List ℕ → List ℕ
-with_reply body = capture (streams (call_bytes 100003 1 7 (handle_of 0xaa) ∷ []) (body ∷ []))
+abbrev pub capture_of_reply : List ℕ → List ℕ
+capture_of_reply body = capture (streams (call_bytes 100003 1 7 (handle_of 0xaa) ∷ []) (body ∷ []))
 
 pub record RefusedCalls : Type 0 where
-  pub version : IsRefused (with_call (words (7 ∷ 0 ∷ 3 ∷ []))) Client 1 8 RpcVersion
-  pub credential : IsRefused (with_call (words (7 ∷ 0 ∷ 2 ∷ 100003 ∷ 3 ∷ 0 ∷ 6 ∷ 0 ∷ 0 ∷ 0 ∷ []))) Client 1 24 Flavor
-  pub verifier : IsRefused (with_call (words (7 ∷ 0 ∷ 2 ∷ 100003 ∷ 3 ∷ 0 ∷ 0 ∷ 0 ∷ 1 ∷ 0 ∷ []))) Client 1 32 Flavor
-  pub long_handle : IsRefused (with_call (call_bytes 100003 1 7 (words (65 ∷ 0 ∷ [])))) Client 1 40 TooLong
-  pub short_handle : IsRefused (with_call (call_bytes 100003 1 7 (words (8 ∷ 0 ∷ [])))) Client 1 44 Short
-  pub one_word_more : IsRefused (with_call (call_bytes 100003 1 7 (words (4 ∷ 0 ∷ 0 ∷ [])))) Client 1 48 Trailing
+  pub version : IsRefusedAt (capture_of_call (words (7 ∷ 0 ∷ 3 ∷ []))) Client 1 8 RpcVersion
+  pub credential : IsRefusedAt (capture_of_call (words (7 ∷ 0 ∷ 2 ∷ 100003 ∷ 3 ∷ 0 ∷ 6 ∷ 0 ∷ 0 ∷ 0 ∷ []))) Client 1 24 Flavor
+  pub verifier : IsRefusedAt (capture_of_call (words (7 ∷ 0 ∷ 2 ∷ 100003 ∷ 3 ∷ 0 ∷ 0 ∷ 0 ∷ 1 ∷ 0 ∷ []))) Client 1 32 Flavor
+  pub long_handle : IsRefusedAt (capture_of_call (call_bytes 100003 1 7 (words (65 ∷ 0 ∷ [])))) Client 1 40 TooLong
+  pub short_handle : IsRefusedAt (capture_of_call (call_bytes 100003 1 7 (words (8 ∷ 0 ∷ [])))) Client 1 44 Short
+  pub one_word_more : IsRefusedAt (capture_of_call (call_bytes 100003 1 7 (words (4 ∷ 0 ∷ 0 ∷ [])))) Client 1 48 Trailing
   -- a NULL call with the xid of a GETATTR call
-  pub one_xid : IsRefused (capture (streams (call_bytes 100003 1 7 (handle_of 0xaa) ∷ call_bytes 100003 0 7 [] ∷ []) [])) Client 2 0 XidConflict
+  pub one_xid : IsRefusedAt (capture (streams (call_bytes 100003 1 7 (handle_of 0xaa) ∷ call_bytes 100003 0 7 [] ∷ []) [])) Client 2 0 XidConflict
 
 pub record RefusedCredentials : Type 0 where
-  pub too_many_groups : IsRefused (call_by 96 (system_bytes 0 17 (replicate 17 5))) Client 1 56 TooLong
-  pub one_word_more : IsRefused (call_by 32 (system_bytes 0 0 (0 ∷ []))) Client 1 60 AuthLength
-  pub no_count : IsRefused (call_by 24 (system_bytes 0 0 [])) Client 1 56 AuthLength
-  pub too_long : IsRefused (call_by 401 (system_bytes 0 0 [])) Client 1 28 TooLong
+  pub too_many_groups : IsRefusedAt (call_by 96 (system_bytes 0 17 (replicate 17 5))) Client 1 56 TooLong
+  pub one_word_more : IsRefusedAt (call_by 32 (system_bytes 0 0 (0 ∷ []))) Client 1 60 AuthLength
+  pub no_count : IsRefusedAt (call_by 24 (system_bytes 0 0 [])) Client 1 56 AuthLength
+  pub too_long : IsRefusedAt (call_by 401 (system_bytes 0 0 [])) Client 1 28 TooLong
 
 pub record RefusedReplies : Type 0 where
-  pub no_call : IsRefused (capture (streams [] (reply_bytes 7 [] ∷ []))) Server 1 0 NoCall
-  pub a_call : IsRefused (with_reply (call_bytes 100003 0 7 [])) Server 1 4 WrongSide
-  pub reply_stat : IsRefused (with_reply (words (7 ∷ 1 ∷ 2 ∷ []))) Server 1 8 BadEnum
-  pub auth_stat : IsRefused (with_reply (words (7 ∷ 1 ∷ 1 ∷ 1 ∷ 15 ∷ []))) Server 1 16 BadEnum
-  pub accept_stat : IsRefused (with_reply (words (7 ∷ 1 ∷ 0 ∷ 0 ∷ 0 ∷ 6 ∷ []))) Server 1 20 BadEnum
-  pub status : IsRefused (with_reply (reply_bytes 7 (words (3 ∷ [])))) Server 1 24 BadEnum
+  pub no_call : IsRefusedAt (capture (streams [] (reply_bytes 7 [] ∷ []))) Server 1 0 NoCall
+  pub a_call : IsRefusedAt (capture_of_reply (call_bytes 100003 0 7 [])) Server 1 4 WrongSide
+  pub reply_stat : IsRefusedAt (capture_of_reply (words (7 ∷ 1 ∷ 2 ∷ []))) Server 1 8 BadEnum
+  pub auth_stat : IsRefusedAt (capture_of_reply (words (7 ∷ 1 ∷ 1 ∷ 1 ∷ 15 ∷ []))) Server 1 16 BadEnum
+  pub accept_stat : IsRefusedAt (capture_of_reply (words (7 ∷ 1 ∷ 0 ∷ 0 ∷ 0 ∷ 6 ∷ []))) Server 1 20 BadEnum
+  pub status : IsRefusedAt (capture_of_reply (reply_bytes 7 (words (3 ∷ [])))) Server 1 24 BadEnum
   -- a LOOKUP reply, whose attributes of the directory are there or not (RFC 1813, section 3.3.3)
-  pub attributes : IsRefused (capture (streams (call_bytes 100003 3 7 (handle_of 0xaa ++ (words (1 ∷ []) ++ (codes "a" ++ 0 ∷ 0 ∷ 0 ∷ []))) ∷ []) (reply_bytes 7 (words (2 ∷ 2 ∷ [])) ∷ []))) Server 1 28 BadBool
+  pub attributes : IsRefusedAt (capture (streams (call_bytes 100003 3 7 (handle_of 0xaa ++ (words (1 ∷ []) ++ (codes "a" ++ 0 ∷ 0 ∷ 0 ∷ []))) ∷ []) (reply_bytes 7 (words (2 ∷ 2 ∷ [])) ∷ []))) Server 1 28 BadBool

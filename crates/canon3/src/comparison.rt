@@ -1,10 +1,12 @@
 // Whether two captures are the same up to renaming.
 
 ghost use Rattle.std.specs.Prelude.{◌≡◌, ◌≢◌, ◌<◌, ◌≤◌, ◌+◌, ◌^◌, ◌++◌, ◌∷◌, ℕ, List, [], length, None, Some, IfErr, IfOk, IsTrue, OnOk};
-ghost use Rattle.capture3.specs.Entries.{CountsReading, entries_left, failure_of, StandsFor};
+ghost use Rattle.capture3.specs.Entries.{CountsReading, failure_of};
+ghost use Rattle.capture3.specs.machinery.Entries.{entries_left, StandsFor};
 ghost use Rattle.capture3.specs.Entry as spec;
-ghost use Rattle.capture3.specs.Position.{most_entries};
-ghost use Rattle.canon3.specs.Comparison.{Compares, CountsReadingOf, Decides, FindsOut, HasGiven, HasGivenOn, IsCompared, IsFound, IsReadAfter, IsReadOut, IsTold, IsUnderWay, Meets, met_second, ReadsOn, refusal_in, StepsOn};
+ghost use Rattle.capture3.specs.Laws.{most_entries};
+ghost use Rattle.canon3.specs.Comparison.{CountsReadingOf, DecidesSame};
+ghost use Rattle.canon3.specs.machinery.Comparison.{Compares, FindsOut, HasGiven, HasGivenOn, IsCompared, IsFound, IsReadAfter, IsReadOut, IsTold, IsComparing, Meets, met_second, ReadsOn, refusal_in, StepsOn};
 ghost use Rattle.canon3.specs.Laws.{AreFirst};
 ghost use Rattle.canon3.specs.Progress.{steps_of};
 ghost use Rattle.capture3.specs.Kept.{IsOfKind};
@@ -34,7 +36,7 @@ pub fn same<A: Source, B: Source, S: BuildHasher + Drop>(
     second: &mut B,
 ) -> Result<Verdict, SameError>
     ensures decides { (file other : List ℕ) → A.left first.old ≡ Some file
-        → B.left second.old ≡ Some other → Decides file other result }
+        → B.left second.old ≡ Some other → DecidesSame file other result }
     ensures read_first { CountsReadingOf Which.First (A.failures first.old)
         (A.failures first.new) result }
     ensures read_second { CountsReadingOf Which.Second (B.failures second.old)
@@ -96,7 +98,7 @@ fn compared<A: Source, B: Source, S: BuildHasher + Drop>(
     requires going_first { failure_of first.old ≡ None }
     requires going_second { failure_of second.old ≡ None }
     ensures decides { (file other : List ℕ) → A.left first.old.source.now ≡ Some file
-        → B.left second.old.source.now ≡ Some other → Decides file other result }
+        → B.left second.old.source.now ≡ Some other → DecidesSame file other result }
     ensures read_first { CountsReadingOf Which.First (A.failures first.old.source.now)
         (A.failures first.new.source.now) result }
     ensures read_second { CountsReadingOf Which.Second (B.failures second.old.source.now)
@@ -131,7 +133,7 @@ fn conclude<A: Source, B: Source, S: BuildHasher + Drop>(
     requires going_first { failure_of first.old ≡ None }
     requires going_second { failure_of second.old ≡ refusal_in (Some finding) }
     ensures decides { (file other : List ℕ) → IsFound A.left B.left file other first.old second.old
-        finding → Decides file other result }
+        finding → DecidesSame file other result }
     ensures read_first { CountsReadingOf Which.First (A.failures first.old.source.now)
         (A.failures first.new.source.now) result }
     ensures read_second { CountsReadingOf Which.Second (B.failures second.old.source.now)
@@ -235,7 +237,7 @@ impl<S: BuildHasher + Drop> Comparison<S> {
         requires going_second { failure_of second.old ≡ None }
         requires room { steps_of self.old.progress + entries_left first.old ≤ most_entries }
         ensures found { (file other : List ℕ)
-            → IsUnderWay A.left B.left file other first.old second.old self.old
+            → IsComparing A.left B.left file other first.old second.old self.old
             → FindsOut A.left B.left file other first.new second.new result }
         ensures going_first { OnOk result (failure_of first.new ≡ None) }
         ensures going_second { IfOk result
@@ -267,7 +269,7 @@ impl<S: BuildHasher + Drop> Comparison<S> {
         requires going_second { failure_of second.old ≡ None }
         requires room { steps_of self.old.progress + entries_left first.old ≤ most_entries }
         ensures steps { (file other : List ℕ)
-            → IsUnderWay A.left B.left file other first.old second.old self.old
+            → IsComparing A.left B.left file other first.old second.old self.old
             → StepsOn A.left B.left file other first.new second.new self.new result }
         ensures fewer { IfOk result (λ next. next ≡ None
             → entries_left first.new < entries_left first.old) }

@@ -4,7 +4,7 @@ ghost use Rattle.std.specs.Prelude.{◌≡◌, IfErr, OnErr, OnOk};
 ghost use Rattle.std.specs.Io.KnownBytes.{Appends};
 ghost use Rattle.xdr3.specs.Item.{word_bytes};
 ghost use Rattle.canon3.specs.Bytes.{chunk_bytes, record_bytes};
-ghost use Rattle.canon3.specs.Spelling.{spelling_of};
+ghost use Rattle.canon3.specs.machinery.Spelling.{spelling_of};
 ghost use Rattle.canon3.specs.WriteErrors.{CountsWriting, IsOfWriting};
 ghost use Rattle.canon3.specs.SinkWrites.{AppendsFront};
 

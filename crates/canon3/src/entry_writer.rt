@@ -2,10 +2,12 @@
 
 ghost use Rattle.std.specs.Prelude.{◌≡◌, ◌<◌, ◌≤◌, ◌+◌, ◌^◌, ◌++◌, ◌∷◌, ℕ, List, [], Option, None, bytes_eq, length, min, IfErr, IfOk, IsTrue, OnOk};
 ghost use Rattle.xdr3.specs.Item.{Item};
-ghost use Rattle.capture3.specs.Entries.{CountsReading, entries_left, failure_of, StandsFor};
+ghost use Rattle.capture3.specs.Entries.{CountsReading, failure_of};
+ghost use Rattle.capture3.specs.machinery.Entries.{entries_left, StandsFor};
 ghost use Rattle.capture3.specs.Entry as spec;
-ghost use Rattle.capture3.specs.Position.{most_entries};
-ghost use Rattle.canon3.specs.EntryWriter.{GoesOn, HasWritten, IsEnded, IsOver, IsUnderWay, KeepsPrefixes, WritesGiven, WritesMore, WritesOne};
+ghost use Rattle.capture3.specs.Laws.{most_entries};
+ghost use Rattle.canon3.specs.EntryWriter.{KeepsPrefixes, WritesGiven, WritesOne};
+ghost use Rattle.canon3.specs.machinery.EntryWriter.{WritesOn, HasWritten, IsEnded, WritesToTheEnd, IsWriting, WritesMore};
 ghost use Rattle.canon3.specs.Passed.{ArePassed, passed_steps};
 ghost use Rattle.canon3.specs.Rank.{distinct, number_limit};
 ghost use Rattle.canon3.specs.Values as values;
@@ -148,9 +150,10 @@ fn write_rest<R: Source, W: Sink, E: EntryWriter, S: BuildHasher + Drop>(
     requires prefixes { KeepsPrefixes E.form }
     requires room { passed_steps passed.old + entries_left entries.old ≤ most_entries }
     ensures over { (first old : Option (List ℕ))
-        → IsUnderWay E.form E.before E.stands E.going R.left first old entries.old writer.old
+        → IsWriting E.form E.before E.stands E.going R.left first old entries.old writer.old
         passed.old (W.written sink.old)
-        → IsOver E.form E.before E.stands E.going R.left first old entries.new writer.new passed.new
+        → WritesToTheEnd E.form E.before E.stands E.going R.left first old entries.new writer.new
+        passed.new
         (W.written sink.new) result }
     ensures read { CountsReading (R.failures entries.old.source.now)
         (R.failures entries.new.source.now) result }
@@ -172,9 +175,10 @@ fn write_next<R: Source, W: Sink, E: EntryWriter, S: BuildHasher + Drop>(
     requires prefixes { KeepsPrefixes E.form }
     requires room { passed_steps passed.old + entries_left entries.old ≤ most_entries }
     ensures goes_on { (first old : Option (List ℕ))
-        → IsUnderWay E.form E.before E.stands E.going R.left first old entries.old writer.old
+        → IsWriting E.form E.before E.stands E.going R.left first old entries.old writer.old
         passed.old (W.written sink.old)
-        → GoesOn E.form E.before E.stands E.going R.left first old entries.new writer.new passed.new
+        → WritesOn E.form E.before E.stands E.going R.left first old entries.new writer.new
+        passed.new
         (W.written sink.new) result }
     ensures fewer { IfOk result
         (λ more. IsTrue more → entries_left entries.new < entries_left entries.old) }

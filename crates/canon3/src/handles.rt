@@ -4,7 +4,7 @@ ghost use Rattle.std.specs.Prelude.{◌≡◌, ◌++◌, ◌∷◌, List, [], by
 ghost use Rattle.xdr3.specs.Item.{Item};
 ghost use Rattle.nfs3_types.specs.declared.handle.Handle as handles;
 ghost use Rattle.canon3.specs.HandleTable.{Gathers, same_handle};
-ghost use Rattle.canon3.specs.Rank.{distinct, number_limit, StandsFor};
+ghost use Rattle.canon3.specs.Rank.{distinct, number_limit, HoldsDistinct};
 ghost use Rattle.canon3.specs.Values.{handles_in};
 
 use crate::numbers::Numbers;
@@ -30,8 +30,9 @@ impl<S: BuildHasher + Drop> HandleTable<S> {
     }
 
     fn add(&mut self, handle: Handle) -> Result<(), AllocError>
-        ensures ok { (given : List handles.Handle) → StandsFor same_handle self.old.numbers given
-            → OnOk result (StandsFor same_handle self.new.numbers (given ++ handle ∷ [])) }
+        ensures ok { (given : List handles.Handle)
+            → HoldsDistinct same_handle self.old.numbers given
+            → OnOk result (HoldsDistinct same_handle self.new.numbers (given ++ handle ∷ [])) }
         ensures err { OnErr result (self.new.numbers ≡ self.old.numbers) }
     {
         self.numbers.number_of(handle)?;

@@ -5,7 +5,7 @@ ghost use Rattle.xdr3.specs.Item.{Handle as HandleKind, Item, Opaque, Word, Writ
 ghost use Rattle.xdr3.specs.Plain.{run_items, run_size};
 ghost use Rattle.xdr3.specs.Visit.{Adds};
 ghost use Rattle.canon3.specs.HandleTable.{HoldsHandles};
-ghost use Rattle.canon3.specs.MessageWriter.{Before, behind, Holds, IsGoing, Stands, values_of};
+ghost use Rattle.canon3.specs.machinery.MessageWriter.{Before, behind, HoldsBefore, IsGoing, WriterStands, values_of};
 ghost use Rattle.canon3.specs.Rank.{number_limit, rank};
 
 use crate::numbers::Numbers;
@@ -56,7 +56,7 @@ fn number_of_handle<S: BuildHasher + Drop>(
 impl<S: BuildHasher + Drop> MessageWriter<S> {
     /// Before a capture.
     pub(crate) fn new(alloc: Global, handles: S, verfs: S, xids: S) -> MessageWriter<S>
-        ensures stands { Stands result (behind (values_of []) []) }
+        ensures stands { WriterStands result (behind (values_of []) []) }
         ensures going { IsGoing result }
     {
         MessageWriter {
@@ -70,8 +70,8 @@ impl<S: BuildHasher + Drop> MessageWriter<S> {
 
     /// Begins a connection, whose calls have xids of their own.
     pub(crate) fn begin_connection(&mut self)
-        ensures { (before : Before) → Holds self.old before
-            → Holds self.new (record {
+        ensures { (before : Before) → HoldsBefore self.old before
+            → HoldsBefore self.new (record {
               xids = [];
               handles = before.handles;
               verifiers =
@@ -83,8 +83,8 @@ impl<S: BuildHasher + Drop> MessageWriter<S> {
 
     /// Begins a message in place of the one before.
     pub(crate) fn begin_message(&mut self)
-        ensures stands { (before : Before) → Holds self.old before
-            → Stands self.new (behind before []) }
+        ensures stands { (before : Before) → HoldsBefore self.old before
+            → WriterStands self.new (behind before []) }
         ensures going { IsGoing self.new }
     {
         self.writer.clear();
@@ -104,7 +104,7 @@ impl<S: BuildHasher + Drop> MessageWriter<S> {
     /// Writes the xid's number in place of the xid `n`.
     fn write_xid(&mut self, name: &'static str, n: u32) -> Result<(), AllocError>
         requires { self.old.stage ≡ Stage.Begins }
-        ensures ok { OnOk result (Adds Stands self.old self.new (Word name.now n ∷ [])) }
+        ensures ok { OnOk result (Adds WriterStands self.old self.new (Word name.now n ∷ [])) }
         ensures goes { OnOk result (self.new.stage ≡ Stage.Goes) }
     {
         let number = match self.xids.number_of(n) {
@@ -119,7 +119,7 @@ impl<S: BuildHasher + Drop> MessageWriter<S> {
     fn write_handle(&mut self, name: &'static str, bytes: &[u8]) -> Result<(), AllocError>
         requires short { length bytes.now ≤ 64 }
         requires some { bytes.now ≢ [] }
-        ensures ok { OnOk result (Adds Stands self.old self.new
+        ensures ok { OnOk result (Adds WriterStands self.old self.new
             (Opaque HandleKind name.now bytes.now ∷ [])) }
     {
         let number = match number_of_handle(&mut self.handles, bytes) {
@@ -133,7 +133,7 @@ impl<S: BuildHasher + Drop> MessageWriter<S> {
 
     /// Writes the verifier's number in place of the verifier.
     fn write_verifier(&mut self, name: &'static str, bytes: &[u8; 8]) -> Result<(), AllocError>
-        ensures ok { OnOk result (Adds Stands self.old self.new
+        ensures ok { OnOk result (Adds WriterStands self.old self.new
             (WriteVerf name.now bytes.now ∷ [])) }
     {
         let number = match self.verfs.number_of(*bytes) {
@@ -149,7 +149,8 @@ impl<S: BuildHasher + Drop> MessageWriter<S> {
     fn write_first(&mut self, fields: &[PlainField], bytes: &[u8]) -> Result<(), AllocError>
         requires size { length bytes.now ≡ run_size fields.now }
         requires begins { self.old.stage ≡ Stage.Begins }
-        ensures ok { OnOk result (Adds Stands self.old self.new (run_items fields.now bytes.now)) }
+        ensures ok { OnOk result
+            (Adds WriterStands self.old self.new (run_items fields.now bytes.now)) }
     {
         let Some((first, more)) = fields.split_first() else {
             return Ok(());
@@ -181,9 +182,9 @@ impl<S: BuildHasher + Drop> MessageWriter<S> {
 
 #[tactic(auto, unfolding(xdr3::specs::Visit::Adds, xdr3::specs::Visit::Keeps))]
 impl<S: BuildHasher + Drop> Visit for MessageWriter<S> {
-    ghost use Rattle.canon3.specs.MessageWriter.{Stands};
+    ghost use Rattle.canon3.specs.machinery.MessageWriter.{WriterStands};
 
-    ghost stands = { Stands };
+    ghost stands = { WriterStands };
 
     fn word(&mut self, name: &'static str, n: u32) -> Result<(), AllocError> {
         match self.stage {

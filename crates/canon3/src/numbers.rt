@@ -2,7 +2,7 @@
 
 ghost use Rattle.std.specs.Prelude.{◌≡◌, ◌+◌, ◌-◌, ◌^◌, ◌++◌, ◌∷◌, min, true, List, [], length, IfOk, OnOk, OnErr, IsOk};
 ghost use Rattle.std.specs.List.{list_any};
-ghost use Rattle.canon3.specs.Rank.{rank, distinct, StandsFor, number_limit};
+ghost use Rattle.canon3.specs.Rank.{rank, distinct, HoldsDistinct, number_limit};
 
 use indexmap::IndexSet;
 use std::alloc::{AllocError, Global};
@@ -30,7 +30,7 @@ impl<K: Copy + Eq + Hash, S: BuildHasher + Drop> Model for Numbers<K, S> {
 impl<K: Copy + Eq + Hash, S: BuildHasher + Drop> Numbers<K, S> {
     /// A table that was given no key.
     pub fn new(alloc: Global, hasher: S) -> Numbers<K, S>
-        ensures { StandsFor K.eq result [] }
+        ensures { HoldsDistinct K.eq result [] }
     {
         Numbers {
             keys: IndexSet::with_hasher(alloc, hasher),
@@ -41,11 +41,11 @@ impl<K: Copy + Eq + Hash, S: BuildHasher + Drop> Numbers<K, S> {
     /// 4,294,967,295. Only a key that was not given before takes memory, and where there is none the
     /// table stays.
     pub fn number_of(&mut self, key: K) -> Result<u32, AllocError>
-        ensures number { (given : List K) → StandsFor K.eq self.old given
+        ensures number { (given : List K) → HoldsDistinct K.eq self.old given
             → IfOk result (λ n. n ≡ min (rank K.eq key (given ++ key ∷ [])) number_limit) }
-        ensures given { (given : List K) → StandsFor K.eq self.old given
-            → OnOk result (StandsFor K.eq self.new (given ++ key ∷ [])) }
-        ensures known { (given : List K) → StandsFor K.eq self.old given
+        ensures given { (given : List K) → HoldsDistinct K.eq self.old given
+            → OnOk result (HoldsDistinct K.eq self.new (given ++ key ∷ [])) }
+        ensures known { (given : List K) → HoldsDistinct K.eq self.old given
             → list_any (K.eq key) given ≡ true → IsOk result }
         ensures err { OnErr result (self.new ≡ self.old) }
     {
@@ -55,7 +55,7 @@ impl<K: Copy + Eq + Hash, S: BuildHasher + Drop> Numbers<K, S> {
 
     /// The number of distinct keys given, at most 4,294,967,295.
     pub fn len(&self) -> u32
-        ensures { (given : List K) → StandsFor K.eq self.now given
+        ensures { (given : List K) → HoldsDistinct K.eq self.now given
             → result ≡ min (length (distinct K.eq given)) number_limit }
     {
         u32::try_from(self.keys.len()).unwrap_or(u32::MAX)
@@ -63,7 +63,7 @@ impl<K: Copy + Eq + Hash, S: BuildHasher + Drop> Numbers<K, S> {
 
     /// Forgets the keys, and keeps the hasher and the memory.
     pub fn clear(&mut self)
-        ensures { StandsFor K.eq self.new [] }
+        ensures { HoldsDistinct K.eq self.new [] }
     {
         self.keys.clear();
     }

@@ -2,9 +2,10 @@
 
 ghost use Rattle.std.specs.Prelude.{◌≡◌, ◌<◌, ◌≤◌, ◌+◌, ◌^◌, ◌++◌, ◌∷◌, List, [], bytes_eq, cond, length, min};
 ghost use Rattle.capture3.specs.Entry as spec;
-ghost use Rattle.canon3.specs.Passed.{ArePassed, calls, passed_steps, replies};
+ghost use Rattle.canon3.specs.Passed.{ArePassed, passed_steps};
+ghost use Rattle.canon3.specs.machinery.Passed.{calls, replies};
 ghost use Rattle.canon3.specs.Rank.{distinct, number_limit};
-ghost use Rattle.canon3.specs.Summary.{Sums};
+ghost use Rattle.canon3.specs.machinery.Summary.{Sums};
 ghost use Rattle.capture3.specs.Kept.{IsOfKind};
 ghost use Rattle.canon3.specs.Values as values;
 

@@ -1,7 +1,8 @@
 // How far the entries of a capture have come.
 
 ghost use Rattle.std.specs.Prelude.{◌≡◌, ◌<◌, ◌≤◌, ◌+◌, ◌^◌, [], None, Some};
-ghost use Rattle.canon3.specs.Progress.{HasPassed, side_of_kind, place_from, progress_after, steps_of};
+ghost use Rattle.canon3.specs.Progress.{HasPassed, steps_of};
+ghost use Rattle.canon3.specs.machinery.Progress.{side_of_kind, place_from, progress_after};
 
 use capture3::{Kind, Place, Side};
 

@@ -2,13 +2,15 @@
 
 ghost use Rattle.std.specs.Prelude.{◌≡◌, ◌≢◌, ◌<◌, ◌≤◌, ◌+◌, ℕ, List, [], Option, None, Some, IfErr, IfOk, IsTrue, OnOk};
 ghost use Rattle.capture3.specs.declared.fault.Fault.{Fault};
-ghost use Rattle.capture3.specs.Entries.{CountsReading, entries_left, failure_of, StandsFor};
+ghost use Rattle.capture3.specs.Entries.{CountsReading, failure_of};
+ghost use Rattle.capture3.specs.machinery.Entries.{entries_left, StandsFor};
 ghost use Rattle.capture3.specs.Entry as spec;
 ghost use Rattle.capture3.specs.FirstFault.{FirstFault};
-ghost use Rattle.capture3.specs.Position.{most_entries};
+ghost use Rattle.capture3.specs.Laws.{most_entries};
 ghost use Rattle.canon3.specs.Passed.{passed_steps};
-ghost use Rattle.canon3.specs.Summary.{ConcludesGiven, IsSummary, Sums};
-ghost use Rattle.canon3.specs.Tally.{GoesOn, IsOver, IsUnderWay, Tallies};
+ghost use Rattle.canon3.specs.Summary.{ConcludesGiven, IsSummary};
+ghost use Rattle.canon3.specs.machinery.Summary.{Sums};
+ghost use Rattle.canon3.specs.machinery.Tally.{TalliesOn, TalliesToTheEnd, IsTallying, Tallies};
 
 use crate::handles::HandleTable;
 use crate::passed::Passed;
@@ -99,8 +101,8 @@ impl<S: BuildHasher + Drop> Tally<S> {
     fn add_all<R: Source>(&mut self, entries: &mut Entries<'_, R, S>) -> Result<(), Error>
         requires going { failure_of entries.old ≡ None }
         requires room { passed_steps self.old.passed + entries_left entries.old ≤ most_entries }
-        ensures over { (first : Option (List ℕ)) → IsUnderWay R.left first entries.old self.old
-            → IsOver R.left first entries.new self.new result }
+        ensures over { (first : Option (List ℕ)) → IsTallying R.left first entries.old self.old
+            → TalliesToTheEnd R.left first entries.new self.new result }
         ensures read { CountsReading (R.failures entries.old.source.now)
             (R.failures entries.new.source.now) result }
         ensures write { IfErr result (λ error. error ≢ Error.Write) }
@@ -114,8 +116,8 @@ impl<S: BuildHasher + Drop> Tally<S> {
     fn add_next<R: Source>(&mut self, entries: &mut Entries<'_, R, S>) -> Result<bool, Error>
         requires going { failure_of entries.old ≡ None }
         requires room { passed_steps self.old.passed + entries_left entries.old ≤ most_entries }
-        ensures goes_on { (first : Option (List ℕ)) → IsUnderWay R.left first entries.old self.old
-            → GoesOn R.left first entries.new self.new result }
+        ensures goes_on { (first : Option (List ℕ)) → IsTallying R.left first entries.old self.old
+            → TalliesOn R.left first entries.new self.new result }
         ensures fewer { IfOk result (λ more. IsTrue more
             → entries_left entries.new < entries_left entries.old) }
         ensures going { OnOk result (failure_of entries.new ≡ None) }

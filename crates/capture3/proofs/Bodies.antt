@@ -14,7 +14,7 @@ use Rattle.xdr3.proofs.Items.{Spells-split}
 use Rattle.xdr3.proofs.Layouts.{reads_whole}
 use Rattle.rpc_head.specs.declared.call.ProcId.{ProcId}
 use Rattle.rpc_head.specs.Messages.{call_layout, call_start, reply_layout, reply_start, procedure_in}
-use Rattle.rpc_head.specs.Names.{names}
+use Rattle.rpc_head.specs.Names.{head_names}
 use Rattle.rpc_head.specs.Shapes.{◌then◌, message_start, message_types}
 use Rattle.procs3.specs.Table.{arguments_of, results_of}
 use Rattle.capture3.specs.Bodies.{ReplyItems, IsCall, IsReply, xid_in, procedure_of, Starts, LeavesMore, AcceptsCall, RefusesCall, AReply, BadCall, LongCall, OtherCall, AcceptsReply, RefusesReply, ACall, Unasked, BadReply, LongReply}
@@ -29,7 +29,7 @@ use Rattle.capture3.proofs.Layouts.{whole_read, refused_read, more_read, is_whol
 
 -- the items of a message's start
 abbrev pub start_of : ℕ → ℕ → List Item
-start_of xid mtype = Word names.xid xid ∷ Word names.mtype mtype ∷ []
+start_of xid mtype = Word head_names.xid xid ∷ Word head_names.mtype mtype ∷ []
 
 -- the start is read, and it is these two words
 pub start_read : (body : List ℕ) (xid mtype : ℕ) → Starts body xid mtype → (to : ℕ) × (reading message_start body 0 ≡ Ok (start_of xid mtype, to))
@@ -47,11 +47,11 @@ listed_fits : (name words : List ℕ) (items : List Item) → Fits (listed name 
 listed_fits name words items f = (f.0, f.2, f.4 ∙ ap (λ (more : List Item). Word name f.0 ∷ more) f.3)
 
 -- a start has two words
-pub two_words : (words : List ℕ) (items : List Item) → Fits (word names.xid then listed names.mtype words) items → (xid : ℕ) × (mtype : ℕ) × IsTrue (is_listed words mtype) × (items ≡ start_of xid mtype)
+pub two_words : (words : List ℕ) (items : List Item) → Fits (word head_names.xid then listed head_names.mtype words) items → (xid : ℕ) × (mtype : ℕ) × IsTrue (is_listed words mtype) × (items ≡ start_of xid mtype)
 two_words words items f =
-    let x = word_fits names.xid f.0 f.2 in
-    let m = listed_fits names.mtype words f.1 f.3 in
-    (x.0, m.0, m.1, f.4 ∙ ap (λ (b : List Item). b ++ f.1) x.1 ∙ ap (λ (b : List Item). Word names.xid x.0 ∷ b) m.2)
+    let x = word_fits head_names.xid f.0 f.2 in
+    let m = listed_fits head_names.mtype words f.1 f.3 in
+    (x.0, m.0, m.1, f.4 ∙ ap (λ (b : List Item). b ++ f.1) x.1 ∙ ap (λ (b : List Item). Word head_names.xid x.0 ∷ b) m.2)
 
 -- an mtype that is listed
 only_zero : (n : ℕ) → IsTrue (is_listed (0 ∷ []) n) → n ≡ 0
@@ -64,7 +64,7 @@ zero_or_one : (n : ℕ) → IsTrue (is_listed (0 ∷ 1 ∷ []) n) → (n ≡ 0) 
 zero_or_one n h = grind (arith, h)
 
 -- a message that begins with the start has its xid and its mtype
-has_start : (words : List ℕ) (body front back left : List ℕ) (xs ys : List Item) → Fits (word names.xid then listed names.mtype words) xs → Spells (xs ++ ys) front → body ≡ front ++ left
+has_start : (words : List ℕ) (body front back left : List ℕ) (xs ys : List Item) → Fits (word head_names.xid then listed head_names.mtype words) xs → Spells (xs ++ ys) front → body ≡ front ++ left
     → (xid : ℕ) × (mtype : ℕ) × (rest : List ℕ) × (some : List ℕ) × IsTrue (is_listed words mtype) × (xs ≡ start_of xid mtype) × Spells (start_of xid mtype) some × (body ≡ some ++ rest)
 has_start words body front back left xs ys f s split =
     let two = two_words words xs f in
@@ -82,7 +82,7 @@ call_starts body items left r =
       h.2,
       record {
         front = h.3;
-        fits = (Word names.xid (xid_in items) ∷ [], Word names.mtype 0 ∷ [], (xid_in items, [], refl, refl, refl), (0, [], refl, refl, refl), refl);
+        fits = (Word head_names.xid (xid_in items) ∷ [], Word head_names.mtype 0 ∷ [], (xid_in items, [], refl, refl, refl), (0, [], refl, refl, refl), refl);
         spells = subst (λ (xs : List Item). Spells xs h.3) same h.6;
         whole = h.7;
       },
@@ -99,7 +99,7 @@ reply_starts results body items left r =
       h.2,
       record {
         front = h.3;
-        fits = (Word names.xid (xid_in items) ∷ [], Word names.mtype 1 ∷ [], (xid_in items, [], refl, refl, refl), (1, [], refl, refl, refl), refl);
+        fits = (Word head_names.xid (xid_in items) ∷ [], Word head_names.mtype 1 ∷ [], (xid_in items, [], refl, refl, refl), (1, [], refl, refl, refl), refl);
         spells = subst (λ (xs : List Item). Spells xs h.3) same h.6;
         whole = h.7;
       },

@@ -4,7 +4,10 @@ use Rattle.std.specs.List.{concat}
 use Rattle.xdr3.specs.Item.{AreBytes}
 use Rattle.record_mark.specs.RecordMark.{IsFragment, IsRecord}
 use Rattle.record_mark.specs.Word.{Joins}
-use Rattle.capture3.specs.Chunks.{IsChunk, AreChunks, IsStream}
+use Rattle.capture3.specs.declared.fault.Side.{Side}
+use Rattle.capture3.specs.declared.fault.Side.TheVariants.{Client, Server}
+use Rattle.capture3.specs.Chunks.{IsChunk, AreChunks}
+use Rattle.capture3.specs.SidedChunks.{Streams, SidedChunk, IsSidedChunk, of_side, carried_by, AreMixed}
 
 pub AreBytes-nil : AreBytes []
 AreBytes-nil i = omega arith
@@ -44,8 +47,26 @@ pub chunk_bytes : (bytes stream : List ℕ) → AreChunks bytes stream → AreBy
 chunk_bytes bytes stream h are =
     subst AreBytes (sym h.carried) (joined_bytes IsChunk (λ b chunk c all. (split_bytes b c.header chunk c.split all).1) h.chunks bytes h.joined are)
 
-pub stream_bytes : (bytes stream : List ℕ) → IsStream bytes stream → AreBytes bytes → AreBytes stream
-stream_bytes bytes stream h are = chunk_bytes h.front stream h.chunks (split_bytes bytes h.front h.last h.split are).0
+of_side_bytes : (a b : Side) (bytes : List ℕ) → AreBytes bytes → AreBytes (of_side a b bytes)
+of_side_bytes Client Client bytes h = h
+of_side_bytes Server Server bytes h = h
+of_side_bytes Client Server bytes h = AreBytes-nil
+of_side_bytes Server Client bytes h = AreBytes-nil
+
+carried_bytes : (side : Side) (chunks : List SidedChunk) (bytes : List ℕ) → Joins IsSidedChunk bytes chunks → AreBytes bytes → AreBytes (carried_by side chunks)
+carried_bytes side [] bytes h are = AreBytes-nil
+carried_bytes side (chunk ∷ chunks) bytes h are =
+    let s = split_bytes bytes h.0 h.1 h.2 are in
+    let c = split_bytes h.0 h.3.word h.3.rest h.3.split s.0 in
+    let one = split_bytes h.3.rest h.3.chunked.header chunk.bytes h.3.chunked.split c.1 in
+    AreBytes-append (of_side side chunk.side chunk.bytes) (carried_by side chunks) (of_side_bytes side chunk.side chunk.bytes one.1) (carried_bytes side chunks h.1 h.4 s.1)
+
+pub mixed_bytes : (bytes : List ℕ) (streams : Streams) → AreMixed bytes streams → AreBytes bytes → AreBytes streams.client × AreBytes streams.server
+mixed_bytes bytes streams h are =
+    let front = (split_bytes bytes h.front h.last h.split are).0 in (
+      subst AreBytes (ap (λ (s : Streams). s.client) (sym h.carried)) (carried_bytes Client h.chunks h.front h.joined front),
+      subst AreBytes (ap (λ (s : Streams). s.server) (sym h.carried)) (carried_bytes Server h.chunks h.front h.joined front),
+    )
 
 pub record_bytes : (bytes body : List ℕ) → IsRecord bytes body → AreBytes bytes → AreBytes body
 record_bytes bytes body h are =

@@ -4,7 +4,7 @@ use Rattle.xdr3.specs.Item.{Item}
 use Rattle.rpc_head.specs.declared.call.ProcId.{ProcId}
 use Rattle.rpc_head.specs.Messages.{procedure_in}
 use Rattle.capture3.specs.Bodies.{ReplyItems, IsCall, IsReply, xid_in, procedure_of, AcceptsCall}
-use Rattle.capture3.specs.Capture.{Streams}
+use Rattle.capture3.specs.SidedChunks.{Streams}
 use Rattle.capture3.specs.Connections.{calls_in_turn, replies_to}
 use Rattle.capture3.specs.Laws.{IsJudgedInTurn}
 use Rattle.capture3.specs.Records.{AreMessages, Holds}

@@ -6,7 +6,7 @@ use Rattle.record_mark.specs.Machine.{Next, Goes, Ends, Runs, Stops, landed, aft
 use Rattle.record_mark.proofs.Machines.{after-append, after_stopped, runs_along, last_running-append}
 use Rattle.xdr3.specs.Item.{AreBytes}
 use Rattle.capture3.specs.declared.fault.Fault.{Fault}
-use Rattle.capture3.specs.Connections.{Refusal}
+use Rattle.capture3.specs.Connections.{ShownFault}
 use Rattle.capture3.specs.Entry.{Entry}
 use Rattle.capture3.specs.FirstFault.{Shows}
 use Rattle.capture3.specs.Parsing.{Parsing, file_next, file_start, parsed, verdict, emitted, last_entries, reached}
@@ -18,18 +18,18 @@ use Rattle.capture3.proofs.Reaches.{whole_stands, stands_whole}
 use Rattle.capture3.proofs.Verdicts.{told, shows_from_stops, stops_from_shows, clean_from_runs, typed_from_verdict, verdict_from_typed}
 
 -- what the machine emits is what the bytes reach
-pub landed_ends : (shown : Refusal) (n : Next Parsing Refusal) → landed n ≡ Stops shown → n ≡ Ends shown
+pub landed_ends : (shown : ShownFault) (n : Next Parsing ShownFault) → landed n ≡ Stops shown → n ≡ Ends shown
 landed_ends shown (Goes t) e = absurd (cc)
 landed_ends shown (Ends x) e = cc
 
 one_more : (front : List ℕ) (s : Parsing) (byte : ℕ) → parsed front ≡ Runs s → parsed (front ++ byte ∷ []) ≡ landed (file_next s byte)
 one_more front s byte e = after-append file_next (Runs file_start) front (byte ∷ []) ∙ ap (λ r. after file_next r (byte ∷ [])) e
 
-stopped_entries : (shown : Refusal) (back : List ℕ) → last_entries (after file_next (Stops shown) back) ≡ shown.more
+stopped_entries : (shown : ShownFault) (back : List ℕ) → last_entries (after file_next (Stops shown) back) ≡ shown.more
 stopped_entries shown [] = refl
 stopped_entries shown (byte ∷ back) = ap last_entries (after_stopped file_next shown back)
 
-behind_entries : (bytes front : List ℕ) (s : Parsing) (byte : ℕ) (back : List ℕ) (shown : Refusal) → bytes ≡ front ++ byte ∷ back → parsed front ≡ Runs s → file_next s byte ≡ Ends shown → last_entries (parsed bytes) ≡ shown.more
+behind_entries : (bytes front : List ℕ) (s : Parsing) (byte : ℕ) (back : List ℕ) (shown : ShownFault) → bytes ≡ front ++ byte ∷ back → parsed front ≡ Runs s → file_next s byte ≡ Ends shown → last_entries (parsed bytes) ≡ shown.more
 behind_entries bytes front s byte back shown split e ends =
     ap last_entries (ap parsed split ∙ after-append file_next (Runs file_start) front (byte ∷ back) ∙ ap (λ r. after file_next r (byte ∷ back)) e ∙ ap (λ n. after file_next (landed n) back) ends)
     ∙ stopped_entries shown back
@@ -43,7 +43,7 @@ longest_is : (bytes front : List ℕ) (s : Parsing) (more : List Entry) → (h :
     → (last_running file_next s h.rest ≡ s) × (last_entries (parsed bytes) ≡ more)
 longest_is bytes front s more h are e = go h.longest
   where
-    go : ((h.rest ≡ []) × (more ≡ [])) ⊎ ((byte : ℕ) × (back : List ℕ) × (shown : Refusal) × (h.rest ≡ byte ∷ back) × Shows (front ++ byte ∷ []) shown × (more ≡ shown.more)) → (last_running file_next s h.rest ≡ s) × (last_entries (parsed bytes) ≡ more)
+    go : ((h.rest ≡ []) × (more ≡ [])) ⊎ ((byte : ℕ) × (back : List ℕ) × (shown : ShownFault) × (h.rest ≡ byte ∷ back) × Shows (front ++ byte ∷ []) shown × (more ≡ shown.more)) → (last_running file_next s h.rest ≡ s) × (last_entries (parsed bytes) ≡ more)
     go (inl l) = (
       ap (last_running file_next s) l.0,
       ap last_entries (ap parsed (h.split ∙ ap (λ (b : List ℕ). front ++ b) l.0 ∙ append-nil front) ∙ e) ∙ sym l.1,
@@ -66,8 +66,8 @@ machine_reaches bytes entries are (inr h) =
     ∙ ap₂ (λ t es. emitted t ++ es) (sym (ap (last_running file_next file_start) longest.split ∙ last_running-append file_next file_start at.state front longest.rest runs ∙ last.0)) (sym last.1)
     ∙ sym (reached_without bytes (verdict bytes) refl are bad)
 
-longest_cases : (bytes front : List ℕ) (s : Parsing) (rest : List ℕ) → AreBytes bytes → bytes ≡ front ++ rest → parsed front ≡ Runs s → ((byte : ℕ) (back : List ℕ) → rest ≡ byte ∷ back → (x : Refusal) × (file_next s byte ≡ Ends x))
-    → ((rest ≡ []) × (last_entries (parsed bytes) ≡ [])) ⊎ ((byte : ℕ) × (back : List ℕ) × (shown : Refusal) × (rest ≡ byte ∷ back) × Shows (front ++ byte ∷ []) shown × (last_entries (parsed bytes) ≡ shown.more))
+longest_cases : (bytes front : List ℕ) (s : Parsing) (rest : List ℕ) → AreBytes bytes → bytes ≡ front ++ rest → parsed front ≡ Runs s → ((byte : ℕ) (back : List ℕ) → rest ≡ byte ∷ back → (x : ShownFault) × (file_next s byte ≡ Ends x))
+    → ((rest ≡ []) × (last_entries (parsed bytes) ≡ [])) ⊎ ((byte : ℕ) × (back : List ℕ) × (shown : ShownFault) × (rest ≡ byte ∷ back) × Shows (front ++ byte ∷ []) shown × (last_entries (parsed bytes) ≡ shown.more))
 longest_cases bytes front s [] are split e stops = inl (refl, ap last_entries (ap parsed (split ∙ append-nil front) ∙ e))
 longest_cases bytes front s (byte ∷ back) are split e stops =
     let stop = stops byte back refl in

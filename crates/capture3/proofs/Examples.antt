@@ -10,10 +10,11 @@ use Rattle.rpc_head.specs.Shapes.{accept, call_head, credential, deny, message_s
 use Rattle.procs3.specs.Table.{arguments_of, results_of}
 use Rattle.capture3.specs.declared.fault.Place.TheVariants.{File, Record}
 use Rattle.capture3.specs.declared.fault.Side.TheVariants.{Client, Server}
-use Rattle.capture3.specs.Entry.{Begin, Turn, Close, End}
-use Rattle.capture3.specs.Examples.{magic_1, word_0, word_1, word_2, null_call, null_reply, null_capture, null_entries, bad_mtype as bad_mtype_bytes, bad_mtype_cut as bad_mtype_cut_bytes}
+use Rattle.capture3.specs.Entry.{Begin, Call, Turn, Close, End}
+use Rattle.capture3.specs.Examples.{magic_1, magic_2, word_0, word_1, word_2, word_3, null_call, null_reply, null_call_items, null_capture, null_entries, bad_mtype as bad_mtype_bytes, bad_mtype_cut as bad_mtype_cut_bytes, client_chunk, server_chunk}
+use Rattle.capture3.specs.Examples.{null_mixed as null_mixed_bytes, null_mixed_swapped as null_mixed_swapped_bytes, bad_mtype_mixed as bad_mtype_mixed_bytes, bad_mtype_mixed_cut as bad_mtype_mixed_cut_bytes, call_answered_by_call as call_answered_by_call_bytes}
 use Rattle.capture3.specs.Judging.{judge_call, judge_reply}
-use Rattle.capture3.specs.Parsing.{verdict}
+use Rattle.capture3.specs.Parsing.{reached, verdict}
 
 pub smallest : verdict (magic_1 ++ word_0) ≡ Ok (End ∷ [])
 unfolding number
@@ -23,7 +24,7 @@ pub empty_streams : verdict (magic_1 ++ word_1 ++ word_0 ++ word_0 ++ word_0) �
 unfolding number
 empty_streams = refl
 
-pub bad_magic : verdict (78 ∷ 70 ∷ 83 ∷ 51 ∷ 67 ∷ 65 ∷ 80 ∷ 50 ∷ []) ≡ Err (record { place = File 7; reason = BadMagic })
+pub bad_magic : verdict (78 ∷ 70 ∷ 83 ∷ 51 ∷ 67 ∷ 65 ∷ 80 ∷ 51 ∷ []) ≡ Err (record { place = File 7; reason = BadMagic })
 bad_magic = refl
 
 pub bad_mark : verdict (magic_1 ++ word_2) ≡ Err (record { place = File 8; reason = BadMark })
@@ -79,3 +80,63 @@ wrong_side = refl
 pub null_typed : verdict null_capture ≡ Ok null_entries
 unfolding number is_last length_of judge_call judge_reply reading reading_layout message_start call_layout call_start call_head reply_layout reply_start reply_head credential verifier accept deny arguments_of results_of
 null_typed = refl
+
+-- ---- version 2
+
+pub smallest_mixed : verdict (magic_2 ++ word_0) ≡ Ok (End ∷ [])
+unfolding number
+smallest_mixed = refl
+
+pub magic_2_alone : verdict magic_2 ≡ Err (record { place = File 8; reason = CaptureCut })
+magic_2_alone = refl
+
+pub empty_mixed : verdict (magic_2 ++ word_1 ++ word_0 ++ word_0) ≡ Ok (Begin ∷ Turn ∷ Close ∷ End ∷ [])
+unfolding number
+empty_mixed = refl
+
+pub bad_side : verdict (magic_2 ++ word_1 ++ word_3) ≡ Err (record { place = File 12; reason = BadMark })
+unfolding number
+bad_side = refl
+
+pub no_length : verdict (magic_2 ++ word_1 ++ word_1 ++ word_0) ≡ Err (record { place = File 16; reason = BadMark })
+unfolding number
+no_length = refl
+
+pub bad_side_after_chunks : verdict (magic_2 ++ word_1 ++ client_chunk ++ server_chunk ++ word_3) ≡ Err (record { place = File 100; reason = BadMark })
+unfolding number
+bad_side_after_chunks = refl
+
+pub too_many_mixed : verdict (magic_2 ++ word_1 ++ word_1 ++ 64 ∷ 0 ∷ 0 ∷ 1 ∷ []) ≡ Err (record { place = File 16; reason = TooManyBytes })
+unfolding number
+too_many_mixed = refl
+
+-- the chunks of both sides, in either order
+pub null_mixed : verdict null_mixed_bytes ≡ Ok null_entries
+unfolding number is_last length_of judge_call judge_reply reading reading_layout message_start call_layout call_start call_head reply_layout reply_start reply_head credential verifier accept deny arguments_of results_of
+null_mixed = refl
+
+pub null_mixed_swapped : verdict null_mixed_swapped_bytes ≡ Ok null_entries
+unfolding number is_last length_of judge_call judge_reply reading reading_layout message_start call_layout call_start call_head reply_layout reply_start reply_head credential verifier accept deny arguments_of results_of
+null_mixed_swapped = refl
+
+-- a record at fault is reported at the side word 0, and not before
+pub bad_mtype_mixed : verdict bad_mtype_mixed_bytes ≡ Err (record { place = Record 1 Client 1 4; reason = BadEnum })
+unfolding number is_last length_of judge_call reading message_start
+bad_mtype_mixed = refl
+
+pub bad_mtype_mixed_cut : verdict bad_mtype_mixed_cut_bytes ≡ Err (record { place = File 35; reason = CaptureCut })
+unfolding number is_last length_of
+bad_mtype_mixed_cut = refl
+
+pub call_answered_by_call : verdict call_answered_by_call_bytes ≡ Err (record { place = Record 1 Server 1 4; reason = WrongSide })
+unfolding number is_last length_of judge_call judge_reply reading reading_layout message_start call_layout call_start call_head credential verifier arguments_of
+call_answered_by_call = refl
+
+-- what is before the fault is reached with the side word 0, and not before
+pub reached_at_fault : Begin ∷ Call null_call_items ∷ Turn ∷ [] ≡ reached call_answered_by_call_bytes
+unfolding number is_last length_of judge_call judge_reply reading reading_layout message_start call_layout call_start call_head credential verifier arguments_of
+reached_at_fault = refl
+
+pub reached_before_side : Begin ∷ [] ≡ reached bad_mtype_mixed_cut_bytes
+unfolding number is_last length_of
+reached_before_side = refl

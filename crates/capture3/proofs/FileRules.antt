@@ -9,23 +9,27 @@ use Rattle.xdr3.specs.declared.reason.Reason.TheVariants.{TooManyConnections, Af
 use Rattle.capture3.specs.declared.fault.Fault.{Fault}
 use Rattle.capture3.specs.declared.fault.Side.TheVariants.{Client, Server}
 use Rattle.capture3.specs.Bodies.{ReplyItems}
-use Rattle.capture3.specs.Capture.{Version, One, magic, max_connections, Streams, size, total_size, AreStreams, IsConnection}
+use Rattle.capture3.specs.Capture.{Version, One, Two, magic, max_connections, total_size, AreStreams, IsConnection}
+use Rattle.capture3.specs.SidedChunks.{Streams, size, AreMixed}
 use Rattle.capture3.specs.Chunks.{IsStream}
-use Rattle.capture3.specs.Connections.{Context, Refusal, refusal, client_position, server_position, calls_in_turn, replies_to, ServerShows, ConnectionShows}
+use Rattle.capture3.specs.Connections.{Context, ShownFault, refusal, client_refusal, server_refusal, client_position, server_position, calls_in_turn, replies_to, ServerShows, StreamsShow, InClientStream, InServerStream, ConnectionShows}
 use Rattle.capture3.specs.Entry.{Entry}
 use Rattle.capture3.specs.FirstFault.{BehindConnections, Rule, MagicDiffers, MarkIsBad, ConnectionIsTooMany, WithinConnection, ByteBehindEnd}
 use Rattle.capture3.specs.Judging.{judge_call}
-use Rattle.capture3.specs.Opening.{judge_replies, Opening, InClient, InServer, Closing, Closes, Refuses, turning, ending, opening_next, opened}
+use Rattle.capture3.specs.Mixing.{MixedEnd, MixedCloses, MixedRefuses, mixed_next, mixing_from}
+use Rattle.capture3.specs.Opening.{judge_replies, Opening, InClient, InServer, InMixed, Closing, Closes, Refuses, turning, ending, server_said, client_said, conversing, opening_next, opened}
 use Rattle.capture3.specs.Parsing.{Mark, Inside, Parsing, marked, closed, file_next, file_start, parsed}
 use Rattle.capture3.specs.Records.{Judgement, RecordFault}
-use Rattle.capture3.specs.Reading.{Reading, stream_next, unread}
+use Rattle.capture3.specs.Reading.{Reading, StreamEnd, Held, Faulty, stream_next, stream_end, unread}
 use Rattle.capture3.specs.Sides.{Position, place_at, file_fault, SideShows}
 use Rattle.capture3.specs.Siding.{SideEnd, SideCloses, SideRefuses, side_next, siding_from}
 use Rattle.capture3.specs.Typed.{connection_entries}
 use Rattle.capture3.proofs.SideRules.{RefusedSide, ClosedSide, side_closed_or, side_over}
 use Rattle.capture3.proofs.Bodies.{the_calls, the_replies}
 use Rattle.capture3.proofs.Files.{mark_runs, magics_run, length_magic, bad_mark_stops, magic_stops}
-use Rattle.capture3.proofs.Overs.{Gone, Over, gone_past, gone_more, nested_gone, nested_over}
+use Rattle.capture3.proofs.MixedRules.{RefusedMixed, closes_over, mixed_over, mixed_some}
+use Rattle.capture3.proofs.Overs.{Gone, Past, Over, gone_past, gone_more, nested_gone, nested_over, nested_past}
+use Rattle.capture3.proofs.StreamEnds.{stream_ends}
 use Rattle.capture3.proofs.Streams.{stream_runs}
 
 -- ---- a connection
@@ -89,17 +93,71 @@ server_over context bytes fault h =
         inr (gone_past (opening_next context.number) RefusedClosing (after (opening_next context.number) (Runs (opened One context.start context.before)) h.front) h.last
         (side_some (replies_to h.calls) (server_position context h.front h.client) h.last fault h.shows) gone)
 
-pub connection_over : (version : Version) (context : Context) (bytes : List ℕ) (shown : Refusal) → ConnectionShows version context bytes shown → Over RefusedClosing (after (opening_next context.number) (Runs (opened version context.start context.before)) bytes) (Refuses shown)
+-- ---- version 2
+
+pub conversing_ends : (number : ℕ) (x : MixedEnd) → RefusedMixed x → (y : Closing) × RefusedClosing y × (conversing number x ≡ Ends y)
+conversing_ends number (MixedCloses at total streams) h = absurd h
+conversing_ends number (MixedRefuses fault) h = (Refuses (refusal fault), tt, refl)
+
+-- after the streams, which are gathered
+abbrev Gathered : Context → List ℕ → Streams → Run Opening Closing → Type 0
+Gathered context bytes streams run =
+    (run ≡ landed (client_said context.number (context.start + length bytes) (context.before + size streams) streams.server (stream_end judge_call streams.client))) ⊎ Past RefusedClosing run
+
+gathered_or : (context : Context) (bytes : List ℕ) (streams : Streams) → AreMixed bytes streams → Gathered context bytes streams (after (opening_next context.number) (Runs (opened Two context.start context.before)) bytes)
+gathered_or context bytes streams h = go (closes_over context bytes streams h)
+  where
+    go : Over RefusedMixed (after mixed_next (Runs (mixing_from context.start context.before)) bytes) (MixedCloses (context.start + length bytes) (context.before + size streams) streams)
+        → Gathered context bytes streams (after (opening_next context.number) (Runs (opened Two context.start context.before)) bytes)
+    go (inl e) =
+        inl (nested_stops mixed_next (opening_next context.number) InMixed (conversing context.number) (λ s byte. refl) bytes (mixing_from context.start context.before) (MixedCloses (context.start + length bytes) (context.before + size streams) streams) e)
+    go (inr past) =
+        inr (nested_past mixed_next (opening_next context.number) InMixed (conversing context.number) RefusedMixed RefusedClosing (λ s byte. refl) (conversing_ends context.number) bytes (mixing_from context.start context.before) past)
+
+streams_over : (context : Context) (bytes : List ℕ) (shown : ShownFault) → StreamsShow context.number bytes shown → Over RefusedClosing (after (opening_next context.number) (Runs (opened Two context.start context.before)) bytes) (Refuses shown)
+streams_over context bytes shown (InClientStream streams calls fault mixed first same) = go (gathered_or context bytes streams mixed)
+  where
+    go : Gathered context bytes streams (after (opening_next context.number) (Runs (opened Two context.start context.before)) bytes) → Over RefusedClosing (after (opening_next context.number) (Runs (opened Two context.start context.before)) bytes) (Refuses shown)
+    go (inl e) =
+        inl (e ∙ ap (λ x. landed (client_said context.number (context.start + length bytes) (context.before + size streams) streams.server x)) (stream_ends the_calls streams.client (Faulty calls fault) first)
+        ∙ ap (λ r. Stops (Refuses r)) (sym same))
+    go (inr past) = inr past
+streams_over context bytes shown (InServerStream streams calls replies fault mixed holds first same) = go (gathered_or context bytes streams mixed)
+  where
+    go : Gathered context bytes streams (after (opening_next context.number) (Runs (opened Two context.start context.before)) bytes) → Over RefusedClosing (after (opening_next context.number) (Runs (opened Two context.start context.before)) bytes) (Refuses shown)
+    go (inl e) =
+        inl (e ∙ ap (λ x. landed (client_said context.number (context.start + length bytes) (context.before + size streams) streams.server x)) (stream_ends the_calls streams.client (Held calls) holds)
+        ∙ ap (λ x. landed (server_said context.number (context.start + length bytes) (context.before + size streams) calls x)) (stream_ends (the_replies calls) streams.server (Faulty replies fault) first)
+        ∙ ap (λ r. Stops (Refuses r)) (sym same))
+    go (inr past) = inr past
+
+mixed_length : (bytes : List ℕ) (streams : Streams) → AreMixed bytes streams → 0 < length bytes
+mixed_length bytes streams h = omega (arith, ap length h.split, length-append h.front h.last, h.closes.0)
+
+streams_some : (number : ℕ) (bytes : List ℕ) (shown : ShownFault) → StreamsShow number bytes shown → 0 < length bytes
+streams_some number bytes shown (InClientStream streams calls fault mixed first same) = mixed_length bytes streams mixed
+streams_some number bytes shown (InServerStream streams calls replies fault mixed holds first same) = mixed_length bytes streams mixed
+
+-- ---- by version
+
+pub connection_over : (version : Version) (context : Context) (bytes : List ℕ) (shown : ShownFault) → ConnectionShows version context bytes shown → Over RefusedClosing (after (opening_next context.number) (Runs (opened version context.start context.before)) bytes) (Refuses shown)
 connection_over One context bytes shown (same, inl h) =
     subst (λ r. Over RefusedClosing (after (opening_next context.number) (Runs (opened One context.start context.before)) bytes) (Refuses r)) (sym same)
     (nested_over (side_next judge_call (place_at context.number Client)) (opening_next context.number) InClient turning RefusedSide RefusedClosing (λ s byte. refl) turning_ends bytes (siding_from context.start context.before) (SideRefuses shown.fault) (Refuses (refusal shown.fault)) refl
     (side_over the_calls (client_position context) bytes shown.fault h))
 connection_over One context bytes shown (same, inr h) =
     subst (λ r. Over RefusedClosing (after (opening_next context.number) (Runs (opened One context.start context.before)) bytes) (Refuses r)) (sym same) (server_over context bytes shown.fault h)
+connection_over Two context bytes shown (inl (same, h)) =
+    subst (λ r. Over RefusedClosing (after (opening_next context.number) (Runs (opened Two context.start context.before)) bytes) (Refuses r)) (sym same)
+    (nested_over mixed_next (opening_next context.number) InMixed (conversing context.number) RefusedMixed RefusedClosing (λ s byte. refl) (conversing_ends context.number) bytes (mixing_from context.start context.before) (MixedRefuses shown.fault) (Refuses (refusal shown.fault)) refl
+    (mixed_over context bytes shown.fault h))
+connection_over Two context bytes shown (inr h) = streams_over context bytes shown h
 
-pub connection_some : (version : Version) (context : Context) (bytes : List ℕ) (shown : Refusal) → ConnectionShows version context bytes shown → 0 < length bytes
+pub connection_some : (version : Version) (context : Context) (bytes : List ℕ) (shown : ShownFault) → ConnectionShows version context bytes shown → 0 < length bytes
 connection_some One context bytes shown (same, inl h) = side_some calls_in_turn (client_position context) bytes shown.fault h
 connection_some One context bytes shown (same, inr h) = omega (arith, ap length h.split, length-append h.front h.last, side_some (replies_to h.calls) (server_position context h.front h.client) h.last shown.fault h.shows)
+connection_some Two context bytes shown (inl (same, h)) = mixed_some context bytes shown.fault h
+connection_some Two context bytes shown (inr h) = streams_some context.number bytes shown h
 
 -- a whole connection
 abbrev pub ClosedConnection : ℕ → ℕ → Run Opening Closing → Type 0
@@ -135,10 +193,24 @@ connection_or One context bytes streams h =
         subst (λ run. ClosedConnection (context.start + length bytes) (context.before + size streams) (after (opening_next context.number) run h.last)) (sym r.2)
         (server r.0 (side_closed_or (the_replies r.0) (server_position context h.front streams.client) h.last streams.server h.server))
     go (inr gone) = inr (gone_more (opening_next context.number) RefusedClosing (after (opening_next context.number) (Runs (opened One context.start context.before)) h.front) h.last gone)
+connection_or Two context bytes streams h = go (gathered_or context bytes streams h)
+  where
+    server : (calls : List (List Item)) (x : StreamEnd ReplyItems) → ClosedConnection (context.start + length bytes) (context.before + size streams) (landed (server_said context.number (context.start + length bytes) (context.before + size streams) calls x))
+    server calls (Held replies) = inl (connection_entries calls replies, refl)
+    server calls (Faulty replies fault) = inr (Refuses (server_refusal context.number calls replies fault), tt, inl refl)
+
+    client : (x : StreamEnd (List Item)) → ClosedConnection (context.start + length bytes) (context.before + size streams) (landed (client_said context.number (context.start + length bytes) (context.before + size streams) streams.server x))
+    client (Held calls) = server calls (stream_end (judge_replies calls) streams.server)
+    client (Faulty calls fault) = inr (Refuses (client_refusal context.number calls fault), tt, inl refl)
+
+    go : Gathered context bytes streams (after (opening_next context.number) (Runs (opened Two context.start context.before)) bytes)
+        → ClosedConnection (context.start + length bytes) (context.before + size streams) (after (opening_next context.number) (Runs (opened Two context.start context.before)) bytes)
+    go (inl e) = subst (ClosedConnection (context.start + length bytes) (context.before + size streams)) (sym e) (client (stream_end judge_call streams.client))
+    go (inr past) = inr (past.0, past.1, inr past.2)
 
 -- ---- a file
 
-abbrev pub AnyRefusal : Refusal → Type 0
+abbrev pub AnyRefusal : ShownFault → Type 0
 AnyRefusal shown = Unit {0}
 
 -- at a connection word
@@ -148,12 +220,12 @@ at_mark version at total number entries = record { version = version; at = at; t
 abbrev pub inside_at : Version → ℕ → ℕ → ℕ → List Entry → Opening → Parsing
 inside_at version at total number entries o = record { version = version; at = at; total = total; number = number; entries = entries; spot = Inside o }
 
-closed_ends : (version : Version) (number : ℕ) (entries : List Entry) (x : Closing) → RefusedClosing x → (y : Refusal) × AnyRefusal y × (closed version number entries x ≡ Ends y)
+pub closed_ends : (version : Version) (number : ℕ) (entries : List Entry) (x : Closing) → RefusedClosing x → (y : ShownFault) × AnyRefusal y × (closed version number entries x ≡ Ends y)
 closed_ends version number entries (Closes at total more) h = absurd h
 closed_ends version number entries (Refuses shown) h = (shown, tt, refl)
 
 -- the word 1 opens a connection, or there are too many
-begins_or : (version : Version) (at total number : ℕ) (entries : List Entry) (word : List ℕ) → IsWord word 1
+pub begins_or : (version : Version) (at total number : ℕ) (entries : List Entry) (word : List ℕ) → IsWord word 1
     → (after file_next (Runs (at_mark version at total number entries)) word ≡ Runs (inside_at version (at + 4) total (suc number) entries (opened version (at + 4) total)))
     ⊎ (after file_next (Runs (at_mark version at total number entries)) word ≡ Stops (refusal (file_fault at TooManyConnections)))
 begins_or version at total number entries word is = go (nat_lt number max_connections) refl
@@ -169,7 +241,7 @@ begins_or version at total number entries word is = go (nat_lt number max_connec
         ∙ ap (λ b. landed (cond b (Goes (inside_at version (at + 4) total (suc number) entries (opened version (at + 4) total))) (Ends (refusal (file_fault at TooManyConnections))))) e)
 
 -- after whole connections
-abbrev pub Marked : Version → ℕ → ℕ → ℕ → Run Parsing Refusal → Type 0
+abbrev pub Marked : Version → ℕ → ℕ → ℕ → Run Parsing ShownFault → Type 0
 Marked version end sum count run = ((entries : List Entry) × (run ≡ Runs (at_mark version end sum count entries))) ⊎ Gone AnyRefusal run
 
 one_or : (version : Version) (at total number end sum : ℕ) (entries : List Entry) (bytes : List ℕ) (streams : Streams) → IsConnection version bytes streams → end ≡ at + length bytes → sum ≡ total + size streams
@@ -218,18 +290,18 @@ connections_or version (streams ∷ connections) at total number end sum count e
     go (inr gone) rest = inr (gone_more file_next AnyRefusal (after file_next (Runs (at_mark version at total number entries)) h.0) h.1 gone)
 
 -- after the magic and whole connections
-begun_or : (bytes : List ℕ) (b : BehindConnections bytes) → Marked b.version (length b.front) (total_size b.connections) (length b.connections) (parsed b.front)
+pub begun_or : (bytes : List ℕ) (b : BehindConnections bytes) → Marked b.version (length b.front) (total_size b.connections) (length b.connections) (parsed b.front)
 begun_or bytes b =
     subst (Marked b.version (length b.front) (total_size b.connections) (length b.connections))
     (sym (ap parsed b.begins ∙ after-append file_next (Runs file_start) (magic b.version) b.whole ∙ ap (λ run. after file_next run b.whole) (magics_run b.version)))
     (connections_or b.version b.connections 8 0 0 (length b.front) (total_size b.connections) (length b.connections) [] b.whole b.joined
     (omega (arith, ap length b.begins, length-append (magic b.version) b.whole, length_magic b.version)) (omega arith) (omega arith))
 
-file_steps : (bytes front last : List ℕ) → bytes ≡ front ++ last → parsed bytes ≡ after file_next (parsed front) last
+pub file_steps : (bytes front last : List ℕ) → bytes ≡ front ++ last → parsed bytes ≡ after file_next (parsed front) last
 file_steps bytes front last split = ap parsed split ∙ after-append file_next (Runs file_start) front last
 
 -- what comes after whole connections, from where the machine stands
-behind_over : (bytes : List ℕ) (b : BehindConnections bytes) (shown : Refusal) → 0 < length (b.word ++ b.rest)
+behind_over : (bytes : List ℕ) (b : BehindConnections bytes) (shown : ShownFault) → 0 < length (b.word ++ b.rest)
     → ((entries : List Entry) → Over AnyRefusal (after file_next (Runs (at_mark b.version (length b.front) (total_size b.connections) (length b.connections) entries)) (b.word ++ b.rest)) shown)
     → Over AnyRefusal (parsed bytes) shown
 behind_over bytes b shown some on = subst (λ run. Over AnyRefusal run shown) (sym (file_steps bytes b.front (b.word ++ b.rest) (b.split ∙ append_assoc b.front b.word b.rest))) (go (begun_or bytes b))
@@ -247,7 +319,7 @@ at_word : (version : Version) (at total number : ℕ) (entries : List Entry) (wo
 at_word version at total number entries word rest mark n is none same =
     ap (after file_next (Runs (at_mark version at total number entries))) (ap (λ (b : List ℕ). word ++ b) none ∙ append-nil word) ∙ mark_runs version at total number entries word n (is.0, is.1 ∙ same)
 
-within_over : (version : Version) (at total number : ℕ) (entries : List Entry) (word rest : List ℕ) (shown : Refusal) → IsWord word 1 → ConnectionShows version (record { number = suc number; start = at + 4; before = total }) rest shown
+within_over : (version : Version) (at total number : ℕ) (entries : List Entry) (word rest : List ℕ) (shown : ShownFault) → IsWord word 1 → ConnectionShows version (record { number = suc number; start = at + 4; before = total }) rest shown
     → Over AnyRefusal (after file_next (Runs (at_mark version at total number entries)) (word ++ rest)) shown
 within_over version at total number entries word rest shown is shows =
     subst (λ run. Over AnyRefusal run shown) (sym (after-append file_next (Runs (at_mark version at total number entries)) word rest)) (go (begins_or version at total number entries word is))
@@ -270,7 +342,7 @@ end_over version at total number entries word (byte ∷ []) mark is none one =
     ∙ ap (λ run. after file_next run (byte ∷ [])) (mark_runs version at total number entries word 0 (is.0, is.1 ∙ none))
 end_over version at total number entries word (byte ∷ other ∷ more) mark is none one = absurd (omega arith)
 
-pub rule_over : (bytes : List ℕ) (shown : Refusal) → Rule bytes shown → Over AnyRefusal (parsed bytes) shown
+pub rule_over : (bytes : List ℕ) (shown : ShownFault) → Rule bytes shown → Over AnyRefusal (parsed bytes) shown
 rule_over bytes shown (MagicDiffers d same) = inl (magic_stops bytes shown.fault d ∙ ap (λ f. Stops f) (sym same))
 rule_over bytes shown (MarkIsBad b none bad is) =
     behind_over bytes b shown (words_some b.word b.rest b.mark b.is_word)

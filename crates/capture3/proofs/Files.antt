@@ -10,9 +10,10 @@ use Rattle.record_mark.proofs.Words.{IsPart, word_leads, word_runs, word_stops, 
 use Rattle.xdr3.specs.Item.{AreBytes}
 use Rattle.xdr3.specs.declared.reason.Reason.TheVariants.{BadMagic, BadMark, AfterEnd, TooManyConnections}
 use Rattle.capture3.specs.declared.fault.Fault.{Fault}
-use Rattle.capture3.specs.Capture.{Version, One, digit, magic_front, magic, max_connections, Streams, size, total_size, IsConnection}
+use Rattle.capture3.specs.Capture.{Version, One, Two, digit, magic_front, magic, max_connections, total_size, IsConnection}
+use Rattle.capture3.specs.SidedChunks.{Streams, size}
 use Rattle.capture3.specs.Chunks.{max_bytes}
-use Rattle.capture3.specs.Connections.{Context, Refusal, refusal}
+use Rattle.capture3.specs.Connections.{Context, ShownFault, refusal}
 use Rattle.capture3.specs.Entry.{Entry}
 use Rattle.capture3.specs.FirstFault.{DiffersFromMagic}
 use Rattle.capture3.specs.Opening.{Opening, Closing, Closes, Refuses, opening_next, opened}
@@ -153,19 +154,20 @@ whole_magic version old bytes at total number entries byte h is =
       opens = record { rest = []; split = ap₂ (λ (b : List ℕ) (n : ℕ). b ++ n ∷ []) (sym (append-nil bytes) ∙ sym h.begins) is ∙ sym (append-nil (magic version)); joined = refl; messages = h.entries_are; few = omega arith; small = omega arith };
     }
 
-other_digits : (other : Version) (byte expected : ℕ) (bytes rest : List ℕ) → magic_front ≡ bytes ++ [] → magic other ≡ bytes ++ expected ∷ rest → nat_eq byte (digit One) ≡ false → byte ≢ expected
-other_digits other byte expected bytes rest begins others one is = go other expected_is
+other_digits : (other : Version) (byte expected : ℕ) (bytes rest : List ℕ) → magic_front ≡ bytes ++ [] → magic other ≡ bytes ++ expected ∷ rest → nat_eq byte (digit One) ≡ false → nat_eq byte (digit Two) ≡ false → byte ≢ expected
+other_digits other byte expected bytes rest begins others one two is = go other expected_is
   where
     expected_is : expected ≡ digit other
     expected_is = let same = append_cancel_left bytes (digit other ∷ []) (expected ∷ rest) (ap (λ (b : List ℕ). b ++ digit other ∷ []) (sym (append-nil bytes) ∙ sym begins) ∙ others) in cc
 
     go : (v : Version) → expected ≡ digit v → ⊥
     go One e = eqb-false byte 49 one (is ∙ e)
+    go Two e = eqb-false byte 50 two (is ∙ e)
 
-digit_cases : (version : Version) (bytes : List ℕ) (at total number : ℕ) (entries : List Entry) (byte : ℕ) → IsMagicPart version bytes at total number entries [] → (same : Bool) → nat_eq byte (digit One) ≡ same
-    → Leads Stands Rule (bytes ++ byte ∷ []) (cond same (Goes (record { version = One; at = at + 1; total = total; number = number; entries = entries; spot = Mark [] })) (Ends (refusal (file_fault at BadMagic))))
-digit_cases version bytes at total number entries byte h true e = whole_magic One version bytes at total number entries byte h (eqb-true _ _ e)
-digit_cases version bytes at total number entries byte h false e =
+two_cases : (version : Version) (bytes : List ℕ) (at total number : ℕ) (entries : List Entry) (byte : ℕ) → IsMagicPart version bytes at total number entries [] → nat_eq byte (digit One) ≡ false → (same : Bool) → nat_eq byte (digit Two) ≡ same
+    → Leads Stands Rule (bytes ++ byte ∷ []) (cond same (Goes (record { version = Two; at = at + 1; total = total; number = number; entries = entries; spot = Mark [] })) (Ends (refusal (file_fault at BadMagic))))
+two_cases version bytes at total number entries byte h one true e = whole_magic Two version bytes at total number entries byte h (eqb-true _ _ e)
+two_cases version bytes at total number entries byte h one false e =
     MagicDiffers (record {
       front = bytes;
       byte = byte;
@@ -174,9 +176,15 @@ digit_cases version bytes at total number entries byte h false e =
       due = digit One;
       more = [];
       begins = ap (λ (b : List ℕ). b ++ digit One ∷ []) (h.begins ∙ append-nil bytes);
-      differs = λ other expected rest others. other_digits other byte expected bytes rest h.begins others e;
+      differs = λ other expected rest others. other_digits other byte expected bytes rest h.begins others one e;
       is = ap (λ n. file_fault n BadMagic) h.at_is;
     }) refl
+
+digit_cases : (version : Version) (bytes : List ℕ) (at total number : ℕ) (entries : List Entry) (byte : ℕ) → IsMagicPart version bytes at total number entries [] → (same : Bool) → nat_eq byte (digit One) ≡ same
+    → Leads Stands Rule (bytes ++ byte ∷ []) (cond same (Goes (record { version = One; at = at + 1; total = total; number = number; entries = entries; spot = Mark [] }))
+    (cond (nat_eq byte (digit Two)) (Goes (record { version = Two; at = at + 1; total = total; number = number; entries = entries; spot = Mark [] })) (Ends (refusal (file_fault at BadMagic)))))
+digit_cases version bytes at total number entries byte h true e = whole_magic One version bytes at total number entries byte h (eqb-true _ _ e)
+digit_cases version bytes at total number entries byte h false e = two_cases version bytes at total number entries byte h e (nat_eq byte (digit Two)) refl
 
 -- a connection word
 mark_cases : (version : Version) (bytes front word : List ℕ) (at total number : ℕ) (entries : List Entry) (connections : List Streams) → bytes ≡ front ++ word → Opens version front connections entries → IsWord word 1
@@ -276,6 +284,7 @@ magic_runs (byte ∷ bytes) more at left e =
 -- the whole magic
 pub magics_run : (version : Version) → parsed (magic version) ≡ Runs (record { version = version; at = 8; total = 0; number = 0; entries = []; spot = Mark [] })
 magics_run One = refl
+magics_run Two = refl
 
 pub mark_runs : (version : Version) (at total number : ℕ) (entries : List Entry) (word : List ℕ) (n : ℕ) → IsWord word n
     → after file_next (Runs (record { version = version; at = at; total = total; number = number; entries = entries; spot = Mark [] })) word ≡ landed (marked version at total number entries n)
@@ -327,6 +336,7 @@ connections_run version (streams ∷ connections) at total number end sum count 
 
 pub length_magic : (version : Version) → length (magic version) ≡ 8
 length_magic One = refl
+length_magic Two = refl
 
 behind : (version : Version) (bytes front back : List ℕ) (connections : List Streams) (entries : List Entry) → bytes ≡ front ++ back → Opens version front connections entries
     → parsed bytes ≡ after file_next (Runs (record { version = version; at = length front; total = total_size connections; number = length connections; entries = entries; spot = Mark [] })) back
@@ -340,7 +350,7 @@ behind version bytes front back connections entries split opens =
 
 -- equal parts make equal states
 same_state : {version : Version} {at n total m number k : ℕ} {entries : List Entry} {spot : Spot} → at ≡ n → total ≡ m → number ≡ k
-    → ◌≡◌ {A = Run Parsing Refusal} (Runs (record { version = version; at = at; total = total; number = number; entries = entries; spot = spot })) (Runs (record { version = version; at = n; total = m; number = k; entries = entries; spot = spot }))
+    → ◌≡◌ {A = Run Parsing ShownFault} (Runs (record { version = version; at = at; total = total; number = number; entries = entries; spot = spot })) (Runs (record { version = version; at = n; total = m; number = k; entries = entries; spot = spot }))
 same_state {version = version} {entries = entries} {spot = spot} e f g = λ i. Runs (record { version = version; at = e i; total = f i; number = g i; entries = entries; spot = spot })
 
 part_runs : (version : Version) (bytes : List ℕ) (at total number : ℕ) (entries : List Entry) (more : List ℕ) → IsMagicPart version bytes at total number entries more
@@ -417,13 +427,13 @@ magic_stops bytes fault d = go (magic_split magic_front d.front (digit d.version
     go (inr r) =
         ap parsed d.split ∙ after-append file_next (Runs file_start) d.front (d.byte ∷ [])
         ∙ ap (λ run. after file_next run (d.byte ∷ [])) (magic_runs d.front [] 0 magic_front (r ∙ sym (append-nil d.front)))
-        ∙ ap (λ b. landed (cond b (Goes (record { version = One; at = 0 + length d.front + 1; total = 0; number = 0; entries = []; spot = Mark [] }))
-        (Ends (refusal (file_fault (0 + length d.front) BadMagic)))))
-        (ne_eqb d.byte 49 (d.differs One 49 [] (ap (λ (b : List ℕ). b ++ 49 ∷ []) r)))
+        ∙ ap₂ (λ b c. landed (cond b (Goes (record { version = One; at = 0 + length d.front + 1; total = 0; number = 0; entries = []; spot = Mark [] }))
+        (cond c (Goes (record { version = Two; at = 0 + length d.front + 1; total = 0; number = 0; entries = []; spot = Mark [] })) (Ends (refusal (file_fault (0 + length d.front) BadMagic))))))
+        (ne_eqb d.byte 49 (d.differs One 49 [] (ap (λ (b : List ℕ). b ++ 49 ∷ []) r))) (ne_eqb d.byte 50 (d.differs Two 50 [] (ap (λ (b : List ℕ). b ++ 50 ∷ []) r)))
         ∙ ap (λ n. Stops (refusal (file_fault n BadMagic))) at_is
         ∙ ap (λ f. Stops (refusal f)) (sym d.is)
 
-pub rule_stops : (bytes : List ℕ) (shown : Refusal) → Rule bytes shown → parsed bytes ≡ Stops shown
+pub rule_stops : (bytes : List ℕ) (shown : ShownFault) → Rule bytes shown → parsed bytes ≡ Stops shown
 rule_stops bytes shown (MagicDiffers d same) = magic_stops bytes shown.fault d ∙ ap (λ f. Stops f) (sym same)
 rule_stops bytes shown (MarkIsBad b none bad is) =
     word_last bytes b b.mark none refl ∙ bad_mark_stops b.version (length b.front) (total_size b.connections) (length b.connections) b.entries b.mark bad ∙ ap (λ f. Stops f) (sym is)

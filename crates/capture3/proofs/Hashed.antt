@@ -6,8 +6,8 @@ use Rattle.std.specs.Map.{lookup}
 use Rattle.indexmap.specs.IndexMap.{IndexMap, get, insert_entry}
 use Rattle.indexmap.proofs.CallerLemmas.{insert_entry-new}
 use Rattle.rpc_head.specs.declared.call.ProcId.{ProcId}
-use Rattle.capture3.specs.declared.calls.NumberedCall.{NumberedCall}
-use Rattle.capture3.specs.Calls.{found, numbered_calls, with_call}
+use Rattle.capture3.specs.declared.message.calls.NumberedCall.{NumberedCall}
+use Rattle.capture3.specs.machinery.Calls.{found, numbered_calls, with_numbered_call}
 use Rattle.capture3.specs.Judging.{agrees}
 use Rattle.capture3.proofs.Bodies.{same_is}
 
@@ -44,7 +44,7 @@ agreed (Some other) id h = inr (ap (λ (p : ProcId). Some p) (same_is other id h
 
 -- a new xid goes last
 added_last : {S : Type 0} (old new : IndexMap ℕ ProcId S) (list : List NumberedCall) (xid : ℕ) (id : ProcId) → list ≡ numbered_calls old.entries → found list xid ≡ None → new.entries ≡ insert_entry nat_eq old.entries xid id
-    → numbered_calls new.entries ≡ with_call list xid id
+    → numbered_calls new.entries ≡ with_numbered_call list xid id
 added_last {S} old new list xid id view none is =
     let absent : get nat_eq old xid ≡ None = looked_up xid old.entries ∙ ap (λ (l : List NumberedCall). found l xid) (sym view) ∙ none in
     ap numbered_calls (is ∙ insert_entry-new nat_eq old xid id absent)
@@ -54,10 +54,10 @@ added_last {S} old new list xid id view none is =
 
 -- a call that agrees with those of the table, put into it
 pub admitted : {S : Type 0} (old new : IndexMap ℕ ProcId S) (list : List NumberedCall) (xid : ℕ) (id : ProcId) → list ≡ numbered_calls old.entries → agrees (found list xid) id ≡ true → new.entries ≡ insert_entry nat_eq old.entries xid id
-    → numbered_calls new.entries ≡ with_call list xid id
+    → numbered_calls new.entries ≡ with_numbered_call list xid id
 admitted {S} old new list xid id view agree is = by_found (agreed (found list xid) id agree)
   where
-    by_found : (found list xid ≡ None) ⊎ (found list xid ≡ Some id) → numbered_calls new.entries ≡ with_call list xid id
+    by_found : (found list xid ≡ None) ⊎ (found list xid ≡ Some id) → numbered_calls new.entries ≡ with_numbered_call list xid id
     by_found (inl none) = added_last old new list xid id view none is
     by_found (inr known) =
         ap numbered_calls (is ∙ put_over old.entries xid id (looked_up xid old.entries ∙ ap (λ (l : List NumberedCall). found l xid) (sym view) ∙ known))

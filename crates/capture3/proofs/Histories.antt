@@ -7,63 +7,106 @@ use Rattle.std.proofs.Props.{props}
 use Rattle.std.specs.Io.KnownBytes.{Consumes, Keeps, IsAtEnd}
 use Rattle.xdr3.specs.declared.reason.Reason.TheVariants.{CaptureCut}
 use Rattle.xdr3.specs.Item.{AreBytes, Item}
-use Rattle.record_mark.specs.Machine.{Run, Runs, Stops, Stopped, after}
+use Rattle.record_mark.specs.Machine.{Runs, Stops, Stopped}
 use Rattle.record_mark.specs.Taking.{Taking, Led, OutOfMemory, IsRunning, released}
-use Rattle.record_mark.proofs.Machines.{after-append}
 use Rattle.std.specs.declared.hash.BuildHasher as BuildHasher
 use Rattle.std.specs.declared.hash.Hasher as Hasher
 use Rattle.indexmap.proofs.RemoveLemmas.{popped_last}
-use Rattle.capture3.specs.declared.calls.NumberedCall.{NumberedCall}
-use Rattle.capture3.specs.declared.entries.Entries.{Entries}
-use Rattle.capture3.specs.declared.entries.Stage.{Stage}
-use Rattle.capture3.specs.declared.entries.Stage.TheVariants.{Reading, Over, Failed}
-use Rattle.capture3.specs.declared.entry.Kind.{Kind}
-use Rattle.capture3.specs.declared.entry.Kind.TheVariants as kinds
+use Rattle.capture3.specs.declared.message.calls.NumberedCall.{NumberedCall}
+use Rattle.capture3.specs.declared.reader.entries.Entries.{Entries}
+use Rattle.capture3.specs.declared.reader.entries.Stage.{Stage}
+use Rattle.capture3.specs.declared.reader.entries.Stage.TheVariants.{Reading, Over, Failed}
+use Rattle.capture3.specs.declared.reader.entry.Kind.{Kind}
+use Rattle.capture3.specs.declared.reader.entry.Kind.TheVariants as kinds
 use Rattle.capture3.specs.declared.fault.Error.{Error}
 use Rattle.capture3.specs.declared.fault.Error.TheVariants as errors
-use Rattle.capture3.specs.declared.judging.Capture.{Capture}
-use Rattle.capture3.specs.declared.position.Position.{Position}
-use Rattle.capture3.specs.declared.position.Spot.{Spot}
-use Rattle.capture3.specs.declared.position.Spot.TheVariants as spots
-use Rattle.capture3.specs.Connections.{Refusal}
-use Rattle.capture3.specs.Container.{unpacking_of}
+use Rattle.capture3.specs.declared.reader.judging.Capture.{Capture}
+use Rattle.capture3.specs.declared.container.position.Position.{Position}
+use Rattle.capture3.specs.declared.container.position.Spot.{Spot}
+use Rattle.capture3.specs.declared.container.position.Spot.TheVariants as spots
+use Rattle.capture3.specs.declared.container.Container.{Container}
+use Rattle.capture3.specs.declared.container.Cursor.{Cursor}
+use Rattle.capture3.specs.Capture.{Version, One, Two, max_connections}
+use Rattle.capture3.specs.machinery.Container.{AreStored, IsReady, IsStored, room_in, unpacking_of}
 use Rattle.capture3.specs.declared.fault.Fault.{Fault}
-use Rattle.capture3.specs.Entries.{AreAllBeforeEnd, AreFirstReached, IsMetBy, IsShownBy, failure_in, failure_of, left_in, entries_left, unjudged, IsReading, StandsIn, StandsFor, HoldsLast, HasRead, GoesOn, Turns, HandsOut, Answers}
+use Rattle.capture3.specs.Entries.{AreAllBeforeEnd, IsMetBy, IsShownBy, failure_in, failure_of}
+use Rattle.capture3.specs.machinery.Entries.{entries_left_in, entries_left, unjudged, IsReading, StandsIn, StandsFor, HoldsLast, HasRead, HandsOutOrGoesOn, Turns}
+use Rattle.capture3.specs.Handing.{HandsOut, HandsOutGiven}
 use Rattle.capture3.specs.Entry.{Entry, End}
 use Rattle.capture3.specs.FirstFault.{FirstFault, IsClean}
-use Rattle.capture3.specs.Judges.{StandsAt, GoesTo, FailsAt, IsHeld, IsOfBytes, entry_cost}
+use Rattle.capture3.specs.machinery.Judges.{StandsAt, StandsOrRecalls, HasCome, behind_side_word, GoesTo, FailsAt, IsHeld, IsOfBytes, entry_cost}
 use Rattle.capture3.specs.Kept.{IsOfKind}
-use Rattle.capture3.specs.Laws.{AreWithinLimits, most_bytes}
-use Rattle.capture3.specs.Parsing.{Parsing, file_next, file_start, parsed, emitted}
-use Rattle.capture3.specs.Position.{IsSound, IsSoundAt, opened_at, most_entries, room_of}
-use Rattle.capture3.specs.Reached.{AreWhole, Reached}
-use Rattle.capture3.specs.Resumed.{parsing_at}
+use Rattle.capture3.specs.Laws.{begins, most_bytes}
+use Rattle.capture3.specs.Parsing.{Parsing, parsed, emitted}
+use Rattle.capture3.specs.machinery.Position.{AreEmpty, IsBeforeMark, IsSoundPosition, IsSoundSpot, StoredAt, opened_at, version_of}
+use Rattle.capture3.specs.Laws.{most_entries}
+use Rattle.capture3.specs.Reached.{AreFirstReached, AreWhole, Reached}
+use Rattle.capture3.specs.machinery.Resumed.{parsing_at}
+use Rattle.capture3.specs.SidedChunks.{Streams}
 use Rattle.capture3.specs.Sides.{file_fault}
 use Rattle.capture3.specs.Typed.{IsWellFormed, Typed}
+use Rattle.capture3.proofs.Behind.{reached_within}
 use Rattle.capture3.proofs.BytesOf.{AreBytes-append, split_bytes}
 use Rattle.capture3.proofs.Captures.{untold}
-use Rattle.capture3.proofs.Limits.{typed_within, whole_within}
+use Rattle.capture3.proofs.Limits.{begins-append, typed_within}
 use Rattle.capture3.proofs.Growing.{emitted_is}
 use Rattle.capture3.proofs.Parsed.{cut_at, typed_at}
 use Rattle.capture3.proofs.Reaches.{stands_whole}
-use Rattle.capture3.proofs.Refusals.{first_reached, refused_behind}
+use Rattle.capture3.proofs.Recalls.{first_of, recalled_first}
+use Rattle.capture3.proofs.Refusals.{first_reached_at}
 use Rattle.capture3.proofs.Sizes.{clean_size}
 use Rattle.capture3.proofs.Verdicts.{clean_from_runs, told, verdict_from_fault, verdict_from_typed}
 
 -- ---- what is kept truncated
 
-sound_at-prop : (spot : Spot) (at total connections records : ℕ) → IsProp (IsSoundAt spot at total connections records)
+sound_at-prop : (spot : Spot) (at total connections records : ℕ) → IsProp (IsSoundSpot spot at total connections records)
 sound_at-prop spots.Magic at total connections records = hlevel props
 sound_at-prop (spots.Mark part) at total connections records = hlevel props
 sound_at-prop (spots.Length side part) at total connections records = hlevel props
 sound_at-prop (spots.Chunk side left) at total connections records = hlevel props
+sound_at-prop spots.Digit at total connections records = hlevel props
+sound_at-prop (spots.Side part) at total connections records = hlevel props
+sound_at-prop (spots.SideLength side part) at total connections records = hlevel props
+sound_at-prop (spots.SideChunk side left) at total connections records = hlevel props
 sound_at-prop spots.Ended at total connections records = hlevel props
 
-sound-prop : (p : Position) → IsProp (IsSound p)
+sound-prop : (p : Position) → IsProp (IsSoundPosition p)
 sound-prop p = hlevel (props, sound_at-prop)
 
-pub sound_position : (p : Position) → ∥ IsSound p ∥₁ → IsSound p
+pub sound_position : (p : Position) → ∥ IsSoundPosition p ∥₁ → IsSoundPosition p
 sound_position p h = ∥∥₁_elim h (sound-prop p) (λ s. s)
+
+before_mark-prop : (spot : Spot) → IsProp (IsBeforeMark spot)
+before_mark-prop (spots.Mark part) = hlevel props
+before_mark-prop spots.Magic = hlevel props
+before_mark-prop spots.Digit = hlevel props
+before_mark-prop (spots.Length side part) = hlevel props
+before_mark-prop (spots.Chunk side left) = hlevel props
+before_mark-prop (spots.Side part) = hlevel props
+before_mark-prop (spots.SideLength side part) = hlevel props
+before_mark-prop (spots.SideChunk side left) = hlevel props
+before_mark-prop spots.Ended = hlevel props
+
+empty-prop : (streams : Streams) → IsProp (AreEmpty streams)
+empty-prop streams = hlevel props
+
+stored_at-prop : (spot : Spot) (total : ℕ) (streams : Streams) → IsProp (StoredAt spot total streams)
+stored_at-prop (spots.Side part) total streams = hlevel props
+stored_at-prop (spots.SideLength side part) total streams = hlevel props
+stored_at-prop (spots.SideChunk side left) total streams = hlevel props
+stored_at-prop spots.Magic total streams = empty-prop streams
+stored_at-prop spots.Digit total streams = empty-prop streams
+stored_at-prop (spots.Mark part) total streams = empty-prop streams
+stored_at-prop (spots.Length side part) total streams = empty-prop streams
+stored_at-prop (spots.Chunk side left) total streams = empty-prop streams
+stored_at-prop spots.Ended total streams = empty-prop streams
+
+stored-prop : (p : Position) (cursor : Option Cursor) (streams : Streams) → IsProp (AreStored p cursor streams)
+stored-prop p None streams = stored_at-prop p.spot p.total streams
+stored-prop p (Some cursor) streams = hlevel (props, before_mark-prop)
+
+pub stored_container : (c : Container) → ∥ IsStored c ∥₁ → IsStored c
+stored_container c h = ∥∥₁_elim h (stored-prop c.position c.cursor c.streams) (λ s. s)
 
 running-prop : (t : Taking) → IsProp (IsRunning t)
 running-prop (Led (Runs s)) = hlevel props
@@ -71,8 +114,12 @@ running-prop (Led (Stops end)) = hlevel props
 running-prop (Led (Stopped end)) = hlevel props
 running-prop OutOfMemory = hlevel props
 
-pub running_joiner : (t : Taking) → ∥ IsRunning t ∥₁ → IsRunning t
-running_joiner t h = ∥∥₁_elim h (running-prop t) (λ s. s)
+ready-prop : (cursor : Option Cursor) (t : Taking) → IsProp (IsReady cursor t)
+ready-prop None t = running-prop t
+ready-prop (Some cursor) t = hlevel props
+
+pub ready_joiner : (cursor : Option Cursor) (t : Taking) → ∥ IsReady cursor t ∥₁ → IsReady cursor t
+ready_joiner cursor t h = ∥∥₁_elim h (ready-prop cursor t) (λ s. s)
 
 kind_held : (kind : Kind) (t : Taking) (entry : Entry) → IsHeld kind t entry → IsOfKind kind entry
 kind_held kinds.Begin t entry is = is
@@ -84,13 +131,13 @@ kind_held kinds.End t entry is = is
 
 -- ---- after bytes that the machine has taken
 
-module _ (bytes : List ℕ) (p : Position) (t : Taking) (table : List NumberedCall) (model : List Entry) (are : AreBytes bytes) (s : StandsAt p t table (parsed bytes) model) where
+module _ (bytes : List ℕ) (p : Position) (t : Taking) (streams : Streams) (table : List NumberedCall) (model : List Entry) (are : AreBytes bytes) (s : StandsAt p t streams table bytes model) where
   state : Parsing
-  state = parsing_at (unpacking_of p t) s.so_far
+  state = parsing_at (unpacking_of p t streams) s.so_far
 
   model_is : emitted state ≡ model
   unfolding state
-  model_is = emitted_is p.at p.total p.connections (unpacking_of p t).joining (opened_at p.spot p.at) s.so_far ∙ sym s.emitted
+  model_is = emitted_is p.at p.total p.connections (unpacking_of p t streams).joining (opened_at (version_of p.version) streams p.spot p.at) s.so_far ∙ sym s.emitted
 
   runs_is : parsed bytes ≡ Runs state
   unfolding state
@@ -99,19 +146,39 @@ module _ (bytes : List ℕ) (p : Position) (t : Taking) (table : List NumberedCa
   pub whole_here : AreWhole bytes model
   whole_here = subst (λ (entries : List Entry). AreWhole bytes entries) model_is (stands_whole bytes state (told bytes (Runs state) are runs_is))
 
-  pub within_here : AreWithinLimits model
-  within_here = whole_within bytes model whole_here
-
   pub clean_here : IsClean bytes
   clean_here = clean_from_runs bytes state runs_is
 
-  pub size_here : length bytes ≤ most_bytes
-  size_here = clean_size bytes are clean_here
+-- no version allows more bytes
+most_of_both : (version : Version) → most_bytes version ≤ most_bytes Two
+most_of_both One = omega arith
+most_of_both Two = omega arith
 
--- the piece leads on
-pub stands_behind : (front piece : List ℕ) (p : Position) (t : Taking) (table : List NumberedCall) (model : List Entry)
-    → StandsAt p t table (after file_next (parsed front) piece) model → StandsAt p t table (parsed (front ++ piece)) model
-stands_behind front piece p t table model s = subst (λ (r : Run Parsing Refusal). StandsAt p t table r model) (sym (after-append file_next (Runs file_start) front piece)) s
+clean_length : (bytes : List ℕ) → AreBytes bytes → IsClean bytes → length bytes ≤ most_bytes Two
+clean_length bytes are clean = let size = clean_size bytes are clean in omega (arith, size.2, most_of_both size.0)
+
+-- where streams that were kept are judged, the last byte may show a fault
+come_length : (c : Container) (table : List NumberedCall) (bytes : List ℕ) (handed : List Entry) → AreBytes bytes → HasCome c table bytes handed → length bytes ≤ most_bytes Two + 1
+come_length c table bytes handed are h = by_cursor c.cursor h
+  where
+    by_cursor : (cursor : Option Cursor) → StandsOrRecalls cursor c.position (released c.joiner) c.streams table bytes handed → length bytes ≤ most_bytes Two + 1
+    by_cursor None s = omega (arith, clean_length bytes are (clean_here bytes c.position (released c.joiner) c.streams table handed are s))
+    by_cursor (Some cursor) r = omega (arith, clean_length r.front (split_bytes bytes r.front (r.byte ∷ []) r.split are).0 (clean_from_runs r.front r.state r.runs), ap length r.split, length-append r.front (r.byte ∷ []))
+
+-- what was handed out are the first entries that the bytes reach, whatever comes after
+come_first : (c : Container) (table : List NumberedCall) (bytes rest : List ℕ) (handed : List Entry) → AreBytes (bytes ++ rest) → HasCome c table bytes handed → AreFirstReached (bytes ++ rest) handed
+come_first c table bytes rest handed are h = by_cursor c.cursor h
+  where
+    by_cursor : (cursor : Option Cursor) → StandsOrRecalls cursor c.position (released c.joiner) c.streams table bytes handed → AreFirstReached (bytes ++ rest) handed
+    by_cursor None s = subst (AreFirstReached (bytes ++ rest)) (sym s.emitted) (first_reached_at bytes rest (unpacking_of c.position (released c.joiner) c.streams) s.so_far are s.agrees s.stands)
+    by_cursor (Some cursor) r = recalled_first (behind_side_word c.position) c.streams cursor.side cursor.taken c.position.records table bytes rest handed are r
+
+-- no streams are judged
+stands_unopened : (c : Container) (table : List NumberedCall) (bytes : List ℕ) (handed : List Entry) → c.cursor ≡ None → HasCome c table bytes handed → StandsAt c.position (released c.joiner) c.streams table bytes handed
+stands_unopened c table bytes handed none h = subst (λ (cursor : Option Cursor). StandsOrRecalls cursor c.position (released c.joiner) c.streams table bytes handed) none h
+
+few_first : (bytes : List ℕ) (handed : List Entry) → AreFirstReached bytes handed → begins handed ≤ max_connections
+few_first bytes handed (more, reached) = omega (arith, (reached_within bytes (handed ++ more) reached).few, begins-append handed more)
 
 -- ---- the block
 
@@ -135,16 +202,16 @@ split_range block start end count fits =
 
 -- ---- the end, and a fault
 
-pub typed_here : (bytes : List ℕ) (p : Position) (t : Taking) (table : List NumberedCall) (model : List Entry) → AreBytes bytes → StandsAt p t table (parsed bytes) model → p.spot ≡ spots.Ended → Typed bytes (model ++ End ∷ [])
-typed_here bytes p t table model are s ended = typed_at bytes p t table (parsed bytes) model are s refl ended
+pub typed_here : (bytes : List ℕ) (p : Position) (t : Taking) (streams : Streams) (table : List NumberedCall) (model : List Entry) → AreBytes bytes → StandsAt p t streams table bytes model → p.spot ≡ spots.Ended → Typed bytes (model ++ End ∷ [])
+typed_here bytes p t streams table model are s ended = typed_at bytes p t streams table model are s ended
 
-pub cut_here : (bytes : List ℕ) (p : Position) (t : Taking) (table : List NumberedCall) (model : List Entry) → AreBytes bytes → StandsAt p t table (parsed bytes) model → p.spot ≢ spots.Ended → FirstFault bytes (file_fault (length bytes) CaptureCut)
-cut_here bytes p t table model are s not = cut_at bytes p t table (parsed bytes) model are s refl not
+pub cut_here : (bytes : List ℕ) (p : Position) (t : Taking) (streams : Streams) (table : List NumberedCall) (model : List Entry) → AreBytes bytes → StandsAt p t streams table bytes model → p.spot ≢ spots.Ended → FirstFault bytes (file_fault (length bytes) CaptureCut)
+cut_here bytes p t streams table model are s not = cut_at bytes p t streams table model are s not
 
 -- short of the end, what was emitted is what the bytes reach
-pub not_ended : (bytes : List ℕ) (p : Position) (t : Taking) (table : List NumberedCall) (model : List Entry) → AreBytes bytes → StandsAt p t table (parsed bytes) model → p.spot ≢ spots.Ended → (IsWellFormed bytes → ⊥) × Reached bytes model
-not_ended bytes p t table model are s not =
-    let cut = verdict_from_fault bytes (file_fault (length bytes) CaptureCut) are (cut_here bytes p t table model are s not) in
+pub not_ended : (bytes : List ℕ) (p : Position) (t : Taking) (streams : Streams) (table : List NumberedCall) (model : List Entry) → AreBytes bytes → StandsAt p t streams table bytes model → p.spot ≢ spots.Ended → (IsWellFormed bytes → ⊥) × Reached bytes model
+not_ended bytes p t streams table model are s not =
+    let cut = verdict_from_fault bytes (file_fault (length bytes) CaptureCut) are (cut_here bytes p t streams table model are s not) in
     let bad : IsWellFormed bytes → ⊥ = λ w. let typed = verdict_from_typed bytes w.0 w.1 in cc in (
       bad,
       inr (
@@ -152,21 +219,25 @@ not_ended bytes p t table model are s not =
         bytes,
         model,
         [],
-        record { rest = []; split = sym (append-nil bytes); clean = clean_here bytes p t table model are s; longest = inl (refl, refl) },
-        whole_here bytes p t table model are s,
+        record { rest = []; split = sym (append-nil bytes); clean = clean_here bytes p t streams table model are s; longest = inl (refl, refl) },
+        whole_here bytes p t streams table model are s,
         sym (append-nil model),
       ),
     )
 
-pub all_before_end : (bytes : List ℕ) (p : Position) (t : Taking) (table : List NumberedCall) (model : List Entry) → AreBytes bytes → StandsAt p t table (parsed bytes) model → AreAllBeforeEnd bytes model
-all_before_end bytes p t table model are s = by_spot p.spot refl
+pub all_before_end : (bytes : List ℕ) (p : Position) (t : Taking) (streams : Streams) (table : List NumberedCall) (model : List Entry) → AreBytes bytes → StandsAt p t streams table bytes model → AreAllBeforeEnd bytes model
+all_before_end bytes p t streams table model are s = by_spot p.spot refl
   where
     by_spot : (spot : Spot) → p.spot ≡ spot → AreAllBeforeEnd bytes model
-    by_spot spots.Magic is = inr (not_ended bytes p t table model are s (λ e. cc))
-    by_spot (spots.Mark part) is = inr (not_ended bytes p t table model are s (λ e. cc))
-    by_spot (spots.Length side part) is = inr (not_ended bytes p t table model are s (λ e. cc))
-    by_spot (spots.Chunk side left) is = inr (not_ended bytes p t table model are s (λ e. cc))
-    by_spot spots.Ended is = inl (typed_here bytes p t table model are s is)
+    by_spot spots.Magic is = inr (not_ended bytes p t streams table model are s (λ e. cc))
+    by_spot spots.Digit is = inr (not_ended bytes p t streams table model are s (λ e. cc))
+    by_spot (spots.Mark part) is = inr (not_ended bytes p t streams table model are s (λ e. cc))
+    by_spot (spots.Length side part) is = inr (not_ended bytes p t streams table model are s (λ e. cc))
+    by_spot (spots.Chunk side left) is = inr (not_ended bytes p t streams table model are s (λ e. cc))
+    by_spot (spots.Side part) is = inr (not_ended bytes p t streams table model are s (λ e. cc))
+    by_spot (spots.SideLength side part) is = inr (not_ended bytes p t streams table model are s (λ e. cc))
+    by_spot (spots.SideChunk side left) is = inr (not_ended bytes p t streams table model are s (λ e. cc))
+    by_spot spots.Ended is = inl (typed_here bytes p t streams table model are s is)
 
 -- ---- what was consumed
 
@@ -205,8 +276,8 @@ module _ {R S H : Type 0} {builds : BuildHasher.Ghosts S H} {hashes : Hasher.Gho
       by_stage Over is h = absurd (cc)
       by_stage (Failed error) is h = absurd (cc)
 
-  room_in : (e : Entries R S H builds hashes) → e.stage ≡ Reading → entries_left e ≡ room_of e.capture.container.position + 1
-  room_in e is = ap (λ (stage : Stage). left_in stage e.capture.container.position) is
+  left_is : (e : Entries R S H builds hashes) → e.stage ≡ Reading → entries_left e ≡ room_in e.capture.container + 1
+  left_is e is = ap (λ (stage : Stage). entries_left_in stage e.capture.container) is
 
   -- ---- the entry that was handed out last
 
@@ -224,12 +295,17 @@ module _ {R S H : Type 0} {builds : BuildHasher.Ghosts S H} {hashes : Hasher.Gho
       let kinds : came ≡ kind = cc in
       subst (λ (one : Entry). IsHeld kind e.capture.container.joiner one) entries (subst (λ (k : Kind). IsHeld k e.capture.container.joiner entry) kinds held)
 
+  -- what was handed out are the first entries that the bytes reach
+  first_in : (e : Entries R S H builds hashes) (given : List ℕ) (handed : List Entry) → AreBytes given → IsReading e given handed → AreFirstReached given handed
+  first_in e given handed are r =
+      subst (λ (b : List ℕ). AreFirstReached b handed) (sym r.split) (come_first e.capture.container e.capture.calls r.judged (unjudged e) handed (subst AreBytes r.split are) r.machine)
+
   -- it reads on
-  pub stands_reading : (e : Entries R S H builds hashes) (given : List ℕ) (handed : List Entry) → e.stage ≡ Reading → AreBytes given → length handed + (room_of e.capture.container.position + 1) ≤ most_entries → length given ≤ most_bytes + vec_len e.block → HoldsLast e handed → IsReading e given handed → StandsFor left e given handed
+  pub stands_reading : (e : Entries R S H builds hashes) (given : List ℕ) (handed : List Entry) → e.stage ≡ Reading → AreBytes given → length handed + (room_in e.capture.container + 1) ≤ most_entries → length given ≤ most_bytes Two + vec_len e.block → HoldsLast e handed → IsReading e given handed → StandsFor left e given handed
   stands_reading e given handed is are few most holds r = record {
     bytes = are;
-    few = omega (arith, few, room_in e is);
-    connections = (within_here r.judged _ _ _ handed (split_bytes given r.judged (unjudged e) r.split are).0 r.machine).few;
+    few = omega (arith, few, left_is e is);
+    connections = few_first given handed (first_in e given handed are r);
     most = most;
     holds = holds;
     here = subst (λ (stage : Stage). StandsIn stage (left e.source.now) e given handed) (sym is) r;
@@ -239,20 +315,15 @@ module _ {R S H : Type 0} {builds : BuildHasher.Ghosts S H} {hashes : Hasher.Gho
   pub stands_failed : (old new : Entries R S H builds hashes) (error : Error) (given : List ℕ) (handed : List Entry) → new.stage ≡ Failed error → new.last ≡ None → vec_len new.block ≡ vec_len old.block → StandsFor left old given handed → IsMetBy error (left new.source.now) given handed → StandsFor left new given handed
   stands_failed old new error given handed is none block s met = record {
     bytes = s.bytes;
-    few = omega (arith, s.few, ap (λ (stage : Stage). left_in stage new.capture.container.position) is);
+    few = omega (arith, s.few, ap (λ (stage : Stage). entries_left_in stage new.capture.container) is);
     connections = s.connections;
     most = omega (arith, s.most, block);
     holds = none_last new handed none;
     here = subst (λ (stage : Stage). StandsIn stage (left new.source.now) new given handed) (sym is) met;
   }
 
-  room_before : (e : Entries R S H builds hashes) (given : List ℕ) (handed : List Entry) → e.stage ≡ Reading → StandsFor left e given handed → length handed + (room_of e.capture.container.position + 1) ≤ most_entries
-  room_before e given handed is s = omega (arith, s.few, room_in e is)
-
-  -- what was handed out are the first entries that the bytes reach
-  first_in : (e : Entries R S H builds hashes) (given : List ℕ) (handed : List Entry) → AreBytes given → IsReading e given handed → AreFirstReached given handed
-  first_in e given handed are r =
-      subst (λ (b : List ℕ). AreFirstReached b handed) (sym r.split) (first_reached r.judged (unjudged e) _ _ _ handed (subst AreBytes r.split are) r.machine)
+  room_before : (e : Entries R S H builds hashes) (given : List ℕ) (handed : List Entry) → e.stage ≡ Reading → StandsFor left e given handed → length handed + (room_in e.capture.container + 1) ≤ most_entries
+  room_before e given handed is s = omega (arith, s.few, left_is e is)
 
   pub stands_first : (e : Entries R S H builds hashes) (given : List ℕ) (handed : List Entry) → failure_of e ≡ None → StandsFor left e given handed → AreFirstReached given handed
   stands_first e given handed goes s = by_stage e.stage refl s.here
@@ -267,39 +338,42 @@ module _ {R S H : Type 0} {builds : BuildHasher.Ghosts S H} {hashes : Hasher.Gho
   all_judged : (e : Entries R S H builds hashes) (given : List ℕ) (handed : List Entry) → e.start ≡ e.end → (r : IsReading e given handed) → given ≡ r.judged
   all_judged e given handed empty r = r.split ∙ ap (λ (b : List ℕ). r.judged ++ b) (empty_range e.block.items e.start e.end empty) ∙ append-nil r.judged
 
-  machine_at : (e : Entries R S H builds hashes) (given : List ℕ) (handed : List Entry) → e.start ≡ e.end → IsReading e given handed → StandsAt e.capture.container.position (released e.capture.container.joiner) e.capture.calls (parsed given) handed
-  machine_at e given handed empty r =
-      subst (λ (b : List ℕ). StandsAt e.capture.container.position (released e.capture.container.joiner) e.capture.calls (parsed b) handed) (sym (all_judged e given handed empty r)) r.machine
+  machine_at : (e : Entries R S H builds hashes) (given : List ℕ) (handed : List Entry) → e.start ≡ e.end → e.capture.container.cursor ≡ None → IsReading e given handed
+      → StandsAt e.capture.container.position (released e.capture.container.joiner) e.capture.container.streams e.capture.calls given handed
+  machine_at e given handed empty none r =
+      stands_unopened e.capture.container e.capture.calls given handed none (subst (λ (b : List ℕ). HasCome e.capture.container e.capture.calls b handed) (sym (all_judged e given handed empty r)) r.machine)
 
-  pub has_read : (old new : Entries R S H builds hashes) (given more : List ℕ) (handed : List Entry) → old.stage ≡ Reading → new.stage ≡ Reading → old.start ≡ old.end → new.capture ≡ old.capture → new.last ≡ old.last → new.judged ≡ old.judged → unjudged new ≡ more → AreBytes more → old.judged ≤ most_bytes → length more ≤ vec_len new.block
+  pub has_read : (old new : Entries R S H builds hashes) (given more : List ℕ) (handed : List Entry) → old.stage ≡ Reading → new.stage ≡ Reading → old.start ≡ old.end → old.capture.container.cursor ≡ None → new.capture ≡ old.capture → new.last ≡ old.last → new.judged ≡ old.judged → unjudged new ≡ more → AreBytes more → length more ≤ vec_len new.block
       → Consumes (left old.source.now) (left new.source.now) more → StandsFor left old given handed → HasRead left old new given handed
-  has_read old new given more handed is goes empty same last count block are bounded within consumed s =
+  has_read old new given more handed is goes empty none same last count block are within consumed s =
       let r = reading_of old given handed is s in
+      let at = machine_at old given handed empty none r in
+      let bounded = clean_length given s.bytes (clean_here given _ _ _ _ handed s.bytes at) in
       let split : given ++ more ≡ r.judged ++ unjudged new = ap (λ (b : List ℕ). b ++ more) (all_judged old given handed empty r) ∙ ap (λ (b : List ℕ). r.judged ++ b) (sym block) in
       record {
         more = more;
         consumed = consumed;
         stands = stands_reading new (given ++ more) handed goes (AreBytes-append given more s.bytes are)
-            (omega (arith, room_before old given handed is s, ap (λ (c : Capture (List NumberedCall)). room_of c.container.position) same))
-            (omega (arith, length-append given more, ap length (all_judged old given handed empty r), r.counted, bounded, within))
+            (omega (arith, room_before old given handed is s, ap (λ (c : Capture (List NumberedCall)). room_in c.container) same))
+            (omega (arith, length-append given more, bounded, within))
             (same_last old new handed last same s.holds)
-            (record { judged = r.judged; split = split; counted = count ∙ r.counted; machine = subst (λ (c : Capture (List NumberedCall)). StandsAt c.container.position (released c.container.joiner) c.calls (parsed r.judged) handed) (sym same) r.machine });
+            (record { judged = r.judged; split = split; counted = count ∙ r.counted; machine = subst (λ (c : Capture (List NumberedCall)). HasCome c.container c.calls r.judged handed) (sym same) r.machine });
       }
 
-  pub has_failed : (old new : Entries R S H builds hashes) (given : List ℕ) (handed : List Entry) → old.stage ≡ Reading → new.stage ≡ Failed errors.Read → new.last ≡ None → vec_len new.block ≡ vec_len old.block → old.start ≡ old.end
+  pub has_failed : (old new : Entries R S H builds hashes) (given : List ℕ) (handed : List Entry) → old.stage ≡ Reading → new.stage ≡ Failed errors.Read → new.last ≡ None → vec_len new.block ≡ vec_len old.block → old.start ≡ old.end → old.capture.container.cursor ≡ None
       → Keeps (left old.source.now) (left new.source.now) → StandsFor left old given handed → HasRead left old new given handed
-  has_failed old new given handed is fails none block empty kept s =
+  has_failed old new given handed is fails none block empty unopened kept s =
       record {
         more = [];
         consumed = nothing_consumed _ _ kept;
         stands = subst (λ (b : List ℕ). StandsFor left new b handed) (sym (append-nil given))
-            (stands_failed old new errors.Read given handed fails none block s (all_before_end given _ _ _ handed s.bytes (machine_at old given handed empty (reading_of old given handed is s))));
+            (stands_failed old new errors.Read given handed fails none block s (all_before_end given _ _ _ _ handed s.bytes (machine_at old given handed empty unopened (reading_of old given handed is s))));
       }
 
   -- ---- judging the block
 
   pub moves_on : (old new : Entries R S H builds hashes) (count : ℕ) (given : List ℕ) (handed all : List Entry) → new.judged ≡ old.judged + count → unjudged new ≡ slice_range old.block.items (old.start + count) old.end → old.start + count ≤ old.end → old.end ≤ length old.block.items
-      → (r : IsReading old given handed) → StandsAt new.capture.container.position (released new.capture.container.joiner) new.capture.calls (after file_next (parsed r.judged) (take count (unjudged old))) all → IsReading new given all
+      → (r : IsReading old given handed) → HasCome new.capture.container new.capture.calls (r.judged ++ take count (unjudged old)) all → IsReading new given all
   moves_on old new count given handed all judged block fits within r machine =
       let piece : List ℕ = take count (unjudged old) in
       let inner = length-take (old.end - old.start) (drop old.start old.block.items) in
@@ -309,15 +383,14 @@ module _ {R S H : Type 0} {builds : BuildHasher.Ghosts S H} {hashes : Hasher.Gho
         judged = r.judged ++ piece;
         split = r.split ∙ ap (λ (b : List ℕ). r.judged ++ b) (sym (split_range old.block.items old.start old.end count fits)) ∙ ap (λ (b : List ℕ). r.judged ++ (piece ++ b)) (sym block) ∙ sym (append_assoc r.judged piece (unjudged new));
         counted = omega (arith, judged, r.counted, length-append r.judged piece, inner, outer, size, fits, within);
-        machine = stands_behind r.judged piece _ _ _ all machine;
+        machine = machine;
       }
 
   -- with the entry that is whole, if one is
   pub judged_on : {V : Type 0} (stands : V → List Item → Type 0) (was now : V) (old new : Entries R S H builds hashes) (count : ℕ) (given : List ℕ) (handed : List Entry) (came : Option Kind) → old.stage ≡ Reading → new.stage ≡ Reading → new.last ≡ came → vec_len new.block ≡ vec_len old.block
       → new.judged ≡ old.judged + count → unjudged new ≡ slice_range old.block.items (old.start + count) old.end → old.start + count ≤ old.end → old.end ≤ length old.block.items
-      → room_of new.capture.container.position + entry_cost came ≤ room_of old.capture.container.position → (s : StandsFor left old given handed)
-      → ((judged : List ℕ) → StandsAt old.capture.container.position (released old.capture.container.joiner) old.capture.calls (parsed judged) handed
-      → GoesTo stands was now came new.capture.container.position new.capture.container.joiner new.capture.calls (after file_next (parsed judged) (take count (unjudged old))) handed) → GoesOn left stands new was now given handed (Ok came)
+      → room_in new.capture.container + entry_cost came ≤ room_in old.capture.container → (s : StandsFor left old given handed)
+      → ((judged : List ℕ) → HasCome old.capture.container old.capture.calls judged handed → GoesTo stands was now came new.capture.container new.capture.calls (judged ++ take count (unjudged old)) handed) → HandsOutOrGoesOn left stands new was now given handed (Ok came)
   judged_on stands was now old new count given handed None is goes last size judged block fits within room s leads =
       let r = reading_of old given handed is s in
       stands_reading new given handed goes s.bytes (omega (arith, room_before old given handed is s, room)) (omega (arith, s.most, size)) (none_last new handed last) (moves_on old new count given handed handed judged block fits within r (leads r.judged r.machine))
@@ -330,43 +403,42 @@ module _ {R S H : Type 0} {builds : BuildHasher.Ghosts S H} {hashes : Hasher.Gho
         stands_reading new given (handed ++ entry ∷ []) goes s.bytes (omega (arith, room_before old given handed is s, room, length-append handed (entry ∷ []))) (omega (arith, s.most, size)) (now_last new handed kind entry last held) (moves_on old new count given handed (handed ++ entry ∷ []) judged block fits within r machine),
       )
 
-  fails_by : (e : Entries R S H builds hashes) (error : Error) (given : List ℕ) (handed : List Entry) (known : Option (List ℕ)) → AreBytes given → (r : IsReading e given handed) → FailsAt (parsed r.judged) handed (unjudged e) error → IsMetBy error known given handed
-  fails_by e (errors.Refused fault) given handed known are r f = inl (λ rest.
-      let refused = refused_behind r.judged (unjudged e) rest handed fault (subst AreBytes r.split are) f in
-      subst (λ (b : List ℕ). FirstFault (b ++ rest) fault × Reached (b ++ rest) handed) (sym r.split) refused)
+  fails_by : (e : Entries R S H builds hashes) (error : Error) (given : List ℕ) (handed : List Entry) (known : Option (List ℕ)) → AreBytes given → IsReading e given handed → FailsAt given handed error → IsMetBy error known given handed
+  fails_by e (errors.Refused fault) given handed known are r f = inl (λ rest. first_of given rest handed fault are f)
   fails_by e errors.Read given handed known are r f = absurd f
   fails_by e errors.Write given handed known are r f = absurd f
   fails_by e errors.Memory given handed known are r f = first_in e given handed are r
 
   pub judged_failed : (old new : Entries R S H builds hashes) (error : Error) (given : List ℕ) (handed : List Entry) → old.stage ≡ Reading → new.stage ≡ Failed error → new.last ≡ None → vec_len new.block ≡ vec_len old.block → (s : StandsFor left old given handed)
-      → ((judged : List ℕ) → StandsAt old.capture.container.position (released old.capture.container.joiner) old.capture.calls (parsed judged) handed → FailsAt (parsed judged) handed (unjudged old) error) → StandsFor left new given handed
+      → ((judged : List ℕ) → HasCome old.capture.container old.capture.calls judged handed → FailsAt (judged ++ unjudged old) handed error) → StandsFor left new given handed
   judged_failed old new error given handed is fails none block s shows =
       let r = reading_of old given handed is s in
-      stands_failed old new error given handed fails none block s (fails_by old error given handed (left new.source.now) s.bytes r (shows r.judged r.machine))
+      stands_failed old new error given handed fails none block s
+      (fails_by old error given handed (left new.source.now) s.bytes r (subst (λ (b : List ℕ). FailsAt b handed error) (sym r.split) (shows r.judged r.machine)))
 
   -- ---- the end
 
-  pub finished : (old new : Entries R S H builds hashes) (given : List ℕ) (handed : List Entry) → old.stage ≡ Reading → new.stage ≡ Over → new.last ≡ Some kinds.End → vec_len new.block ≡ vec_len old.block → old.start ≡ old.end → old.capture.container.position.spot ≡ spots.Ended → IsAtEnd (left new.source.now)
+  pub finished : (old new : Entries R S H builds hashes) (given : List ℕ) (handed : List Entry) → old.stage ≡ Reading → new.stage ≡ Over → new.last ≡ Some kinds.End → vec_len new.block ≡ vec_len old.block → old.start ≡ old.end → old.capture.container.cursor ≡ None → old.capture.container.position.spot ≡ spots.Ended → IsAtEnd (left new.source.now)
       → StandsFor left old given handed → StandsFor left new given (handed ++ End ∷ [])
-  finished old new given handed is over last block empty ended end s =
-      let typed = typed_here given _ _ _ handed s.bytes (machine_at old given handed empty (reading_of old given handed is s)) ended in
+  finished old new given handed is over last block empty none ended end s =
+      let typed = typed_here given _ _ _ _ handed s.bytes (machine_at old given handed empty none (reading_of old given handed is s)) ended in
       record {
         bytes = s.bytes;
-        few = omega (arith, room_before old given handed is s, length-append handed (End ∷ []), ap (λ (stage : Stage). left_in stage new.capture.container.position) over);
+        few = omega (arith, room_before old given handed is s, length-append handed (End ∷ []), ap (λ (stage : Stage). entries_left_in stage new.capture.container) over);
         connections = (typed_within given (handed ++ End ∷ []) typed).few;
         most = omega (arith, s.most, block);
         holds = now_last new handed kinds.End End last refl;
         here = subst (λ (stage : Stage). StandsIn stage (left new.source.now) new given (handed ++ End ∷ [])) (sym over) (typed, end);
       }
 
-  pub cut_short : (old new : Entries R S H builds hashes) (error : Error) (given : List ℕ) (handed : List Entry) → old.stage ≡ Reading → new.stage ≡ Failed error → new.last ≡ None → vec_len new.block ≡ vec_len old.block → old.start ≡ old.end → old.capture.container.position.spot ≢ spots.Ended
+  pub cut_short : (old new : Entries R S H builds hashes) (error : Error) (given : List ℕ) (handed : List Entry) → old.stage ≡ Reading → new.stage ≡ Failed error → new.last ≡ None → vec_len new.block ≡ vec_len old.block → old.start ≡ old.end → old.capture.container.cursor ≡ None → old.capture.container.position.spot ≢ spots.Ended
       → error ≡ errors.Refused (file_fault old.judged CaptureCut) → IsAtEnd (left new.source.now) → StandsFor left old given handed → StandsFor left new given handed
-  cut_short old new error given handed is fails none block empty not cut end s =
+  cut_short old new error given handed is fails none block empty unopened not cut end s =
       let r = reading_of old given handed is s in
       let size : old.judged ≡ length given = r.counted ∙ ap length (sym (all_judged old given handed empty r)) in
-      let at = machine_at old given handed empty r in
-      let first : FirstFault given (file_fault old.judged CaptureCut) = subst (λ (n : ℕ). FirstFault given (file_fault n CaptureCut)) (sym size) (cut_here given _ _ _ handed s.bytes at not) in
-      let reached = (not_ended given _ _ _ handed s.bytes at not).1 in
+      let at = machine_at old given handed empty unopened r in
+      let first : FirstFault given (file_fault old.judged CaptureCut) = subst (λ (n : ℕ). FirstFault given (file_fault n CaptureCut)) (sym size) (cut_here given _ _ _ _ handed s.bytes at not) in
+      let reached = (not_ended given _ _ _ _ handed s.bytes at not).1 in
       stands_failed old new error given handed fails none block s
       (subst (λ (e : Error). IsMetBy e (left new.source.now) given handed) (sym cut) (inr (end, first, reached)))
 
@@ -380,11 +452,11 @@ module _ {R S H : Type 0} {builds : BuildHasher.Ghosts S H} {hashes : Hasher.Gho
   }
 
   -- the end is handed out, of which a visitor is told nothing
-  pub ended_on : {V : Type 0} (stands : V → List Item → Type 0) (v : V) (new : Entries R S H builds hashes) (given : List ℕ) (handed : List Entry) → StandsFor left new given (handed ++ End ∷ []) → GoesOn left stands new v v given handed (Ok (Some kinds.End))
+  pub ended_on : {V : Type 0} (stands : V → List Item → Type 0) (v : V) (new : Entries R S H builds hashes) (given : List ℕ) (handed : List Entry) → StandsFor left new given (handed ++ End ∷ []) → HandsOutOrGoesOn left stands new v v given handed (Ok (Some kinds.End))
   ended_on stands v new given handed s = (End, refl, untold stands v, s)
 
   abbrev pub Goes : {V : Type 0} → (V → List Item → Type 0) → Entries R S H builds hashes → Entries R S H builds hashes → (was now : V) → Result (Option Kind) Error → Type 0
-  Goes stands mid new was now result = (given : List ℕ) (handed : List Entry) → StandsFor left mid given handed → GoesOn left stands new was now given handed result
+  Goes stands mid new was now result = (given : List ℕ) (handed : List Entry) → StandsFor left mid given handed → HandsOutOrGoesOn left stands new was now given handed result
 
   -- a read, and then the block is judged
   pub turned : {V : Type 0} (stands : V → List Item → Type 0) (was now : V) (old mid new : Entries R S H builds hashes) (given : List ℕ) (handed : List Entry) (result : Result (Option Kind) Error) → HasRead left old mid given handed → Goes stands mid new was now result
@@ -402,7 +474,7 @@ module _ {R S H : Type 0} {builds : BuildHasher.Ghosts S H} {hashes : Hasher.Gho
       record {
         more = read.more ++ t.more;
         consumed = consumes_both _ _ _ read.more t.more read.consumed t.consumed;
-        goes_on = subst (λ (b : List ℕ). GoesOn left stands new was now b handed result) (append_assoc given read.more t.more) t.goes_on;
+        goes_on = subst (λ (b : List ℕ). HandsOutOrGoesOn left stands new was now b handed result) (append_assoc given read.more t.more) t.goes_on;
       }
 
   pub read_more : {V : Type 0} (stands : V → List Item → Type 0) (was now : V) (old mid new : Entries R S H builds hashes) (given : List ℕ) (handed : List Entry) (result : Result (Option Kind) Error) → result ≡ Ok None → HasRead left old mid given handed
@@ -413,10 +485,10 @@ module _ {R S H : Type 0} {builds : BuildHasher.Ghosts S H} {hashes : Hasher.Gho
 
   -- no capture is so long
   pub too_long : {V : Type 0} (stands : V → List Item → Type 0) (was now : V) (old mid new : Entries R S H builds hashes) (given : List ℕ) (handed : List Entry) (result : Result (Option Kind) Error) → HasRead left old mid given handed → mid.stage ≡ Reading
-      → most_bytes < mid.judged → Turns left stands old new was now given handed result
+      → most_bytes Two + 1 < mid.judged → Turns left stands old new was now given handed result
   too_long stands was now old mid new given handed result read is far =
       let r = reading_of mid (given ++ read.more) handed is read.stands in
-      absurd (omega (arith, far, r.counted, size_here r.judged _ _ _ handed (split_bytes (given ++ read.more) r.judged (unjudged mid) r.split read.stands.bytes).0 r.machine))
+      absurd (omega (arith, far, r.counted, come_length mid.capture.container _ r.judged handed (split_bytes (given ++ read.more) r.judged (unjudged mid) r.split read.stands.bytes).0 r.machine))
 
   -- ---- the answers
 
@@ -424,16 +496,16 @@ module _ {R S H : Type 0} {builds : BuildHasher.Ghosts S H} {hashes : Hasher.Gho
   met_by e error given handed is s = subst (λ (stage : Stage). StandsIn stage (left e.source.now) e given handed) is s.here
 
   hands_out : {V : Type 0} (stands : V → List Item → Type 0) (was now : V) (e : Entries R S H builds hashes) (given : List ℕ) (handed : List Entry) (result : Result (Option Kind) Error) → IfOk result (λ next. IsSome next) → OnOk result (failure_of e ≡ None)
-      → IfErr result (λ error. e.stage ≡ Failed error) → GoesOn left stands e was now given handed result → HandsOut left stands e was now given handed result
+      → IfErr result (λ error. e.stage ≡ Failed error) → HandsOutOrGoesOn left stands e was now given handed result → HandsOut left stands e was now given handed result
   hands_out stands was now e given handed (Ok (Some kind)) some goes fails (entry, is, adds, s) = (entry, is, stands_first e given (handed ++ entry ∷ []) goes s, adds, s)
   hands_out stands was now e given handed (Ok None) some goes fails h = absurd (cc)
   hands_out stands was now e given handed (Err error) some goes fails h = (met_by e error given handed fails h, h)
 
   pub answers : {V : Type 0} (stands : V → List Item → Type 0) (was now : V) (old new : Entries R S H builds hashes) (given : List ℕ) (handed : List Entry) (result : Result (Option Kind) Error) → IfOk result (λ next. IsSome next) → OnOk result (failure_of new ≡ None)
-      → IfErr result (λ error. new.stage ≡ Failed error) → Turns left stands old new was now given handed result → Answers left stands old new was now given handed result
+      → IfErr result (λ error. new.stage ≡ Failed error) → Turns left stands old new was now given handed result → HandsOutGiven left stands old new was now given handed result
   answers stands was now old new given handed result some goes fails t = record { more = t.more; consumed = t.consumed; hands_out = hands_out stands was now new (given ++ t.more) handed result some goes fails t.goes_on }
 
-  pub answers_none : {V : Type 0} (stands : V → List Item → Type 0) (v : V) (e : Entries R S H builds hashes) (given : List ℕ) (handed : List Entry) → e.stage ≡ Over → StandsFor left e given handed → Answers left stands e e v v given handed (Ok None)
+  pub answers_none : {V : Type 0} (stands : V → List Item → Type 0) (v : V) (e : Entries R S H builds hashes) (given : List ℕ) (handed : List Entry) → e.stage ≡ Over → StandsFor left e given handed → HandsOutGiven left stands e e v v given handed (Ok None)
   answers_none stands v e given handed is s =
       let here : StandsIn Over (left e.source.now) e given handed = subst (λ (stage : Stage). StandsIn stage (left e.source.now) e given handed) is s.here in
       record {
@@ -442,7 +514,7 @@ module _ {R S H : Type 0} {builds : BuildHasher.Ghosts S H} {hashes : Hasher.Gho
         hands_out = subst (λ (b : List ℕ). HandsOut left stands e v v b handed (Ok None)) (sym (append-nil given)) (here.0, here.1, s);
       }
 
-  pub answers_again : {V : Type 0} (stands : V → List Item → Type 0) (v : V) (e : Entries R S H builds hashes) (error : Error) (given : List ℕ) (handed : List Entry) → e.stage ≡ Failed error → StandsFor left e given handed → Answers left stands e e v v given handed (Err error)
+  pub answers_again : {V : Type 0} (stands : V → List Item → Type 0) (v : V) (e : Entries R S H builds hashes) (error : Error) (given : List ℕ) (handed : List Entry) → e.stage ≡ Failed error → StandsFor left e given handed → HandsOutGiven left stands e e v v given handed (Err error)
   answers_again stands v e error given handed is s = record {
     more = [];
     consumed = none_consumed (left e.source.now) (left e.source.now) refl;

@@ -16,10 +16,10 @@ use Rattle.rpc_head.specs.HeadScan.{procedure_told, tells_success}
 use Rattle.rpc_head.proofs.Messages.{call_read, call_head_refused, procedure_read, reply_read, reply_head_refused}
 use Rattle.procs3.specs.Table.{arguments_of, results_of}
 use Rattle.capture3.specs.Bodies.{procedure_of, xid_in}
-use Rattle.capture3.specs.Judging.{judge_call, judge_reply, read_whole, ended, agreed, agrees, answering}
+use Rattle.capture3.specs.Judging.{judge_call, judge_reply, read_whole, all_of_body, agreed, agrees, answering}
 use Rattle.xdr3.specs.declared.reason.GetError.{GetError}
 use Rattle.xdr3.specs.declared.reason.GetError.TheVariants as errors
-use Rattle.capture3.specs.Messages.{results_after}
+use Rattle.capture3.specs.machinery.Messages.{results_after}
 
 -- ---- a whole layout, read in parts
 
@@ -27,16 +27,16 @@ whole_ends : (layout : Layout) (body : List ℕ) (front more : List Item) (end t
     → read_whole layout body ≡ Ok (front ++ more)
 unfolding with_front
 whole_ends layout body front more end to read is =
-    ap (λ r. r >>= ended body) read ∙ ap (λ b. cond b (Ok (front ++ more)) (refused to Trailing)) (eq-eqb to (length body) is)
+    ap (λ r. r >>= all_of_body body) read ∙ ap (λ b. cond b (Ok (front ++ more)) (refused to Trailing)) (eq-eqb to (length body) is)
 
 whole_trails : (layout : Layout) (body : List ℕ) (front more : List Item) (end to : ℕ) → reading_layout layout body 0 ≡ with_front front (Ok (more, to)) → to ≢ length body
     → read_whole layout body ≡ refused to Trailing
 unfolding with_front
 whole_trails layout body front more end to read other =
-    ap (λ r. r >>= ended body) read ∙ ap (λ b. cond b (Ok (front ++ more)) (refused to Trailing)) (ne_eqb to (length body) other)
+    ap (λ r. r >>= all_of_body body) read ∙ ap (λ b. cond b (Ok (front ++ more)) (refused to Trailing)) (ne_eqb to (length body) other)
 
 whole_refused : (layout : Layout) (body : List ℕ) (stop : Stop) → reading_layout layout body 0 ≡ Err stop → read_whole layout body ≡ Err stop
-whole_refused layout body stop read = ap (λ r. r >>= ended body) read
+whole_refused layout body stop read = ap (λ r. r >>= all_of_body body) read
 
 front_refused : (front : List Item) (stop : Stop) → with_front front (Err stop) ≡ Err stop
 unfolding with_front

@@ -12,7 +12,7 @@ use Rattle.xdr3.proofs.Bytes.{drop_front, front_ends, bind_ok, bind_err, accept_
 use Rattle.xdr3.proofs.Complete.{complete}
 use Rattle.xdr3.proofs.Layouts.{layout_decides, reads_whole}
 use Rattle.capture3.specs.Bodies.{LeavesMore}
-use Rattle.capture3.specs.Judging.{ended, read_whole}
+use Rattle.capture3.specs.Judging.{all_of_body, read_whole}
 
 -- ---- what is so is read
 
@@ -68,7 +68,7 @@ more_read layout body stop h =
 
 pub is_whole : (layout : Layout) (body : List ℕ) (items : List Item) → AreBytes body → read_whole layout body ≡ Ok items → FitsLayout layout items × Spells items body
 is_whole layout body items are e =
-    let x = bind_ok (reading_layout layout body 0) (ended body) items e in
+    let x = bind_ok (reading_layout layout body 0) (all_of_body body) items e in
     let y = accept_ok (nat_eq x.0.1 (length body)) (record { at = x.0.1; reason = Trailing }) x.0.0 items x.2 in
     let end = eqb-true x.0.1 (length body) y.0 in
     let r = (((layout_decides layout body 0 are (omega arith)).reads x.0.0 x.0.1).0 x.1).reads in
@@ -79,7 +79,7 @@ is_whole layout body items are e =
 pub is_refused : (layout : Layout) (body : List ℕ) (stop : Stop) → AreBytes body → read_whole layout body ≡ Err stop → RefusesLayout layout body stop.at stop.reason ⊎ LeavesMore layout body stop
 is_refused layout body stop are e =
     let d = layout_decides layout body 0 are (omega arith) in
-    elim (bind_err (reading_layout layout body 0) (ended body) stop e) [
+    elim (bind_err (reading_layout layout body 0) (all_of_body body) stop e) [
       | inl cut ↦ let r = (d.refuses stop).0 cut in let same : r.0 ≡ stop.at = omega (arith, r.2) in inl (subst (λ (k : ℕ). RefusesLayout layout body k stop.reason) same r.1)
       | inr x ↦
           let y = accept_err (nat_eq x.0.1 (length body)) (record { at = x.0.1; reason = Trailing }) x.0.0 stop x.2 in

@@ -7,6 +7,8 @@ pub mod BytesOf
 pub mod Judged
 pub mod Strict
 pub mod Streams
+pub mod StreamEnds
+pub mod Mixes
 pub mod Sides
 pub mod Layouts
 mod Lending
@@ -18,6 +20,7 @@ pub mod Resumptions
 pub mod Openings
 pub mod Telling
 pub mod Files
+pub mod Told
 pub mod Verdicts
 pub mod Reaches
 pub mod Emits
@@ -26,12 +29,15 @@ pub mod Sizes
 pub mod Examples
 pub mod Emissions
 pub mod Growing
+pub mod Recalls
 pub mod Refusals
 pub mod Captures
 pub mod Hashed
 pub mod Overs
 pub mod SideRules
+pub mod MixedRules
 pub mod FileRules
+pub mod Behind
 pub mod Loosened
 pub mod Parsed
 pub mod Histories

@@ -1,23 +1,23 @@
 -- The entries that bytes reach are within the limits.
-use Rattle.std.proofs.Common.{◌≡◌, inl, inr, ℕ, ◌+◌, ◌≤◌, List, [], ◌∷◌, ◌++◌, length, map, refl, ap, ◌∙◌, arith, length-append, false}
+use Rattle.std.proofs.Common.{◌≡◌, ◌⊎◌, inl, inr, ℕ, ◌+◌, ◌<◌, ◌≤◌, List, [], ◌∷◌, ◌++◌, length, map, refl, ap, ◌∙◌, append_assoc, arith, length-append, false}
 use Rattle.std.specs.List.{concat}
 use Rattle.record_mark.specs.RecordMark.{IsFragment, IsRecord, Marks}
 use Rattle.record_mark.specs.Word.{Joins}
 use Rattle.xdr3.specs.Item.{Item}
 use Rattle.xdr3.proofs.Items.{length_of_spelling}
 use Rattle.capture3.specs.Bodies.{ReplyItems, AcceptsCall, AcceptsReply}
-use Rattle.capture3.specs.Capture.{Version, One, Streams, size, total_size}
+use Rattle.capture3.specs.Capture.{Version, One, Two, max_connections, total_size}
+use Rattle.capture3.specs.SidedChunks.{Streams, size, AreMixed, BeginsMixed}
 use Rattle.capture3.specs.Chunks.{max_bytes, BeginsStream}
-use Rattle.capture3.specs.Connections.{Context, Refusal, calls_in_turn, replies_to, ConnectionShows}
+use Rattle.capture3.specs.Connections.{Context, ShownFault, calls_in_turn, replies_to, ConnectionShows, StreamsShow, InClientStream, InServerStream}
 use Rattle.capture3.specs.Entry.{Entry, Begin, Call, Turn, Reply, Close, End}
-use Rattle.capture3.specs.FirstFault.{Rule, MagicDiffers, MarkIsBad, ConnectionIsTooMany, WithinConnection, ByteBehindEnd}
 use Rattle.capture3.specs.Laws.{begins, spelled, AreWithinLimits}
-use Rattle.capture3.specs.Reached.{ReachesInside, AreWhole, InMagic, BetweenConnections, InConnection, IsLongestClean, Reached}
-use Rattle.capture3.specs.Records.{Judgement, AreMessages, Holds, HoldsSoFar}
+use Rattle.capture3.specs.Reached.{ReachesInside, AreWhole, InMagic, BetweenConnections, InConnection}
+use Rattle.capture3.specs.Records.{Judgement, AreMessages, Holds, HoldsSoFar, RecordFault, FirstRecordFault, RefusesNext, NextIsTooLong, NextIsCut}
 use Rattle.capture3.specs.Typed.{Converses, reply_entry, connection_entries, HaveEntries, Typed}
-use Rattle.capture3.proofs.Converses.{calls_hold, replies_hold}
+use Rattle.capture3.proofs.Converses.{calls_hold, conversed, replies_hold}
 
-begins-append : (xs ys : List Entry) → begins (xs ++ ys) ≡ begins xs + begins ys
+pub begins-append : (xs ys : List Entry) → begins (xs ++ ys) ≡ begins xs + begins ys
 begins-append [] ys = omega arith
 begins-append (Begin ∷ xs) ys = omega (arith, begins-append xs ys)
 begins-append (Call items ∷ xs) ys = begins-append xs ys
@@ -26,7 +26,7 @@ begins-append (Reply id items ∷ xs) ys = begins-append xs ys
 begins-append (Close ∷ xs) ys = begins-append xs ys
 begins-append (End ∷ xs) ys = begins-append xs ys
 
-spelled-append : (xs ys : List Entry) → spelled (xs ++ ys) ≡ spelled xs + spelled ys
+pub spelled-append : (xs ys : List Entry) → spelled (xs ++ ys) ≡ spelled xs + spelled ys
 spelled-append [] ys = omega arith
 spelled-append (Begin ∷ xs) ys = spelled-append xs ys
 spelled-append (Call items ∷ xs) ys = omega (arith, spelled-append xs ys)
@@ -137,6 +137,12 @@ inside_within One before bytes more (inr r) = (
     begun_size (before + length r.client) r.last r.server r.begins,
   ),
 )
+inside_within Two before bytes more r = (omega (arith, ap begins r.1), omega (arith, ap spelled r.1, mixed_begun r.0))
+  where
+    mixed_begun : BeginsMixed before bytes → before ≤ max_bytes
+    mixed_begun (inl b) = omega (arith, b.fits)
+    mixed_begun (inr (inl b)) = omega (arith, b.fits)
+    mixed_begun (inr (inr b)) = omega (arith, b.fits)
 
 pub whole_within : (bytes : List ℕ) (entries : List Entry) → AreWhole bytes entries → AreWithinLimits entries
 whole_within bytes entries (InMagic version more e none) = record { few = omega (arith, ap begins none); small = omega (arith, ap spelled none) }
@@ -149,27 +155,90 @@ whole_within bytes entries (InConnection version front mark rest connections bef
       small = omega (arith, ap spelled are, spelled-append before more, have_spelled connections before opens.messages, w.1);
     }
 
--- in version 1 the byte of a fault reaches nothing more
-connection_more : (version : Version) (context : Context) (bytes : List ℕ) (shown : Refusal) → ConnectionShows version context bytes shown → shown.more ≡ []
-connection_more One context bytes shown h = ap (λ (r : Refusal). r.more) h.0
+-- ---- after a connection whose streams have a fault
 
-rule_more : (bytes : List ℕ) (shown : Refusal) → Rule bytes shown → shown.more ≡ []
-rule_more bytes shown (MagicDiffers d same) = ap (λ (r : Refusal). r.more) same
-rule_more bytes shown (MarkIsBad b none bad is) = ap (λ (r : Refusal). r.more) is
-rule_more bytes shown (ConnectionIsTooMany b none one full is) = ap (λ (r : Refusal). r.more) is
-rule_more bytes shown (WithinConnection b one shows) = connection_more b.version _ b.rest shown shows
-rule_more bytes shown (ByteBehindEnd b none one is) = ap (λ (r : Refusal). r.more) is
+-- whole connections, and the first entries of one whose messages so far have so many bytes
+pub record IsBehind (entries : List Entry) : Type 0 where
+  pub connections : List Streams
+  pub before : List Entry
+  pub streams : Streams
+  pub calls : List (List Item)
+  pub replies : List ReplyItems
+  pub inside : List Entry
+  pub rest : List Entry
+  pub messages : HaveEntries connections before
+  pub converses : Converses streams calls replies
+  pub few : length connections < max_connections
+  pub small : total_size connections + size streams ≤ max_bytes
+  pub split : connection_entries calls replies ≡ inside ++ rest
+  pub is : entries ≡ before ++ inside
 
-pub longest_more : (bytes front : List ℕ) (more : List Entry) → IsLongestClean bytes front more → more ≡ []
-longest_more bytes front more h = elim h.longest [ inl l ↦ l.1 | inr r ↦ r.5 ∙ rule_more (front ++ r.0 ∷ []) r.2 r.4.rule ]
+pub behind_within : (entries : List Entry) → IsBehind entries → AreWithinLimits entries
+behind_within entries h = record {
+  few = omega (arith, ap begins h.is, begins-append h.before h.inside, have_begins h.connections h.before h.messages, connection_begins h.calls h.replies, ap begins h.split, begins-append h.inside h.rest, h.few);
+  small =
+      omega (
+        arith,
+        ap spelled h.is,
+        spelled-append h.before h.inside,
+        have_spelled h.connections h.before h.messages,
+        connection_spelled h.streams h.calls h.replies h.converses,
+        ap spelled h.split,
+        spelled-append h.inside h.rest,
+        h.small,
+      );
+}
 
-pub reached_within : (bytes : List ℕ) (entries : List Entry) → Reached bytes entries → AreWithinLimits entries
-reached_within bytes entries (inl h) = typed_within bytes entries h
-reached_within bytes entries (inr h) =
-    let (bad, front, whole, more, longest, is_whole, is) = h in
-    let none = longest_more bytes front more longest in
-    let w = whole_within front whole is_whole in
+-- a refusal's entries are none, or those of streams that are gathered
+pub refused_more : (version : Version) (context : Context) (bytes : List ℕ) (shown : ShownFault) → ConnectionShows version context bytes shown → (shown.more ≡ []) ⊎ ((version ≡ Two) × StreamsShow context.number bytes shown)
+refused_more One context bytes shown h = inl (ap (λ (r : ShownFault). r.more) h.0)
+refused_more Two context bytes shown (inl h) = inl (ap (λ (r : ShownFault). r.more) h.0)
+refused_more Two context bytes shown (inr h) = inr (refl, h)
+
+-- the streams' messages before the fault, as a conversation
+cut_client : (streams : Streams) (calls : List (List Item)) (fault : RecordFault) → FirstRecordFault calls_in_turn streams.client calls fault → (front : List ℕ) × Holds calls_in_turn front calls × (length front ≤ length streams.client)
+cut_client streams calls fault (RefusesNext front last rest body stop split holds whole refused is) = (front, holds, omega (arith, ap length split, length-append (front ++ last) rest, length-append front last))
+cut_client streams calls fault (NextIsTooLong front last rest at split holds long is) = (front, holds, omega (arith, ap length split, length-append (front ++ last) rest, length-append front last))
+cut_client streams calls fault (NextIsCut front last body split holds is_open is) = (front, holds, omega (arith, ap length split, length-append front last))
+
+cut_server : (streams : Streams) (calls : List (List Item)) (replies : List ReplyItems) (fault : RecordFault) → FirstRecordFault (replies_to calls) streams.server replies fault → (front : List ℕ) × Holds (replies_to calls) front replies × (length front ≤ length streams.server)
+cut_server streams calls replies fault (RefusesNext front last rest body stop split holds whole refused is) = (front, holds, omega (arith, ap length split, length-append (front ++ last) rest, length-append front last))
+cut_server streams calls replies fault (NextIsTooLong front last rest at split holds long is) = (front, holds, omega (arith, ap length split, length-append (front ++ last) rest, length-append front last))
+cut_server streams calls replies fault (NextIsCut front last body split holds is_open is) = (front, holds, omega (arith, ap length split, length-append front last))
+
+pub streams_behind : (number : ℕ) (connections : List Streams) (before : List Entry) (bytes : List ℕ) (shown : ShownFault) → HaveEntries connections before → length connections < max_connections
+    → ((streams : Streams) → AreMixed bytes streams → total_size connections + size streams ≤ max_bytes) → StreamsShow number bytes shown → IsBehind ((before ++ Begin ∷ []) ++ shown.more)
+streams_behind number connections before bytes shown messages few fits (InClientStream streams calls fault mixed first same) =
+    let cut = cut_client streams calls fault first in
     record {
-      few = omega (arith, ap begins is, begins-append whole more, ap begins none, w.few);
-      small = omega (arith, ap spelled is, spelled-append whole more, ap spelled none, w.small);
+      connections = connections;
+      before = before;
+      streams = record { client = cut.0; server = [] };
+      calls = calls;
+      replies = [];
+      inside = Begin ∷ map Call calls;
+      rest = Turn ∷ Close ∷ [];
+      messages = messages;
+      converses = conversed (record { client = cut.0; server = [] }) calls [] cut.1 ([], refl, refl);
+      few = few;
+      small = omega (arith, fits streams mixed, cut.2);
+      split = append_assoc (Begin ∷ map Call calls) (Turn ∷ []) (Close ∷ []);
+      is = append_assoc before (Begin ∷ []) shown.more ∙ ap (λ (r : ShownFault). before ++ (Begin ∷ r.more)) same;
+    }
+streams_behind number connections before bytes shown messages few fits (InServerStream streams calls replies fault mixed holds first same) =
+    let cut = cut_server streams calls replies fault first in
+    record {
+      connections = connections;
+      before = before;
+      streams = record { client = streams.client; server = cut.0 };
+      calls = calls;
+      replies = replies;
+      inside = (Begin ∷ map Call calls) ++ (Turn ∷ map reply_entry replies);
+      rest = Close ∷ [];
+      messages = messages;
+      converses = conversed (record { client = streams.client; server = cut.0 }) calls replies holds cut.1;
+      few = few;
+      small = omega (arith, fits streams mixed, cut.2);
+      split = refl;
+      is = append_assoc before (Begin ∷ []) shown.more ∙ ap (λ (r : ShownFault). before ++ (Begin ∷ r.more)) same;
     }

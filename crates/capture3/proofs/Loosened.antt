@@ -2,8 +2,8 @@
 use Rattle.std.proofs.Common.{◌≡◌, inl, inr, ℕ, suc, List, [], ◌∷◌, ◌++◌, length, ap, ◌∙◌, arith}
 use Rattle.xdr3.specs.declared.reason.Reason.TheVariants.{RecordCut, RecordTooLong}
 use Rattle.capture3.specs.declared.fault.Fault.{Fault}
-use Rattle.capture3.specs.Capture.{Version, One}
-use Rattle.capture3.specs.Connections.{Context, Refusal, calls_in_turn, replies_to, client_position, server_position, ConnectionShows}
+use Rattle.capture3.specs.Capture.{Version, One, Two}
+use Rattle.capture3.specs.Connections.{Context, ShownFault, calls_in_turn, replies_to, client_position, server_position, BehindLength, MixedShows, BadSide, NoLength, TooMuch, StreamsShow, InClientStream, InServerStream, ConnectionShows}
 use Rattle.capture3.specs.FirstFault.{BehindConnections, Rule, MagicDiffers, MarkIsBad, ConnectionIsTooMany, WithinConnection, ByteBehindEnd}
 use Rattle.capture3.specs.Records.{Judgement, AreMessages, RecordFault, StreamShows, IsCut}
 use Rattle.capture3.specs.Sides.{Position, SideShows}
@@ -45,16 +45,32 @@ side_loosened judge position bytes fault (inr (inr h)) =
       is = h.is;
     }))
 
-connection_loosened : (version : Version) (context : Context) (bytes : List ℕ) (shown : Refusal) → strict.ConnectionShows version context bytes shown → ConnectionShows version context bytes shown
+abbrev length_loosened : (context : Context) (bytes : List ℕ) → strict.BehindLength context bytes → BehindLength bytes
+length_loosened context bytes b =
+    record { chunks = b.chunks; side = b.side; front = b.front; word = b.word; header = b.header; count = b.count; split = b.split; joined = b.joined; sided = b.sided; counts = b.counts }
+
+mixed_loosened : (context : Context) (bytes : List ℕ) (fault : Fault) → strict.MixedShows context bytes fault → MixedShows context bytes fault
+mixed_loosened context bytes fault (strict.BadSide h) =
+    BadSide (record { chunks = h.chunks; front = h.front; word = h.word; count = h.count; split = h.split; joined = h.joined; is_word = h.is_word; bad = h.bad; is = h.is })
+mixed_loosened context bytes fault (strict.NoLength b none is) = NoLength (length_loosened context bytes b) none is
+mixed_loosened context bytes fault (strict.TooMuch b passes is) = TooMuch (length_loosened context bytes b) (omega (arith, b.fits)) passes is
+
+streams_loosened : (context : Context) (bytes : List ℕ) (shown : ShownFault) → strict.StreamsShow context bytes shown → StreamsShow context.number bytes shown
+streams_loosened context bytes shown (strict.InClientStream streams calls fault mixed fits first same) = InClientStream streams calls fault mixed first same
+streams_loosened context bytes shown (strict.InServerStream streams calls replies fault mixed fits holds first same) = InServerStream streams calls replies fault mixed holds first same
+
+connection_loosened : (version : Version) (context : Context) (bytes : List ℕ) (shown : ShownFault) → strict.ConnectionShows version context bytes shown → ConnectionShows version context bytes shown
 connection_loosened One context bytes shown (same, inl h) = (same, inl (side_loosened calls_in_turn (client_position context) bytes shown.fault h))
 connection_loosened One context bytes shown (same, inr h) =
     (same, inr (record { front = h.front; last = h.last; client = h.client; calls = h.calls; split = h.split; first = h.first; holds = h.holds; shows = side_loosened (replies_to h.calls) (server_position context h.front h.client) h.last shown.fault h.shows }))
+connection_loosened Two context bytes shown (inl (same, h)) = inl (same, mixed_loosened context bytes shown.fault h)
+connection_loosened Two context bytes shown (inr h) = inr (streams_loosened context bytes shown h)
 
 abbrev behind_loosened : (bytes : List ℕ) → strict.BehindConnections bytes → BehindConnections bytes
 behind_loosened bytes b =
     record { version = b.version; front = b.front; whole = b.opens.rest; word = b.word; rest = b.rest; connections = b.connections; mark = b.mark; split = b.split; begins = b.opens.split; joined = b.opens.joined; is_word = b.is_word }
 
-pub loosened : (bytes : List ℕ) (shown : Refusal) → strict.Rule bytes shown → Rule bytes shown
+pub loosened : (bytes : List ℕ) (shown : ShownFault) → strict.Rule bytes shown → Rule bytes shown
 loosened bytes shown (strict.MagicDiffers d same) = MagicDiffers d same
 loosened bytes shown (strict.MarkIsBad b none bad is) = MarkIsBad (behind_loosened bytes b) none bad is
 loosened bytes shown (strict.ConnectionIsTooMany b none one full is) = ConnectionIsTooMany (behind_loosened bytes b) none one full is

@@ -10,7 +10,7 @@ use Rattle.xdr3.proofs.Items.{length_of_spelling}
 use Rattle.xdr3.proofs.Reasons.{HasItemReasons, IsOfItem, LayoutHasItemReasons, layout_refused_for, refused_for}
 use Rattle.rpc_head.specs.declared.call.ProcId.{ProcId}
 use Rattle.rpc_head.specs.Messages.{call_layout, call_start, has_results, procedure_in, reply_layout, reply_start}
-use Rattle.rpc_head.specs.Names.{names}
+use Rattle.rpc_head.specs.Names.{head_names}
 use Rattle.rpc_head.specs.Shapes.{◌then◌, accept, auth_stats, auth_sys, call_head, credential, deny, gids, message_start, parameters, reply_head, verifier, versions}
 use Rattle.procs3.specs.Table.{arguments_of, results_of}
 use Rattle.capture3.proofs.Bodies.{start_of, two_words}
@@ -32,7 +32,7 @@ auth_sys_reasons = parameters_reasons
 
 credential_reasons : HasItemReasons credential
 unfolding credential
-credential_reasons = (tt, λ n. reasons_if (nat_eq n 0) (opaque Var names.cred_body 400) auth_sys tt auth_sys_reasons)
+credential_reasons = (tt, λ n. reasons_if (nat_eq n 0) (opaque Var head_names.cred_body 400) auth_sys tt auth_sys_reasons)
 
 verifier_reasons : HasItemReasons verifier
 unfolding verifier
@@ -44,7 +44,7 @@ accept_reasons = (tt, λ n. reasons_if (nat_eq n 2) versions nothing ((tt, λ m.
 
 deny_reasons : HasItemReasons deny
 unfolding deny
-deny_reasons = (tt, λ n. reasons_if (nat_eq n 0) versions (listed names.auth_stat auth_stats) ((tt, λ m. tt), (tt, λ m. tt)) (tt, λ m. tt))
+deny_reasons = (tt, λ n. reasons_if (nat_eq n 0) versions (listed head_names.auth_stat auth_stats) ((tt, λ m. tt), (tt, λ m. tt)) (tt, λ m. tt))
 
 reply_head_reasons : HasItemReasons reply_head
 unfolding reply_head
@@ -72,9 +72,9 @@ call_start_reasons : HasItemReasons call_start
 unfolding call_start
 call_start_reasons = ((tt, λ n. tt), (tt, λ n. tt))
 
--- call_body behind its version
+-- call_body after its version
 abbrev behind_version : Shape
-behind_version = word names.prog then word names.vers then word names.proc then credential then verifier
+behind_version = word head_names.prog then word head_names.vers then word head_names.proc then credential then verifier
 
 behind_version_reasons : HasItemReasons behind_version
 behind_version_reasons = ((tt, λ n. tt), ((tt, λ n. tt), ((tt, λ n. tt), (credential_reasons, verifier_reasons))))
@@ -86,7 +86,7 @@ start_size items front fits spells =
     let two = two_words (0 ∷ []) items fits in
     omega (arith, length_of_spelling (start_of two.0 two.1) front (subst (λ (xs : List Item). Spells xs front) two.3 spells))
 
--- an item is refused, or the version behind the two words
+-- an item is refused, or the version after the two words
 pub call_refused_for : (bytes : List ℕ) (at : ℕ) (reason : Reason) → RefusesLayout (call_layout arguments_of) bytes at reason → IsOfItem reason ⊎ ((reason ≡ RpcVersion) × (at ≡ 8))
 unfolding call_layout call_head
 call_refused_for bytes at reason (inl (inl p)) = inl (refused_for call_start call_start_reasons bytes at reason p)

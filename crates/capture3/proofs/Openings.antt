@@ -5,21 +5,26 @@ use Rattle.record_mark.proofs.Machines.{Leads, leads_within, after-append, neste
 use Rattle.xdr3.specs.Item.{Item, AreBytes}
 use Rattle.capture3.specs.declared.fault.Side.TheVariants.{Client, Server}
 use Rattle.capture3.specs.Bodies.{ReplyItems}
-use Rattle.capture3.specs.Capture.{Version, One, Streams, size, AreStreams}
+use Rattle.capture3.specs.Capture.{Version, One, Two, AreStreams}
+use Rattle.capture3.specs.SidedChunks.{Streams, size}
 use Rattle.capture3.specs.Chunks.{max_bytes, IsStream}
 use Rattle.capture3.specs.Connections.{Context, client_position, server_position, calls_in_turn, replies_to}
 use Rattle.capture3.specs.Entry.{Entry}
 use Rattle.capture3.specs.Judging.{judge_call}
-use Rattle.capture3.specs.Opening.{judge_replies, Opening, InClient, InServer, Closing, Closes, Refuses, turning, ending, opening_next, opened}
+use Rattle.capture3.specs.Mixing.{MixedEnd, MixedCloses, MixedRefuses, mixed_next, mixing_from}
+use Rattle.capture3.specs.Opening.{judge_replies, Opening, InClient, InServer, InMixed, Closing, Closes, Refuses, turning, ending, server_said, client_said, conversing, opening_next, opened}
+use Rattle.capture3.specs.Reading.{StreamEnd, Held, Faulty, stream_end}
 use Rattle.capture3.specs.Records.{Holds}
 use Rattle.capture3.specs.Sides.{place_at}
 use Rattle.capture3.specs.Siding.{Siding, SideEnd, SideCloses, SideRefuses, side_next, siding_from}
 use Rattle.capture3.specs.Typed.{Converses, connection_entries}
-use Rattle.capture3.proofs.Strict.{ConnectionShows}
+use Rattle.capture3.proofs.Strict.{ConnectionShows, InClientStream, InServerStream}
 use Rattle.capture3.proofs.Bodies.{the_calls, the_replies}
-use Rattle.capture3.proofs.BytesOf.{split_bytes}
+use Rattle.capture3.proofs.BytesOf.{split_bytes, mixed_bytes}
 use Rattle.capture3.proofs.Converses.{conversed, calls_hold, replies_hold}
+use Rattle.capture3.proofs.Mixes.{HasMixed, ClosesMixed, EndsMixed, mixed_leads, mixed_runs, mixed_stops, nothing_gathered}
 use Rattle.capture3.proofs.Sides.{HasSide, EndsSide, side_leads, nothing_taken, side_runs, side_stops}
+use Rattle.capture3.proofs.StreamEnds.{EndsStream, ends_stream, stream_ends}
 
 -- after the client side
 pub record InServerSide (context : Context) (bytes : List ℕ) (calls : List (List Item)) (s : Siding ReplyItems) : Type 0 where
@@ -36,6 +41,10 @@ pub record InServerSide (context : Context) (bytes : List ℕ) (calls : List (Li
 abbrev pub HasOpening : Version → Context → List ℕ → Opening → Type 0
 HasOpening One context bytes (InClient s) = HasSide calls_in_turn (client_position context) bytes s
 HasOpening One context bytes (InServer calls s) = InServerSide context bytes calls s
+HasOpening One context bytes (InMixed s) = ⊥
+HasOpening Two context bytes (InMixed s) = HasMixed context bytes s
+HasOpening Two context bytes (InClient s) = ⊥
+HasOpening Two context bytes (InServer calls s) = ⊥
 
 -- a connection is whole, with these entries
 pub record ClosesConnection (version : Version) (context : Context) (bytes : List ℕ) (at total : ℕ) (entries : List Entry) : Type 0 where
@@ -98,6 +107,7 @@ in_turn_leads context bytes (InServer calls s) byte are h =
     (λ t side. record { front = h.front; last = h.last ++ byte ∷ []; client = h.client; split = split; first = h.first; holds = h.holds; fits = h.fits; rest = side })
     (λ x ends. ending_leads context (bytes ++ byte ∷ []) h.front (h.last ++ byte ∷ []) h.client calls split h.first h.holds h.fits x ends)
     (side_next (judge_replies calls) (place_at context.number Server) s byte) (side_leads (the_replies calls) (server_position context h.front h.client) h.last s byte (split_bytes (bytes ++ byte ∷ []) h.front (h.last ++ byte ∷ []) split are).1 h.rest)
+in_turn_leads context bytes (InMixed s) byte are h = absurd h
 
 -- The other way round.
 client_stops : (context : Context) (bytes : List ℕ) (x : SideEnd (List Item)) → EndsSide calls_in_turn (client_position context) bytes x
@@ -128,6 +138,7 @@ in_turn_runs context bytes (InServer calls s) h =
     turned context bytes h.front h.last h.client calls h.split h.first h.holds h.fits
     ∙ nested_runs (side_next (judge_replies calls) (place_at context.number Server)) (opening_next context.number) (InServer calls) (ending calls) (λ t byte. refl) h.last (siding_from (context.start + length h.front) (context.before + length h.client)) s
     (side_runs (the_replies calls) (server_position context h.front h.client) h.last s h.rest)
+in_turn_runs context bytes (InMixed s) h = absurd h
 
 in_turn_stops : (context : Context) (bytes : List ℕ) (x : Closing) → EndsConnection One context bytes x
     → after (opening_next context.number) (Runs (opened One context.start context.before)) bytes ≡ Stops x
@@ -140,18 +151,77 @@ in_turn_stops context bytes (Closes at total entries) h =
 in_turn_stops context bytes (Refuses shown) (same, inl h) = client_stops context bytes (SideRefuses shown.fault) h ∙ ap (λ r. Stops (Refuses r)) (sym same)
 in_turn_stops context bytes (Refuses shown) (same, inr h) = server_stops context bytes h.front h.last h.client h.calls h.split h.first h.holds h.fits (SideRefuses shown.fault) h.shows ∙ ap (λ r. Stops (Refuses r)) (sym same)
 
+-- ---- version 2
+
+server_said_ends : (context : Context) (bytes : List ℕ) (at total : ℕ) (streams : Streams) (calls : List (List Item)) → ClosesMixed context bytes at total streams → Holds calls_in_turn streams.client calls
+    → (x : StreamEnd ReplyItems) → EndsStream (replies_to calls) streams.server x → Leads (HasOpening Two context) (EndsConnection Two context) bytes (server_said context.number at total calls x)
+server_said_ends context bytes at total streams calls h holds (Held replies) ends =
+    record { streams = streams; calls = calls; replies = replies; whole = h.mixed; converses = conversed streams calls replies holds ends; at_is = h.at_is; total_is = h.total_is; fits = h.fits; entries_are = refl }
+server_said_ends context bytes at total streams calls h holds (Faulty replies fault) ends = inr (InServerStream streams calls replies fault h.mixed (omega (arith, h.fits, h.total_is)) holds ends refl)
+
+client_said_ends : (context : Context) (bytes : List ℕ) (at total : ℕ) (streams : Streams) → AreBytes streams.server → ClosesMixed context bytes at total streams
+    → (x : StreamEnd (List Item)) → EndsStream calls_in_turn streams.client x → Leads (HasOpening Two context) (EndsConnection Two context) bytes (client_said context.number at total streams.server x)
+client_said_ends context bytes at total streams are h (Held calls) ends =
+    server_said_ends context bytes at total streams calls h ends (stream_end (judge_replies calls) streams.server) (ends_stream (the_replies calls) streams.server are)
+client_said_ends context bytes at total streams are h (Faulty calls fault) ends = inr (InClientStream streams calls fault h.mixed (omega (arith, h.fits, h.total_is)) ends refl)
+
+conversing_ends : (context : Context) (bytes : List ℕ) (x : MixedEnd) → AreBytes bytes → EndsMixed context bytes x → Leads (HasOpening Two context) (EndsConnection Two context) bytes (conversing context.number x)
+conversing_ends context bytes (MixedCloses at total streams) are h =
+    let both = mixed_bytes bytes streams h.mixed are in
+    client_said_ends context bytes at total streams both.1 h (stream_end judge_call streams.client) (ends_stream the_calls streams.client both.0)
+conversing_ends context bytes (MixedRefuses fault) are h = inl (refl, h)
+
+two_leads : (context : Context) (bytes : List ℕ) (o : Opening) (byte : ℕ) → AreBytes (bytes ++ byte ∷ []) → HasOpening Two context bytes o
+    → Leads (HasOpening Two context) (EndsConnection Two context) (bytes ++ byte ∷ []) (opening_next context.number o byte)
+two_leads context bytes (InMixed s) byte are h =
+    leads_within (HasMixed context) (EndsMixed context) (HasOpening Two context) (EndsConnection Two context) InMixed (conversing context.number) (bytes ++ byte ∷ []) (bytes ++ byte ∷ [])
+    (λ t mixed. mixed) (λ x ends. conversing_ends context (bytes ++ byte ∷ []) x are ends) (mixed_next s byte) (mixed_leads context bytes s byte h)
+two_leads context bytes (InClient s) byte are h = absurd h
+two_leads context bytes (InServer calls s) byte are h = absurd h
+
+mixed_closes : (context : Context) (bytes : List ℕ) (x : MixedEnd) → EndsMixed context bytes x → after (opening_next context.number) (Runs (opened Two context.start context.before)) bytes ≡ landed (conversing context.number x)
+mixed_closes context bytes x h = nested_stops mixed_next (opening_next context.number) InMixed (conversing context.number) (λ s byte. refl) bytes (mixing_from context.start context.before) x (mixed_stops context bytes x h)
+
+two_stops : (context : Context) (bytes : List ℕ) (x : Closing) → EndsConnection Two context bytes x
+    → after (opening_next context.number) (Runs (opened Two context.start context.before)) bytes ≡ Stops x
+two_stops context bytes (Closes at total entries) h =
+    mixed_closes context bytes (MixedCloses at total h.streams) (record { mixed = h.whole; at_is = h.at_is; total_is = h.total_is; fits = h.fits })
+    ∙ ap (λ e. landed (client_said context.number at total h.streams.server e)) (stream_ends the_calls h.streams.client (Held h.calls) (calls_hold h.streams h.calls h.replies h.converses))
+    ∙ ap (λ e. landed (server_said context.number at total h.calls e)) (stream_ends (the_replies h.calls) h.streams.server (Held h.replies) (replies_hold h.streams h.calls h.replies h.converses))
+    ∙ ap (λ entries. Stops (Closes at total entries)) (sym h.entries_are)
+two_stops context bytes (Refuses shown) (inl h) = mixed_closes context bytes (MixedRefuses shown.fault) h.1 ∙ ap (λ r. Stops (Refuses r)) (sym h.0)
+two_stops context bytes (Refuses shown) (inr (InClientStream streams calls fault mixed fits ends same)) =
+    mixed_closes context bytes (MixedCloses (context.start + length bytes) (context.before + size streams) streams) (record { mixed = mixed; at_is = refl; total_is = refl; fits = fits })
+    ∙ ap (λ e. landed (client_said context.number (context.start + length bytes) (context.before + size streams) streams.server e)) (stream_ends the_calls streams.client (Faulty calls fault) ends)
+    ∙ ap (λ r. Stops (Refuses r)) (sym same)
+two_stops context bytes (Refuses shown) (inr (InServerStream streams calls replies fault mixed fits holds ends same)) =
+    mixed_closes context bytes (MixedCloses (context.start + length bytes) (context.before + size streams) streams) (record { mixed = mixed; at_is = refl; total_is = refl; fits = fits })
+    ∙ ap (λ e. landed (client_said context.number (context.start + length bytes) (context.before + size streams) streams.server e)) (stream_ends the_calls streams.client (Held calls) holds)
+    ∙ ap (λ e. landed (server_said context.number (context.start + length bytes) (context.before + size streams) calls e)) (stream_ends (the_replies calls) streams.server (Faulty replies fault) ends)
+    ∙ ap (λ r. Stops (Refuses r)) (sym same)
+
+two_runs : (context : Context) (bytes : List ℕ) (o : Opening) → HasOpening Two context bytes o
+    → after (opening_next context.number) (Runs (opened Two context.start context.before)) bytes ≡ Runs o
+two_runs context bytes (InMixed s) h = nested_runs mixed_next (opening_next context.number) InMixed (conversing context.number) (λ t byte. refl) bytes (mixing_from context.start context.before) s (mixed_runs context bytes s h)
+two_runs context bytes (InClient s) h = absurd h
+two_runs context bytes (InServer calls s) h = absurd h
+
 -- ---- by version
 pub opening_leads : (version : Version) (context : Context) (bytes : List ℕ) (o : Opening) (byte : ℕ) → AreBytes (bytes ++ byte ∷ []) → HasOpening version context bytes o
     → Leads (HasOpening version context) (EndsConnection version context) (bytes ++ byte ∷ []) (opening_next context.number o byte)
 opening_leads One = in_turn_leads
+opening_leads Two = two_leads
 
 pub opening_runs : (version : Version) (context : Context) (bytes : List ℕ) (o : Opening) → HasOpening version context bytes o
     → after (opening_next context.number) (Runs (opened version context.start context.before)) bytes ≡ Runs o
 opening_runs One = in_turn_runs
+opening_runs Two = two_runs
 
 pub opening_stops : (version : Version) (context : Context) (bytes : List ℕ) (x : Closing) → EndsConnection version context bytes x
     → after (opening_next context.number) (Runs (opened version context.start context.before)) bytes ≡ Stops x
 opening_stops One = in_turn_stops
+opening_stops Two = two_stops
 
 pub nothing_opened : (version : Version) (context : Context) → context.before ≤ max_bytes → HasOpening version context [] (opened version context.start context.before)
 nothing_opened One context fits = nothing_taken the_calls (client_position context) fits
+nothing_opened Two context fits = nothing_gathered context fits

@@ -15,9 +15,6 @@ Past {S} {X} Bad run = (y : X) × Bad y × (run ≡ Stopped y)
 abbrev pub Over : {S X : Type 0} → (X → Type 0) → Run S X → X → Type 0
 Over Bad run x = (run ≡ Stops x) ⊎ Past Bad run
 
-pub past_more : {S X : Type 0} (next : S → ℕ → Next S X) (Bad : X → Type 0) (run : Run S X) (bytes : List ℕ) → Past Bad run → Past Bad (after next run bytes)
-past_more next Bad run bytes h = (h.0, h.1, ap (λ r. after next r bytes) h.2 ∙ after_stopped next h.0 bytes)
-
 pub gone_past : {S X : Type 0} (next : S → ℕ → Next S X) (Bad : X → Type 0) (run : Run S X) (bytes : List ℕ) → 0 < length bytes → Gone Bad run → Past Bad (after next run bytes)
 gone_past next Bad run [] some h = absurd (omega arith)
 gone_past {S} {X} next Bad run (byte ∷ bytes) some h = go h.2

@@ -11,12 +11,12 @@ use Rattle.capture3.specs.declared.fault.Side.{Side}
 use Rattle.capture3.specs.declared.fault.Side.TheVariants.{Client, Server}
 use Rattle.capture3.specs.Bodies.{AReply, BadCall, LongCall, OtherCall, ACall, Unasked, BadReply, LongReply}
 use Rattle.capture3.specs.Bodies as bodies
-use Rattle.capture3.specs.Capture.{Version, One}
-use Rattle.capture3.specs.Connections.{calls_in_turn, client_position, ConnectionShows, Context, Refusal, replies_to, server_position}
+use Rattle.capture3.specs.Capture.{Version, One, Two}
+use Rattle.capture3.specs.Connections.{calls_in_turn, client_position, ConnectionShows, Context, MixedShows, BadSide, NoLength, TooMuch, ShownFault, replies_to, server_position, StreamsShow, InClientStream, InServerStream}
 use Rattle.capture3.specs.FirstFault.{BehindConnections, DiffersFromMagic, FirstFault, Rule, MagicDiffers, MarkIsBad, ConnectionIsTooMany, WithinConnection, ByteBehindEnd}
 use Rattle.capture3.specs.Laws.{HasItsPlace}
-use Rattle.capture3.specs.Records.{Judgement, RecordFault, StreamShows}
-use Rattle.capture3.specs.Sides.{place_in, Position, SideShows}
+use Rattle.capture3.specs.Records.{FirstRecordFault, Judgement, NextIsCut, NextIsTooLong, RecordFault, RefusesNext, StreamShows}
+use Rattle.capture3.specs.Sides.{place_at, place_in, Position, SideShows}
 use Rattle.capture3.proofs.Files.{length_magic}
 use Rattle.capture3.proofs.MessageReasons.{call_refused_for, reply_refused_for, start_refused_for}
 
@@ -96,10 +96,32 @@ side_in_place judge position file bytes fault within h (inr (inl s)) =
     fault_is file fault _ s.is (subst (λ (r : RecordFault). IsInPlace file (place_in position r)) (sym s.cut.is) tt)
 side_in_place judge position file bytes fault within h (inr (inr s)) = fault_is file fault _ s.is (record_in_place judge position file _ s.shown h s.shows)
 
-connection_in_place : (version : Version) (context : Context) (file bytes : List ℕ) (shown : Refusal) → context.start + length bytes ≤ length file → ConnectionShows version context bytes shown → IsInPlace file shown.fault
+mixed_in_place : (context : Context) (file bytes : List ℕ) (fault : Fault) → context.start + length bytes ≤ length file → MixedShows context bytes fault → IsInPlace file fault
+mixed_in_place context file bytes fault within (BadSide s) = fault_is file fault _ s.is (omega (arith, within, ap length s.split, length-append s.front s.word, s.is_word.0))
+mixed_in_place context file bytes fault within (NoLength b none e) =
+    fault_is file fault _ e (omega (arith, within, ap length b.split, length-append (b.front ++ b.word) b.header, length-append b.front b.word, b.sided.0, b.counts.0))
+mixed_in_place context file bytes fault within (TooMuch b some passes e) =
+    fault_is file fault _ e (omega (arith, within, ap length b.split, length-append (b.front ++ b.word) b.header, length-append b.front b.word, b.sided.0, b.counts.0))
+
+first_in_place : {M : Type 0} (judge : Judgement M) (connection : ℕ) (side : Side) (file stream : List ℕ) (messages : List M) (fault : RecordFault) → RefusesInPlace judge side → FirstRecordFault judge stream messages fault
+    → IsInPlace file (place_at connection side fault)
+first_in_place judge connection side file stream messages fault h (RefusesNext front last rest body stop split holds record_is refused is) =
+    subst (λ (f : RecordFault). IsInPlace file (place_at connection side f)) (sym is) (h messages body stop refused file connection _)
+first_in_place judge connection side file stream messages fault h (NextIsTooLong front last rest at split holds long is) = subst (λ (f : RecordFault). IsInPlace file (place_at connection side f)) (sym is) tt
+first_in_place judge connection side file stream messages fault h (NextIsCut front last body split holds cut is) = subst (λ (f : RecordFault). IsInPlace file (place_at connection side f)) (sym is) tt
+
+streams_in_place : (number : ℕ) (file bytes : List ℕ) (shown : ShownFault) → StreamsShow number bytes shown → IsInPlace file shown.fault
+streams_in_place number file bytes shown (InClientStream streams calls fault mixed first same) =
+    fault_is file shown.fault _ (ap (λ (r : ShownFault). r.fault) same) (first_in_place calls_in_turn number Client file streams.client calls fault calls_in_place first)
+streams_in_place number file bytes shown (InServerStream streams calls replies fault mixed holds first same) =
+    fault_is file shown.fault _ (ap (λ (r : ShownFault). r.fault) same) (first_in_place (replies_to calls) number Server file streams.server replies fault (replies_in_place calls) first)
+
+connection_in_place : (version : Version) (context : Context) (file bytes : List ℕ) (shown : ShownFault) → context.start + length bytes ≤ length file → ConnectionShows version context bytes shown → IsInPlace file shown.fault
 connection_in_place One context file bytes shown within (same, inl h) = side_in_place calls_in_turn (client_position context) file bytes shown.fault within calls_in_place h
 connection_in_place One context file bytes shown within (same, inr h) =
     side_in_place (replies_to h.calls) (server_position context h.front h.client) file h.last shown.fault (omega (arith, within, ap length h.split, length-append h.front h.last)) (replies_in_place h.calls) h.shows
+connection_in_place Two context file bytes shown within (inl (same, h)) = mixed_in_place context file bytes shown.fault within h
+connection_in_place Two context file bytes shown within (inr h) = streams_in_place context.number file bytes shown h
 
 magic_in_place : (file bytes : List ℕ) (fault : Fault) → length bytes ≤ length file → DiffersFromMagic bytes fault → IsInPlace file fault
 magic_in_place file bytes fault within d =
@@ -110,12 +132,12 @@ magic_in_place file bytes fault within d =
 word_within : (file bytes : List ℕ) (b : BehindConnections bytes) → length bytes ≤ length file → length b.front + 4 + length b.rest ≤ length file
 word_within file bytes b within = omega (arith, within, ap length b.split, length-append (b.front ++ b.word) b.rest, length-append b.front b.word, b.is_word.0)
 
-rule_in_place : (file bytes : List ℕ) (shown : Refusal) → length bytes ≤ length file → Rule bytes shown → IsInPlace file shown.fault
+rule_in_place : (file bytes : List ℕ) (shown : ShownFault) → length bytes ≤ length file → Rule bytes shown → IsInPlace file shown.fault
 rule_in_place file bytes shown within (MagicDiffers d e) = magic_in_place file bytes shown.fault within d
-rule_in_place file bytes shown within (MarkIsBad b rest bad e) = fault_is file shown.fault _ (ap (λ (r : Refusal). r.fault) e) (omega (arith, word_within file bytes b within))
-rule_in_place file bytes shown within (ConnectionIsTooMany b rest one many e) = fault_is file shown.fault _ (ap (λ (r : Refusal). r.fault) e) (omega (arith, word_within file bytes b within))
+rule_in_place file bytes shown within (MarkIsBad b rest bad e) = fault_is file shown.fault _ (ap (λ (r : ShownFault). r.fault) e) (omega (arith, word_within file bytes b within))
+rule_in_place file bytes shown within (ConnectionIsTooMany b rest one many e) = fault_is file shown.fault _ (ap (λ (r : ShownFault). r.fault) e) (omega (arith, word_within file bytes b within))
 rule_in_place file bytes shown within (WithinConnection b one h) = connection_in_place b.version _ file b.rest shown (word_within file bytes b within) h
-rule_in_place file bytes shown within (ByteBehindEnd b zero one e) = fault_is file shown.fault _ (ap (λ (r : Refusal). r.fault) e) (omega (arith, one, word_within file bytes b within))
+rule_in_place file bytes shown within (ByteBehindEnd b zero one e) = fault_is file shown.fault _ (ap (λ (r : ShownFault). r.fault) e) (omega (arith, one, word_within file bytes b within))
 
 pub in_its_place : (file : List ℕ) (fault : Fault) → FirstFault file fault → HasItsPlace file fault.reason fault.place
 in_its_place file fault (inl (front, rest, shown, split, shows, e)) =

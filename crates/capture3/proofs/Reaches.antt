@@ -1,10 +1,11 @@
 -- What a clean prefix reaches, by its parts and by the machine.
 use Rattle.std.proofs.Common.{◌≡◌, inl, inr, ℕ, suc, ◌+◌, List, [], ◌∷◌, ◌++◌, length, map, refl, sym, ap, subst, ◌∙◌, append_assoc, append-nil, arith}
-use Rattle.capture3.specs.Capture.{Version, One, digit, magic_front, magic, total_size}
+use Rattle.capture3.specs.Capture.{Version, One, Two, digit, magic_front, magic, total_size}
 use Rattle.capture3.specs.Chunks.{BeginsStream}
 use Rattle.capture3.specs.Connections.{Context, client_position, server_position, calls_in_turn, replies_to}
 use Rattle.capture3.specs.Entry.{Entry, Begin, Call, Turn}
-use Rattle.capture3.specs.Opening.{Opening, InClient, InServer, opening_entries}
+use Rattle.capture3.specs.Mixing.{SideWord, SideLength, SideChunk, MixedPoint, Mixing}
+use Rattle.capture3.specs.Opening.{Opening, InClient, InServer, InMixed, opening_entries}
 use Rattle.capture3.specs.Parsing.{Spot, Magic, Digit, Mark, Inside, Ended, Parsing, emitted}
 use Rattle.capture3.specs.Reached.{ReachesInside, AreWhole, InMagic, BetweenConnections, InConnection}
 use Rattle.capture3.specs.Reading.{Reading}
@@ -13,6 +14,8 @@ use Rattle.capture3.specs.Sides.{Position}
 use Rattle.capture3.specs.Siding.{Siding, Length, Chunk, Point}
 use Rattle.capture3.specs.Typed.{reply_entry}
 use Rattle.capture3.proofs.Files.{HasSpot, Stands, magic_split}
+use Rattle.capture3.specs.SidedChunks.{Streams, BeginsMixed, size, gathered, with_more}
+use Rattle.capture3.proofs.Mixes.{HasMixed, HasMixedPoint}
 use Rattle.capture3.proofs.Openings.{HasOpening}
 use Rattle.capture3.proofs.Sides.{HasPoint, HasSide}
 use Rattle.capture3.proofs.Streams.{HasRead, has_read, holds_so_far}
@@ -58,6 +61,57 @@ begun_side judge position bytes at total reading (Chunk left) h = (
   holds_so_far judge (h.stream ++ h.got) reading h.read,
 )
 
+-- ---- chunks of both sides
+
+mixed_begun : (context : Context) (bytes : List ℕ) → BeginsMixed context.before bytes → (s : Mixing) × HasMixed context bytes s
+mixed_begun context bytes (inl b) = (
+  record { at = context.start + length b.front; total = context.before + size (gathered b.chunks); streams = gathered b.chunks; point = SideWord b.part },
+  record { chunks = b.chunks; front = b.front; split = b.split; short = b.short; joined = b.joined; streams_are = refl; at_is = refl; total_is = refl; fits = b.fits },
+)
+mixed_begun context bytes (inr (inl b)) = (
+  record { at = context.start + length b.front + 4; total = context.before + size (gathered b.chunks); streams = gathered b.chunks; point = SideLength b.side b.part },
+  record { chunks = b.chunks; front = b.front; word = b.word; split = b.split; short = b.short; joined = b.joined; sided = b.sided; streams_are = refl; at_is = refl; total_is = refl; fits = b.fits },
+)
+mixed_begun context bytes (inr (inr b)) = (
+  record { at = context.start + length bytes + suc b.left; total = context.before + size (gathered b.chunks) + (length b.got + suc b.left); streams = with_more (gathered b.chunks) b.side b.got; point = SideChunk b.side b.left },
+  record {
+    chunks = b.chunks;
+    front = b.front;
+    word = b.word;
+    header = b.header;
+    got = b.got;
+    split = b.split;
+    joined = b.joined;
+    sided = b.sided;
+    counts = b.counts;
+    streams_are = refl;
+    at_is = refl;
+    total_is = refl;
+    fits = b.fits;
+  },
+)
+
+begun_mixed : (context : Context) (bytes : List ℕ) (at total : ℕ) (streams : Streams) (point : MixedPoint) → HasMixedPoint context bytes at total streams point → BeginsMixed context.before bytes
+begun_mixed context bytes at total streams (SideWord part) h =
+    inl (record { chunks = h.chunks; front = h.front; part = part; split = h.split; joined = h.joined; short = h.short; fits = omega (arith, h.total_is, h.fits) })
+begun_mixed context bytes at total streams (SideLength side part) h =
+    inr (inl (record { chunks = h.chunks; side = side; front = h.front; word = h.word; part = part; split = h.split; joined = h.joined; sided = h.sided; short = h.short; fits = omega (arith, h.total_is, h.fits) }))
+begun_mixed context bytes at total streams (SideChunk side left) h =
+    inr (inr (record {
+      chunks = h.chunks;
+      side = side;
+      front = h.front;
+      word = h.word;
+      header = h.header;
+      got = h.got;
+      left = left;
+      split = h.split;
+      joined = h.joined;
+      sided = h.sided;
+      counts = h.counts;
+      fits = omega (arith, h.total_is, h.fits);
+    }))
+
 -- ---- a connection
 
 opening_begun : (version : Version) (context : Context) (bytes : List ℕ) (more : List Entry) → ReachesInside version context.before bytes more → (o : Opening) × HasOpening version context bytes o × (opening_entries o ≡ more)
@@ -70,6 +124,9 @@ opening_begun One context bytes more (inr r) =
       record { front = r.front; last = r.last; client = r.client; split = r.split; first = r.first; holds = r.holds; fits = r.fits; rest = s.1 },
       ap (λ replies. (Begin ∷ map Call r.calls) ++ (Turn ∷ map reply_entry replies)) s.2 ∙ sym r.entries_are,
     )
+opening_begun Two context bytes more r =
+    let m = mixed_begun context bytes r.0 in
+    (InMixed m.0, m.1, sym r.1)
 
 begun_opening : (version : Version) (context : Context) (bytes : List ℕ) (o : Opening) → HasOpening version context bytes o → ReachesInside version context.before bytes (opening_entries o)
 begun_opening One context bytes (InClient s) h =
@@ -92,6 +149,10 @@ begun_opening One context bytes (InServer calls s) h =
       answers = b.2;
       entries_are = refl;
     })
+begun_opening One context bytes (InMixed s) h = absurd h
+begun_opening Two context bytes (InMixed s) h = (begun_mixed context bytes s.at s.total s.streams s.point h, refl)
+begun_opening Two context bytes (InClient s) h = absurd h
+begun_opening Two context bytes (InServer calls s) h = absurd h
 
 -- ---- a file
 

@@ -1,5 +1,5 @@
 -- The machine for a capture file goes as the one that takes the capture apart, with its records judged.
-use Rattle.std.proofs.Common.{lit<, ◌≡◌, ℕ, zero, suc, ◌+◌, ◌<◌, Bool, true, false, cond, nat_eq, nat_lt, List, [], ◌∷◌, ◌++◌, length, drop, Result, Ok, Err, refl, sym, ap, subst, ◌∙◌, add-one, arith, length-append}
+use Rattle.std.proofs.Common.{◌≡◌, ℕ, zero, suc, ◌+◌, Bool, true, false, cond, nat_eq, nat_lt, List, [], ◌∷◌, ◌++◌, length, Result, Ok, Err, refl, sym, ap, subst, ◌∙◌, add-one, arith, length-append}
 use Rattle.xdr3.specs.declared.reason.Stop.{Stop}
 use Rattle.xdr3.specs.declared.reason.Reason.TheVariants.{BadMagic, TooManyConnections, TooManyBytes, RecordCut, RecordTooLong}
 use Rattle.xdr3.specs.Item.{Item}
@@ -9,13 +9,13 @@ use Rattle.record_mark.specs.Word.{word_next}
 use Rattle.record_mark.proofs.Machines.{not_runs, only_stops}
 use Rattle.capture3.specs.declared.fault.Side.{Side}
 use Rattle.capture3.specs.declared.fault.Side.TheVariants.{Client, Server}
-use Rattle.capture3.specs.declared.position.Event.TheVariants.{Begin}
-use Rattle.capture3.specs.declared.position.TheConstants.{MAGIC}
+use Rattle.capture3.specs.declared.container.position.Event.TheVariants.{Begin}
 use Rattle.capture3.specs.Bodies.{ReplyItems}
-use Rattle.capture3.specs.Connections.{Refusal, refusal}
+use Rattle.capture3.specs.Connections.{ShownFault, refusal}
 use Rattle.capture3.specs.Judging.{judge_call, judge_reply}
-use Rattle.capture3.specs.Capture.{One}
-use Rattle.capture3.specs.Opening.{InClient, InServer, ending, judge_replies, opened, turning}
+use Rattle.capture3.specs.Capture.{Version, One, Two}
+use Rattle.capture3.specs.Mixing.{Mixing, MixedEnd, MixedCloses, MixedRefuses, mixed_step}
+use Rattle.capture3.specs.Opening.{InClient, InServer, InMixed, conversing, ending, judge_replies, opened, turning}
 use Rattle.capture3.specs.Reading.{judged, recorded}
 use Rattle.capture3.specs.Siding as siding
 use Rattle.capture3.specs.Siding.{Siding, SideEnd, SideRefuses}
@@ -25,8 +25,8 @@ use Rattle.capture3.specs.Parsing as parsing
 use Rattle.capture3.specs.Parsing.{Parsing, file_next}
 use Rattle.capture3.specs.declared.fault.Fault.{Fault}
 use Rattle.capture3.specs.Sides.{file_fault, place_at}
-use Rattle.capture3.specs.Resumed.{Judged, parsing_in, siding_at, parsing_at, resumed, call_judged, reply_judged, Agrees, AgreesAt, AgreesOn}
-use Rattle.capture3.specs.Unpacking.{Opened, Magic, Mark, Length, Chunk, Ended, Unpacking, Unpacked, Has, Refuses, at_byte, before_stream, marked, counted, joined, in_chunk, unpack_next}
+use Rattle.capture3.specs.machinery.Resumed.{Judged, parsing_in, siding_at, parsing_at, resumed, call_judged, reply_judged, Agrees, AgreesAt, AgreesOn}
+use Rattle.capture3.specs.machinery.Unpacking.{Opened, Magic, Digit, Mark, Length, Chunk, Mixed, Ended, Unpacking, Unpacked, Has, Refuses, at_byte, left_of_magic, begun_at, connection_marked, chunk_counted, record_joined, in_chunk, mixed_at, mixed_ended, unpack_next}
 
 -- where the two machines stand
 abbrev pub at_unpacking : (at total connections records : ℕ) → Joining → Opened → Unpacking
@@ -40,46 +40,59 @@ Follows at total connections records joining opened j byte =
     file_next (parsing_at u j) byte ≡ resumed j (unpack_next u byte)
 
 -- a choice by a test
-chosen_follows : (b : Bool) (x : Parsing) (u : Unpacking) (shown : Refusal) (fault : Fault) (j : Judged) → x ≡ parsing_at u j → shown ≡ refusal fault
+chosen_follows : (b : Bool) (x : Parsing) (u : Unpacking) (shown : ShownFault) (fault : Fault) (j : Judged) → x ≡ parsing_at u j → shown ≡ refusal fault
     → cond b (Goes x) (Ends shown) ≡ resumed j (cond b (Goes u) (Ends (Refuses fault)))
 chosen_follows true x u shown fault j goes ends = ap (λ (p : Parsing). Goes p) goes
-chosen_follows false x u shown fault j goes ends = ap (λ (s : Refusal). Ends s) ends
+chosen_follows false x u shown fault j goes ends = ap (λ (s : ShownFault). Ends s) ends
 
 -- ---- the magic
 
-magic_follows : (at total connections records n : ℕ) (j : Judged) (byte : ℕ) → n < 8 → Follows at total connections records Between (Magic (drop n MAGIC)) j byte
-magic_follows at total connections records zero j byte within = chosen_follows (nat_eq byte 78) _ _ _ _ j refl refl
-magic_follows at total connections records (suc zero) j byte within = chosen_follows (nat_eq byte 70) _ _ _ _ j refl refl
-magic_follows at total connections records (suc (suc zero)) j byte within = chosen_follows (nat_eq byte 83) _ _ _ _ j refl refl
-magic_follows at total connections records (suc (suc (suc zero))) j byte within = chosen_follows (nat_eq byte 51) _ _ _ _ j refl refl
-magic_follows at total connections records (suc (suc (suc (suc zero)))) j byte within = chosen_follows (nat_eq byte 67) _ _ _ _ j refl refl
-magic_follows at total connections records (suc (suc (suc (suc (suc zero))))) j byte within = chosen_follows (nat_eq byte 65) _ _ _ _ j refl refl
-magic_follows at total connections records (suc (suc (suc (suc (suc (suc zero)))))) j byte within = chosen_follows (nat_eq byte 80) _ _ _ _ j refl refl
-magic_follows at total connections records (suc (suc (suc (suc (suc (suc (suc zero))))))) j byte within = chosen_follows (nat_eq byte 49) _ _ _ _ j refl refl
-magic_follows at total connections records (suc (suc (suc (suc (suc (suc (suc (suc n)))))))) j byte within = absurd (omega arith)
+magic_follows : (at total connections records due : ℕ) (more : List ℕ) (j : Judged) (byte : ℕ) → Follows at total connections records Between (Magic due more) j byte
+magic_follows at total connections records due [] j byte = chosen_follows (nat_eq byte due) _ _ _ _ j refl refl
+magic_follows at total connections records due (next ∷ more) j byte = chosen_follows (nat_eq byte due) _ _ _ _ j refl refl
+
+digit_follows : (at total connections records : ℕ) (joining : Joining) (j : Judged) (byte : ℕ) → Follows at total connections records joining Digit j byte
+digit_follows at total connections records joining j byte = by_test (nat_eq byte 49) (nat_eq byte 50)
+  where
+    by_test : (b c : Bool)
+        → cond b (Goes (parsing_in One (at + 1) total connections j.entries (parsing.Mark []))) (cond c (Goes (parsing_in Two (at + 1) total connections j.entries (parsing.Mark []))) (Ends (refusal (file_fault at BadMagic))))
+        ≡ resumed j (cond b (Goes (at_unpacking (at + 1) total connections records joining (Mark One []))) (cond c (Goes (at_unpacking (at + 1) total connections records joining (Mark Two []))) (Ends (at_byte at BadMagic))))
+    by_test true c = refl
+    by_test false true = refl
+    by_test false false = refl
 
 -- ---- connection words
 
-marked_follows : (at total connections records : ℕ) (joining : Joining) (j : Judged) (w : ℕ) → joining ≡ Between
-    → parsing.marked One at total connections j.entries w ≡ resumed j (marked at total connections records joining w)
-marked_follows at total connections records joining j zero between = refl
-marked_follows at total connections records joining j (suc zero) between = by_test (nat_lt connections 65535)
+marked_follows : (version : Version) (at total connections records : ℕ) (joining : Joining) (j : Judged) (w : ℕ) → joining ≡ Between
+    → parsing.marked version at total connections j.entries w ≡ resumed j (connection_marked version at total connections records joining w)
+marked_follows version at total connections records joining j zero between = refl
+marked_follows version at total connections records joining j (suc zero) between = by_test (nat_lt connections 65535) version
   where
-    by_test : (b : Bool) → cond b (Goes (parsing_in (at + 4) total (suc connections) j.entries (parsing.Inside (opened One (at + 4) total)))) (Ends (refusal (file_fault at TooManyConnections)))
-        ≡ resumed j (cond b (Ends (Has Begin [] (before_stream at total (connections + 1) joining Client))) (Ends (at_byte at TooManyConnections)))
-    by_test true = rw (between, add-one connections) refl
-    by_test false = refl
-marked_follows at total connections records joining j (suc (suc w)) between = refl
+    by_test : (b : Bool) (v : Version) → cond b (Goes (parsing_in v (at + 4) total (suc connections) j.entries (parsing.Inside (opened v (at + 4) total)))) (Ends (refusal (file_fault at TooManyConnections)))
+        ≡ resumed j (cond b (Ends (Has Begin [] (begun_at v at total (connections + 1) joining))) (Ends (at_byte at TooManyConnections)))
+    by_test true One = rw (between, add-one connections) refl
+    by_test true Two = rw (add-one connections) refl
+    by_test false v = refl
+marked_follows version at total connections records joining j (suc (suc w)) between = refl
 
-mark_next_follows : (at total connections records : ℕ) (joining : Joining) (j : Judged) (n : Next (List ℕ) ℕ) → joining ≡ Between
-    → within (λ p. parsing_in at total connections j.entries (parsing.Mark p)) (parsing.marked One at total connections j.entries) n
-    ≡ resumed j (within (λ p. at_unpacking at total connections records joining (Mark p)) (marked at total connections records joining) n)
-mark_next_follows at total connections records joining j (Goes p) between = refl
-mark_next_follows at total connections records joining j (Ends w) between = marked_follows at total connections records joining j w between
+mark_next_follows : (version : Version) (at total connections records : ℕ) (joining : Joining) (j : Judged) (n : Next (List ℕ) ℕ) → joining ≡ Between
+    → within (λ p. parsing_in version at total connections j.entries (parsing.Mark p)) (parsing.marked version at total connections j.entries) n
+    ≡ resumed j (within (λ p. at_unpacking at total connections records joining (Mark version p)) (connection_marked version at total connections records joining) n)
+mark_next_follows version at total connections records joining j (Goes p) between = refl
+mark_next_follows version at total connections records joining j (Ends w) between = marked_follows version at total connections records joining j w between
+
+-- ---- chunks of both sides
+
+mixed_follows : (connections records : ℕ) (joining : Joining) (j : Judged) (n : Next Mixing MixedEnd)
+    → within (λ p. parsing_in Two j.start j.before connections j.entries (parsing.Inside p)) (parsing.closed Two connections j.entries) (within InMixed (conversing connections) n)
+    ≡ resumed j (within (mixed_at connections records joining) (mixed_ended connections joining) n)
+mixed_follows connections records joining j (Goes m) = refl
+mixed_follows connections records joining j (Ends (MixedCloses at total streams)) = refl
+mixed_follows connections records joining j (Ends (MixedRefuses fault)) = refl
 
 -- ---- the client's side
 
-abbrev pub at_fault : Fault → Next Parsing Refusal
+abbrev pub at_fault : Fault → Next Parsing ShownFault
 at_fault fault = Ends (refusal fault)
 
 -- a fault of the open record, by the count and by the messages
@@ -91,13 +104,13 @@ cut_follows connections records byte side reason number is =
     ap (λ (n : ℕ). at_fault (record { place = places.Record connections side n byte; reason = reason })) next
 
 -- the layers of the file's machine round one side
-abbrev pub in_client : Judged → ℕ → Next (Siding (List Item)) (SideEnd (List Item)) → Next Parsing Refusal
+abbrev pub in_client : Judged → ℕ → Next (Siding (List Item)) (SideEnd (List Item)) → Next Parsing ShownFault
 in_client j connections n =
-    within (λ p. parsing_in j.start j.before connections j.entries (parsing.Inside p)) (parsing.closed One connections j.entries) (within InClient turning n)
+    within (λ p. parsing_in One j.start j.before connections j.entries (parsing.Inside p)) (parsing.closed One connections j.entries) (within InClient turning n)
 
 client_word_follows : (at total connections records : ℕ) (joining : Joining) (j : Judged) (w : ℕ) → records ≡ length j.calls
     → in_client j connections (siding.counted (place_at connections Client) at total (record { messages = j.calls; joining = joining }) w)
-    ≡ resumed j (counted at total connections records Client joining w)
+    ≡ resumed j (chunk_counted at total connections records Client joining w)
 client_word_follows at total connections records Between j zero is = refl
 client_word_follows at total connections records (Header body part) j zero is = cut_follows connections records (length body) Client RecordCut (length j.calls) is
 client_word_follows at total connections records (Bytes body last left) j zero is = cut_follows connections records (length body) Client RecordCut (length j.calls) is
@@ -112,7 +125,7 @@ client_word_follows at total connections records joining j (suc left) is = by_te
 
 client_length_follows : (at total connections records : ℕ) (joining : Joining) (j : Judged) (n : Next (List ℕ) ℕ) → records ≡ length j.calls
     → in_client j connections (within (λ p. siding_at at total j.calls joining (siding.Length p)) (siding.counted (place_at connections Client) at total (record { messages = j.calls; joining = joining })) n)
-    ≡ resumed j (within (λ p. at_unpacking at total connections records joining (Length Client p)) (counted at total connections records Client joining) n)
+    ≡ resumed j (within (λ p. at_unpacking at total connections records joining (Length Client p)) (chunk_counted at total connections records Client joining) n)
 client_length_follows at total connections records joining j (Goes p) is = refl
 client_length_follows at total connections records joining j (Ends w) is = client_word_follows at total connections records joining j w is
 
@@ -126,7 +139,7 @@ call_follows at total connections records left j (Err stop) = refl
 client_chunk_follows : (at total connections records left : ℕ) (j : Judged) (n : Next Joining Joined) → records ≡ length j.calls
     → in_client j connections (within (λ r. record { at = at; total = total; reading = r; point = siding.awaiting left }) (λ shown. Ends (SideRefuses (place_at connections Client shown)))
     (within (λ s. record { messages = j.calls; joining = s }) (recorded judge_call j.calls) n))
-    ≡ resumed j (within (in_chunk at total connections records Client left) (joined at total connections records Client left) n)
+    ≡ resumed j (within (in_chunk at total connections records Client left) (record_joined at total connections records Client left) n)
 client_chunk_follows at total connections records zero j (Goes s) is = refl
 client_chunk_follows at total connections records (suc left) j (Goes s) is = refl
 client_chunk_follows at total connections records left j (Ends (Whole body)) is = call_follows at total connections records left j (judge_call j.calls body)
@@ -134,13 +147,13 @@ client_chunk_follows at total connections records left j (Ends (TooLong byte)) i
 
 -- ---- the server's side
 
-abbrev pub in_server : Judged → ℕ → Next (Siding ReplyItems) (SideEnd ReplyItems) → Next Parsing Refusal
+abbrev pub in_server : Judged → ℕ → Next (Siding ReplyItems) (SideEnd ReplyItems) → Next Parsing ShownFault
 in_server j connections n =
-    within (λ p. parsing_in j.start j.before connections j.entries (parsing.Inside p)) (parsing.closed One connections j.entries) (within (InServer j.calls) (ending j.calls) n)
+    within (λ p. parsing_in One j.start j.before connections j.entries (parsing.Inside p)) (parsing.closed One connections j.entries) (within (InServer j.calls) (ending j.calls) n)
 
 server_word_follows : (at total connections records : ℕ) (joining : Joining) (j : Judged) (w : ℕ) → records ≡ length j.replies
     → in_server j connections (siding.counted (place_at connections Server) at total (record { messages = j.replies; joining = joining }) w)
-    ≡ resumed j (counted at total connections records Server joining w)
+    ≡ resumed j (chunk_counted at total connections records Server joining w)
 server_word_follows at total connections records Between j zero is = refl
 server_word_follows at total connections records (Header body part) j zero is = cut_follows connections records (length body) Server RecordCut (length j.replies) is
 server_word_follows at total connections records (Bytes body last left) j zero is = cut_follows connections records (length body) Server RecordCut (length j.replies) is
@@ -155,7 +168,7 @@ server_word_follows at total connections records joining j (suc left) is = by_te
 
 server_length_follows : (at total connections records : ℕ) (joining : Joining) (j : Judged) (n : Next (List ℕ) ℕ) → records ≡ length j.replies
     → in_server j connections (within (λ p. siding_at at total j.replies joining (siding.Length p)) (siding.counted (place_at connections Server) at total (record { messages = j.replies; joining = joining })) n)
-    ≡ resumed j (within (λ p. at_unpacking at total connections records joining (Length Server p)) (counted at total connections records Server joining) n)
+    ≡ resumed j (within (λ p. at_unpacking at total connections records joining (Length Server p)) (chunk_counted at total connections records Server joining) n)
 server_length_follows at total connections records joining j (Goes p) is = refl
 server_length_follows at total connections records joining j (Ends w) is = server_word_follows at total connections records joining j w is
 
@@ -169,7 +182,7 @@ reply_follows at total connections records left j (Err stop) = refl
 server_chunk_follows : (at total connections records left : ℕ) (j : Judged) (n : Next Joining Joined) → records ≡ length j.replies
     → in_server j connections (within (λ r. record { at = at; total = total; reading = r; point = siding.awaiting left }) (λ shown. Ends (SideRefuses (place_at connections Server shown)))
     (within (λ s. record { messages = j.replies; joining = s }) (recorded (judge_replies j.calls) j.replies) n))
-    ≡ resumed j (within (in_chunk at total connections records Server left) (joined at total connections records Server left) n)
+    ≡ resumed j (within (in_chunk at total connections records Server left) (record_joined at total connections records Server left) n)
 server_chunk_follows at total connections records zero j (Goes s) is = refl
 server_chunk_follows at total connections records (suc left) j (Goes s) is = refl
 server_chunk_follows at total connections records left j (Ends (Whole body)) is = reply_follows at total connections records left j (judge_reply j.calls body)
@@ -179,15 +192,16 @@ server_chunk_follows at total connections records left j (Ends (TooLong byte)) i
 
 byte_follows : (at total connections records : ℕ) (joining : Joining) (opened : Opened) (j : Judged) (byte : ℕ) → AgreesAt records joining opened j
     → Follows at total connections records joining opened j byte
-byte_follows at total connections records joining (Magic due) j byte (n, within, is, between) =
-    subst (λ s. Follows at total connections records s (Magic due) j byte) (sym between)
-    (subst (λ (d : List ℕ). Follows at total connections records Between (Magic d) j byte) (sym is) (magic_follows at total connections records n j byte within))
-byte_follows at total connections records joining (Mark part) j byte between = mark_next_follows at total connections records joining j (word_next part byte) between
+byte_follows at total connections records joining (Magic due more) j byte between =
+    subst (λ s. Follows at total connections records s (Magic due more) j byte) (sym between) (magic_follows at total connections records due more j byte)
+byte_follows at total connections records joining Digit j byte between = digit_follows at total connections records joining j byte
+byte_follows at total connections records joining (Mark version part) j byte between = mark_next_follows version at total connections records joining j (word_next part byte) between
 byte_follows at total connections records joining (Length Client part) j byte is = client_length_follows at total connections records joining j (word_next part byte) is
 byte_follows at total connections records joining (Length Server part) j byte is = server_length_follows at total connections records joining j (word_next part byte) is
 byte_follows at total connections records joining (Chunk Client left) j byte is = client_chunk_follows at total connections records left j (join_next joining byte) is
 byte_follows at total connections records joining (Chunk Server left) j byte is = server_chunk_follows at total connections records left j (join_next joining byte) is
-byte_follows at total connections records joining Ended j byte agrees = refl
+byte_follows at total connections records joining (Mixed streams point) j byte between = mixed_follows connections records joining j (mixed_step at total streams point byte)
+byte_follows at total connections records joining (Ended version) j byte agrees = refl
 
 pub follows : (u : Unpacking) (j : Judged) (byte : ℕ) → Agrees u j → file_next (parsing_at u j) byte ≡ resumed j (unpack_next u byte)
 follows u j byte agrees = byte_follows u.at u.total u.connections u.records u.joining u.opened j byte agrees
@@ -199,60 +213,38 @@ one_more records messages m is =
     let size : length (messages ++ m ∷ []) ≡ length messages + 1 = length-append messages (m ∷ []) in
     omega arith
 
-magic_agrees : (at total connections records n : ℕ) (j : Judged) (byte : ℕ) → n < 8
-    → AgreesOn j (unpack_next (at_unpacking at total connections records Between (Magic (drop n MAGIC))) byte)
-magic_agrees at total connections records zero j byte within = by_test (nat_eq byte 78)
+magic_agrees : (at total connections records due : ℕ) (more : List ℕ) (j : Judged) (byte : ℕ) → AgreesOn j (unpack_next (at_unpacking at total connections records Between (Magic due more)) byte)
+magic_agrees at total connections records due more j byte = by_test (nat_eq byte due) more
   where
-    by_test : (b : Bool) → AgreesOn j (cond b (Goes (at_unpacking (at + 1) total connections records Between (Magic (70 ∷ 83 ∷ 51 ∷ 67 ∷ 65 ∷ 80 ∷ 49 ∷ [])))) (Ends (at_byte at BadMagic)))
-    by_test true = (1, lit< tt, refl, refl)
-    by_test false = tt
-magic_agrees at total connections records (suc zero) j byte within = by_test (nat_eq byte 70)
-  where
-    by_test : (b : Bool) → AgreesOn j (cond b (Goes (at_unpacking (at + 1) total connections records Between (Magic (83 ∷ 51 ∷ 67 ∷ 65 ∷ 80 ∷ 49 ∷ [])))) (Ends (at_byte at BadMagic)))
-    by_test true = (2, lit< tt, refl, refl)
-    by_test false = tt
-magic_agrees at total connections records (suc (suc zero)) j byte within = by_test (nat_eq byte 83)
-  where
-    by_test : (b : Bool) → AgreesOn j (cond b (Goes (at_unpacking (at + 1) total connections records Between (Magic (51 ∷ 67 ∷ 65 ∷ 80 ∷ 49 ∷ [])))) (Ends (at_byte at BadMagic)))
-    by_test true = (3, lit< tt, refl, refl)
-    by_test false = tt
-magic_agrees at total connections records (suc (suc (suc zero))) j byte within = by_test (nat_eq byte 51)
-  where
-    by_test : (b : Bool) → AgreesOn j (cond b (Goes (at_unpacking (at + 1) total connections records Between (Magic (67 ∷ 65 ∷ 80 ∷ 49 ∷ [])))) (Ends (at_byte at BadMagic)))
-    by_test true = (4, lit< tt, refl, refl)
-    by_test false = tt
-magic_agrees at total connections records (suc (suc (suc (suc zero)))) j byte within = by_test (nat_eq byte 67)
-  where
-    by_test : (b : Bool) → AgreesOn j (cond b (Goes (at_unpacking (at + 1) total connections records Between (Magic (65 ∷ 80 ∷ 49 ∷ [])))) (Ends (at_byte at BadMagic)))
-    by_test true = (5, lit< tt, refl, refl)
-    by_test false = tt
-magic_agrees at total connections records (suc (suc (suc (suc (suc zero))))) j byte within = by_test (nat_eq byte 65)
-  where
-    by_test : (b : Bool) → AgreesOn j (cond b (Goes (at_unpacking (at + 1) total connections records Between (Magic (80 ∷ 49 ∷ [])))) (Ends (at_byte at BadMagic)))
-    by_test true = (6, lit< tt, refl, refl)
-    by_test false = tt
-magic_agrees at total connections records (suc (suc (suc (suc (suc (suc zero)))))) j byte within = by_test (nat_eq byte 80)
-  where
-    by_test : (b : Bool) → AgreesOn j (cond b (Goes (at_unpacking (at + 1) total connections records Between (Magic (49 ∷ [])))) (Ends (at_byte at BadMagic)))
-    by_test true = (7, lit< tt, refl, refl)
-    by_test false = tt
-magic_agrees at total connections records (suc (suc (suc (suc (suc (suc (suc zero))))))) j byte within = by_test (nat_eq byte 49)
-  where
-    by_test : (b : Bool) → AgreesOn j (cond b (Goes (at_unpacking (at + 1) total connections records Between (Mark []))) (Ends (at_byte at BadMagic)))
-    by_test true = refl
-    by_test false = tt
-magic_agrees at total connections records (suc (suc (suc (suc (suc (suc (suc (suc n)))))))) j byte within = absurd (omega arith)
+    by_test : (b : Bool) (more : List ℕ) → AgreesOn j (cond b (Goes (at_unpacking (at + 1) total connections records Between (left_of_magic more))) (Ends (at_byte at BadMagic)))
+    by_test true [] = refl
+    by_test true (next ∷ rest) = refl
+    by_test false more = tt
 
-mark_agrees : (at total connections records : ℕ) (joining : Joining) (j : Judged) (n : Next (List ℕ) ℕ) → joining ≡ Between
-    → AgreesOn j (within (λ p. at_unpacking at total connections records joining (Mark p)) (marked at total connections records joining) n)
-mark_agrees at total connections records joining j (Goes p) between = between
-mark_agrees at total connections records joining j (Ends zero) between = tt
-mark_agrees at total connections records joining j (Ends (suc zero)) between = by_test (nat_lt connections 65535)
+digit_agrees : (at total connections records : ℕ) (joining : Joining) (j : Judged) (byte : ℕ) → joining ≡ Between → AgreesOn j (unpack_next (at_unpacking at total connections records joining Digit) byte)
+digit_agrees at total connections records joining j byte between = by_test (nat_eq byte 49) (nat_eq byte 50)
   where
-    by_test : (b : Bool) → AgreesOn j (cond b (Ends (Has Begin [] (before_stream at total (connections + 1) joining Client))) (Ends (at_byte at TooManyConnections)))
-    by_test true = refl
-    by_test false = tt
-mark_agrees at total connections records joining j (Ends (suc (suc w))) between = tt
+    by_test : (b c : Bool) → AgreesOn j (cond b (Goes (at_unpacking (at + 1) total connections records joining (Mark One []))) (cond c (Goes (at_unpacking (at + 1) total connections records joining (Mark Two []))) (Ends (at_byte at BadMagic))))
+    by_test true c = between
+    by_test false true = between
+    by_test false false = tt
+
+mark_agrees : (version : Version) (at total connections records : ℕ) (joining : Joining) (j : Judged) (n : Next (List ℕ) ℕ) → joining ≡ Between
+    → AgreesOn j (within (λ p. at_unpacking at total connections records joining (Mark version p)) (connection_marked version at total connections records joining) n)
+mark_agrees version at total connections records joining j (Goes p) between = between
+mark_agrees version at total connections records joining j (Ends zero) between = tt
+mark_agrees version at total connections records joining j (Ends (suc zero)) between = by_test (nat_lt connections 65535) version
+  where
+    by_test : (b : Bool) (v : Version) → AgreesOn j (cond b (Ends (Has Begin [] (begun_at v at total (connections + 1) joining))) (Ends (at_byte at TooManyConnections)))
+    by_test true One = refl
+    by_test true Two = (between, refl)
+    by_test false v = tt
+mark_agrees version at total connections records joining j (Ends (suc (suc w))) between = tt
+
+mixed_agrees : (connections records : ℕ) (joining : Joining) (j : Judged) (n : Next Mixing MixedEnd) → (joining ≡ Between) × (j.calls ≡ []) → AgreesOn j (within (mixed_at connections records joining) (mixed_ended connections joining) n)
+mixed_agrees connections records joining j (Goes m) between = between
+mixed_agrees connections records joining j (Ends (MixedCloses at total streams)) between = (between.0, refl, between.1)
+mixed_agrees connections records joining j (Ends (MixedRefuses fault)) between = tt
 
 -- the open stream's messages are as many as its records
 abbrev pub IsCounted : Side → ℕ → Judged → Type 0
@@ -260,7 +252,7 @@ IsCounted Client records j = records ≡ length j.calls
 IsCounted Server records j = records ≡ length j.replies
 
 length_agrees : (at total connections records : ℕ) (side : Side) (joining : Joining) (j : Judged) (n : Next (List ℕ) ℕ) → IsCounted side records j
-    → AgreesOn j (within (λ p. at_unpacking at total connections records joining (Length side p)) (counted at total connections records side joining) n)
+    → AgreesOn j (within (λ p. at_unpacking at total connections records joining (Length side p)) (chunk_counted at total connections records side joining) n)
 length_agrees at total connections records Client joining j (Goes p) is = is
 length_agrees at total connections records Server joining j (Goes p) is = is
 length_agrees at total connections records Client Between j (Ends zero) is = refl
@@ -276,7 +268,7 @@ length_agrees at total connections records side joining j (Ends (suc left)) is =
     by_test false Server is = is
 
 chunk_agrees : (at total connections records left : ℕ) (side : Side) (j : Judged) (n : Next Joining Joined) → IsCounted side records j
-    → AgreesOn j (within (in_chunk at total connections records side left) (joined at total connections records side left) n)
+    → AgreesOn j (within (in_chunk at total connections records side left) (record_joined at total connections records side left) n)
 chunk_agrees at total connections records zero Client j (Goes s) is = is
 chunk_agrees at total connections records (suc left) Client j (Goes s) is = is
 chunk_agrees at total connections records zero Server j (Goes s) is = is
@@ -289,15 +281,16 @@ chunk_agrees at total connections records left side j (Ends (TooLong byte)) is =
 
 byte_agrees : (at total connections records : ℕ) (joining : Joining) (opened : Opened) (j : Judged) (byte : ℕ) → AgreesAt records joining opened j
     → AgreesOn j (unpack_next (at_unpacking at total connections records joining opened) byte)
-byte_agrees at total connections records joining (Magic due) j byte (n, within, is, between) =
-    subst (λ s. AgreesOn j (unpack_next (at_unpacking at total connections records s (Magic due)) byte)) (sym between)
-    (subst (λ (d : List ℕ). AgreesOn j (unpack_next (at_unpacking at total connections records Between (Magic d)) byte)) (sym is) (magic_agrees at total connections records n j byte within))
-byte_agrees at total connections records joining (Mark part) j byte between = mark_agrees at total connections records joining j (word_next part byte) between
+byte_agrees at total connections records joining (Magic due more) j byte between =
+    subst (λ s. AgreesOn j (unpack_next (at_unpacking at total connections records s (Magic due more)) byte)) (sym between) (magic_agrees at total connections records due more j byte)
+byte_agrees at total connections records joining Digit j byte between = digit_agrees at total connections records joining j byte between
+byte_agrees at total connections records joining (Mark version part) j byte between = mark_agrees version at total connections records joining j (word_next part byte) between
 byte_agrees at total connections records joining (Length Client part) j byte is = length_agrees at total connections records Client joining j (word_next part byte) is
 byte_agrees at total connections records joining (Length Server part) j byte is = length_agrees at total connections records Server joining j (word_next part byte) is
 byte_agrees at total connections records joining (Chunk Client left) j byte is = chunk_agrees at total connections records left Client j (join_next joining byte) is
 byte_agrees at total connections records joining (Chunk Server left) j byte is = chunk_agrees at total connections records left Server j (join_next joining byte) is
-byte_agrees at total connections records joining Ended j byte agrees = tt
+byte_agrees at total connections records joining (Mixed streams point) j byte between = mixed_agrees connections records joining j (mixed_step at total streams point byte) between
+byte_agrees at total connections records joining (Ended version) j byte agrees = tt
 
 pub agrees_on : (u : Unpacking) (j : Judged) (byte : ℕ) → Agrees u j → AgreesOn j (unpack_next u byte)
 agrees_on u j byte agrees = byte_agrees u.at u.total u.connections u.records u.joining u.opened j byte agrees

@@ -14,7 +14,8 @@ use Rattle.capture3.specs.Chunks.{max_bytes, IsChunk, AreChunks, IsStream}
 use Rattle.capture3.specs.Records.{Judgement, Holds, RecordFault, fault_at}
 use Rattle.capture3.specs.Reading.{Reading, stream_next, unread}
 use Rattle.capture3.specs.Sides.{Position, file_fault, place_in}
-use Rattle.capture3.specs.Siding.{Point, Length, Chunk, Siding, SideEnd, SideCloses, SideRefuses, awaiting, closing, counted, side_next, side_start}
+use Rattle.capture3.specs.Siding.{Point, Length, Chunk, Siding, SideEnd, SideCloses, SideRefuses, awaiting, closing, counted, side_next}
+use Rattle.capture3.specs.machinery.Siding.{side_start}
 use Rattle.capture3.proofs.Strict.{StreamShows, PassesBytes, CutsRecord, ShowsRecord, SideShows}
 use Rattle.capture3.proofs.BytesOf.{split_bytes, AreBytes-append, chunk_bytes}
 use Rattle.capture3.proofs.Judged.{Judged}

@@ -7,14 +7,14 @@ use Rattle.xdr3.proofs.Layouts.{reads_whole}
 use Rattle.rpc_head.specs.declared.call.ProcId.{ProcId}
 use Rattle.rpc_head.specs.declared.message.Start.{Start}
 use Rattle.rpc_head.specs.Messages.{call_layout, reply_layout, procedure_in}
-use Rattle.rpc_head.specs.Names.{names}
+use Rattle.rpc_head.specs.Names.{head_names}
 use Rattle.rpc_head.specs.Shapes.{message_start}
 use Rattle.rpc_head.specs.Starts.{start_items}
 use Rattle.procs3.specs.Table.{arguments_of, results_of}
-use Rattle.capture3.specs.declared.calls.NumberedCall.{NumberedCall}
+use Rattle.capture3.specs.declared.message.calls.NumberedCall.{NumberedCall}
 use Rattle.capture3.specs.Bodies.{IsCall, IsReply, Starts, xid_in, procedure_of}
 use Rattle.capture3.specs.Judging.{judge_call, judge_reply, read_whole}
-use Rattle.capture3.specs.Spelled.{SpellsCall, SpellsReply}
+use Rattle.capture3.specs.machinery.Spelled.{SpellsCall, SpellsReply}
 use Rattle.capture3.proofs.Bodies.{call_accepts, call_starts, reply_accepts, reply_starts, start_of, start_read}
 use Rattle.capture3.proofs.Layouts.{whole_read}
 
@@ -77,7 +77,7 @@ one_reply id body a b p q = same_ok (read_whole (reply_layout (results_of id)) b
 -- the items of some call with this xid and procedure
 abbrev pub asking : ℕ → ProcId → List Item
 asking xid id =
-    Word names.xid xid ∷ Word names.mtype 0 ∷ Word names.rpcvers 2 ∷ Word names.prog id.prog ∷ Word names.vers id.vers ∷ Word names.proc id.proc_no ∷ []
+    Word head_names.xid xid ∷ Word head_names.mtype 0 ∷ Word head_names.rpcvers 2 ∷ Word head_names.prog id.prog ∷ Word head_names.vers id.vers ∷ Word head_names.proc id.proc_no ∷ []
 
 pub reply_never_stops : (id : ProcId) (body : List ℕ) (call : NumberedCall) (stop : Stop) → call.id ≡ id → ((items : List Item) → IsReply body (record { id = id; items = items }) → call.xid ≡ xid_in items)
     → SpellsReply id body → judge_reply (asking call.xid call.id ∷ []) body ≡ Err stop → ⊥

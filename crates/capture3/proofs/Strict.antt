@@ -1,17 +1,20 @@
 -- The rules of faults with what holds before them: the messages so far are accepted, and the limits are kept.
 use Rattle.std.specs.Prelude.{◌≡◌, ◌⊎◌, ℕ, suc, ◌+◌, ◌<◌, ◌≤◌, List, [], ◌++◌, length}
 use Rattle.record_mark.specs.RecordMark.{IsTooLong, IsOpen}
-use Rattle.record_mark.specs.Word.{IsWord}
+use Rattle.record_mark.specs.Word.{IsWord, Joins}
 use Rattle.xdr3.specs.Item.{Item}
 use Rattle.xdr3.specs.declared.reason.Reason.TheVariants.{BadMark, AfterEnd, TooManyConnections, RecordCut, RecordTooLong, TooManyBytes}
 use Rattle.capture3.specs.declared.fault.Fault.{Fault}
-use Rattle.capture3.specs.Capture.{Version, One, max_connections, Streams, total_size}
+use Rattle.capture3.specs.declared.fault.Side.{Side}
+use Rattle.capture3.specs.Bodies.{ReplyItems}
+use Rattle.capture3.specs.Capture.{Version, One, Two, max_connections, total_size}
+use Rattle.capture3.specs.SidedChunks.{Streams, size, SidedChunk, IsSidedChunk, side_word, gathered, AreMixed}
 use Rattle.capture3.specs.Chunks.{max_bytes, AreChunks, IsStream}
-use Rattle.capture3.specs.Connections.{Context, Refusal, refusal, calls_in_turn, replies_to, client_position, server_position}
+use Rattle.capture3.specs.Connections.{Context, ShownFault, refusal, calls_in_turn, replies_to, client_position, server_position, client_refusal, server_refusal}
 use Rattle.capture3.specs.Entry.{Entry}
 use Rattle.capture3.specs.FirstFault.{DiffersFromMagic}
 use Rattle.capture3.specs.Reached.{Opens}
-use Rattle.capture3.specs.Records.{Judgement, RecordFault, RefusesRecord, Holds, HoldsSoFar, fault_at}
+use Rattle.capture3.specs.Records.{Judgement, RecordFault, RefusesRecord, Holds, HoldsSoFar, FirstRecordFault, fault_at}
 use Rattle.capture3.specs.Sides.{Position, file_fault, place_in}
 
 -- the stream ends with a whole fragment header, with which the body would pass the limit
@@ -96,9 +99,50 @@ pub record ServerShows (context : Context) (bytes : List ℕ) (fault : Fault) : 
   pub fits : context.before + length client ≤ max_bytes
   pub shows : SideShows (replies_to calls) (server_position context front client) last fault
 
+-- a side word other than 0, 1 and 2
+pub record SideIsBad (context : Context) (bytes : List ℕ) (fault : Fault) : Type 0 where
+  pub chunks : List SidedChunk
+  pub front : List ℕ
+  pub word : List ℕ
+  pub count : ℕ
+  pub split : bytes ≡ front ++ word
+  pub joined : Joins IsSidedChunk front chunks
+  pub fits : context.before + size (gathered chunks) ≤ max_bytes
+  pub is_word : IsWord word count
+  pub bad : 2 < count
+  pub is : fault ≡ file_fault (context.start + length front) BadMark
+
+-- a side word, and a length word
+pub record BehindLength (context : Context) (bytes : List ℕ) : Type 0 where
+  pub chunks : List SidedChunk
+  pub side : Side
+  pub front : List ℕ
+  pub word : List ℕ
+  pub header : List ℕ
+  pub count : ℕ
+  pub split : bytes ≡ front ++ word ++ header
+  pub joined : Joins IsSidedChunk front chunks
+  pub fits : context.before + size (gathered chunks) ≤ max_bytes
+  pub sided : IsWord word (side_word side)
+  pub counts : IsWord header count
+
+-- the last byte of a connection's bytes shows this fault of its chunks
+pub data MixedShows (context : Context) (bytes : List ℕ) (fault : Fault) : Type 0 where
+  BadSide : SideIsBad context bytes fault → MixedShows context bytes fault
+  NoLength : (b : BehindLength context bytes) → b.count ≡ 0 → fault ≡ file_fault (context.start + length b.front + 4) BadMark → MixedShows context bytes fault
+  TooMuch : (b : BehindLength context bytes) → max_bytes < context.before + size (gathered b.chunks) + b.count → fault ≡ file_fault (context.start + length b.front + 4) TooManyBytes → MixedShows context bytes fault
+
+-- the side word 0, after streams of which one has a fault
+pub data StreamsShow (context : Context) (bytes : List ℕ) (shown : ShownFault) : Type 0 where
+  InClientStream : (streams : Streams) (calls : List (List Item)) (fault : RecordFault) → AreMixed bytes streams → context.before + size streams ≤ max_bytes → FirstRecordFault calls_in_turn streams.client calls fault → shown ≡ client_refusal context.number calls fault
+      → StreamsShow context bytes shown
+  InServerStream : (streams : Streams) (calls : List (List Item)) (replies : List ReplyItems) (fault : RecordFault) → AreMixed bytes streams → context.before + size streams ≤ max_bytes → Holds calls_in_turn streams.client calls → FirstRecordFault (replies_to calls) streams.server replies fault
+      → shown ≡ server_refusal context.number calls replies fault → StreamsShow context bytes shown
+
 -- the last byte of a connection's bytes shows this fault
-abbrev pub ConnectionShows : Version → Context → List ℕ → Refusal → Type 0
+abbrev pub ConnectionShows : Version → Context → List ℕ → ShownFault → Type 0
 ConnectionShows One context bytes shown = (shown ≡ refusal shown.fault) × (SideShows calls_in_turn (client_position context) bytes shown.fault ⊎ ServerShows context bytes shown.fault)
+ConnectionShows Two context bytes shown = ((shown ≡ refusal shown.fault) × MixedShows context bytes shown.fault) ⊎ StreamsShow context bytes shown
 
 -- whole connections, a connection word, and what comes after it
 pub record BehindConnections (bytes : List ℕ) : Type 0 where
@@ -114,7 +158,7 @@ pub record BehindConnections (bytes : List ℕ) : Type 0 where
   pub is_word : IsWord word mark
 
 -- the rules: the last byte of these bytes shows this fault
-pub data Rule (bytes : List ℕ) (shown : Refusal) : Type 0 where
+pub data Rule (bytes : List ℕ) (shown : ShownFault) : Type 0 where
   -- a byte among the first 8 differs from the magic's
   MagicDiffers : DiffersFromMagic bytes shown.fault → shown ≡ refusal shown.fault → Rule bytes shown
   -- a whole connection word is not 0 or 1

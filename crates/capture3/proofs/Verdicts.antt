@@ -6,7 +6,7 @@ use Rattle.xdr3.specs.Item.{AreBytes}
 use Rattle.xdr3.specs.declared.reason.Reason.TheVariants.{CaptureCut, AfterEnd}
 use Rattle.capture3.specs.declared.fault.Fault.{Fault}
 use Rattle.capture3.specs.Capture.{Version, total_size, magic}
-use Rattle.capture3.specs.Connections.{Refusal, refusal}
+use Rattle.capture3.specs.Connections.{ShownFault, refusal}
 use Rattle.capture3.specs.Entry.{Entry, End}
 use Rattle.capture3.specs.FirstFault.{Shows, IsClean, FirstFault}
 use Rattle.capture3.specs.Laws.{HasOneVerdict, IsCutShort}
@@ -21,16 +21,16 @@ use Rattle.capture3.proofs.Strict as strict
 use Rattle.capture3.proofs.Files.{HasSpot, Stands, file_tells, file_runs, rule_stops}
 
 -- the machine's runs, told of their bytes
-pub told : (bytes : List ℕ) (run : Run Parsing Refusal) → AreBytes bytes → parsed bytes ≡ run → Tells Stands strict.Rule bytes run
+pub told : (bytes : List ℕ) (run : Run Parsing ShownFault) → AreBytes bytes → parsed bytes ≡ run → Tells Stands strict.Rule bytes run
 told bytes run are e = subst (λ r. Tells Stands strict.Rule bytes r) e (file_tells bytes are)
 
 -- where a rule holds, the machine has stopped
-over_not_runs : (run : Run Parsing Refusal) (s : Parsing) (shown : Refusal) → run ≡ Runs s → Over AnyRefusal run shown → ⊥
+over_not_runs : (run : Run Parsing ShownFault) (s : Parsing) (shown : ShownFault) → run ≡ Runs s → Over AnyRefusal run shown → ⊥
 over_not_runs run s shown e (inl f) = cc
 over_not_runs run s shown e (inr past) = let f = past.2 in cc
 
 -- a fault is shown by the last byte exactly where the machine stops at it
-pub shows_from_stops : (bytes : List ℕ) (shown : Refusal) → AreBytes bytes → parsed bytes ≡ Stops shown → Shows bytes shown
+pub shows_from_stops : (bytes : List ℕ) (shown : ShownFault) → AreBytes bytes → parsed bytes ≡ Stops shown → Shows bytes shown
 shows_from_stops bytes shown are e =
     record {
       rule = loosened bytes shown (told bytes (Stops shown) are e);
@@ -39,7 +39,7 @@ shows_from_stops bytes shown are e =
           over_not_runs (parsed front) before.0 other before.1 (rule_over front other rule);
     }
 
-pub stops_from_shows : (bytes : List ℕ) (shown : Refusal) → AreBytes bytes → Shows bytes shown → parsed bytes ≡ Stops shown
+pub stops_from_shows : (bytes : List ℕ) (shown : ShownFault) → AreBytes bytes → Shows bytes shown → parsed bytes ≡ Stops shown
 stops_from_shows bytes shown are h = go (rule_over bytes shown h.rule)
   where
     go : Over AnyRefusal (parsed bytes) shown → parsed bytes ≡ Stops shown
@@ -70,7 +70,7 @@ typed_from_spot version file at total number size entries all Ended h e =
       capture = record { bytes = h.opens.rest; last = h.last; split = h.split ∙ ap (λ (b : List ℕ). b ++ h.last) h.opens.split; joined = h.opens.joined; closes = h.closes; few = h.opens.few; small = h.opens.small };
     }
 
-typed_from_run : (file : List ℕ) (all : List Entry) (run : Run Parsing Refusal) → AreBytes file → parsed file ≡ run → verdict_of (length file) run ≡ Ok all → Typed file all
+typed_from_run : (file : List ℕ) (all : List Entry) (run : Run Parsing ShownFault) → AreBytes file → parsed file ≡ run → verdict_of (length file) run ≡ Ok all → Typed file all
 typed_from_run file all (Runs s) are e v = typed_from_spot s.version file s.at s.total s.number (length file) s.entries all s.spot (told file (Runs s) are e) v
 typed_from_run file all (Stops fault) are e v = absurd (cc)
 typed_from_run file all (Stopped fault) are e v = absurd (cc)
@@ -106,7 +106,7 @@ fault_from_spot entries size fault (Mark part) e = cc
 fault_from_spot entries size fault (Inside o) e = cc
 fault_from_spot entries size fault Ended e = absurd (cc)
 
-fault_from_run : (file : List ℕ) (fault : Fault) (run : Run Parsing Refusal) → AreBytes file → parsed file ≡ run → verdict_of (length file) run ≡ Err fault → FirstFault file fault
+fault_from_run : (file : List ℕ) (fault : Fault) (run : Run Parsing ShownFault) → AreBytes file → parsed file ≡ run → verdict_of (length file) run ≡ Err fault → FirstFault file fault
 fault_from_run file fault (Runs s) are e v =
     inr (clean_from_runs file s e, (λ w. let typed = verdict_from_typed file w.0 w.1 in let same = ap (verdict_of (length file)) e in cc), fault_from_spot s.entries (length file) fault s.spot v)
 fault_from_run file fault (Stops shown) are e v = inl (file, [], shown, sym (append-nil file), shows_from_stops file shown are e, cc)
@@ -117,7 +117,7 @@ fault_from_run file fault (Stopped shown) are e v =
 pub fault_from_verdict : (file : List ℕ) (fault : Fault) → AreBytes file → verdict file ≡ Err fault → FirstFault file fault
 fault_from_verdict file fault are = fault_from_run file fault (parsed file) are refl
 
-pub stays : (size : ℕ) (shown : Refusal) (rest : List ℕ) → verdict_of size (after file_next (Stops shown) rest) ≡ Err shown.fault
+pub stays : (size : ℕ) (shown : ShownFault) (rest : List ℕ) → verdict_of size (after file_next (Stops shown) rest) ≡ Err shown.fault
 stays size shown [] = refl
 stays size shown (byte ∷ rest) = ap (verdict_of size) (after_stopped file_next shown rest)
 
@@ -129,7 +129,7 @@ cut_from_spot entries size (Mark part) h = refl
 cut_from_spot entries size (Inside o) h = refl
 cut_from_spot entries size Ended h = absurd (h (entries ++ End ∷ []) refl)
 
-cut_from_run : (file : List ℕ) (run : Run Parsing Refusal) → AreBytes file → parsed file ≡ run → IsClean file → (IsWellFormed file → ⊥) → verdict_of (length file) run ≡ Err (file_fault (length file) CaptureCut)
+cut_from_run : (file : List ℕ) (run : Run Parsing ShownFault) → AreBytes file → parsed file ≡ run → IsClean file → (IsWellFormed file → ⊥) → verdict_of (length file) run ≡ Err (file_fault (length file) CaptureCut)
 cut_from_run file (Runs s) are e clean bad =
     cut_from_spot s.entries (length file) s.spot (λ all v. bad (all, typed_from_run file all (Runs s) are e v))
 cut_from_run file (Stops fault) are e clean bad = absurd (clean file [] fault (sym (append-nil file)) (shows_from_stops file fault are e))

@@ -7,7 +7,7 @@ use Rattle.xdr3.specs.Layout.{Layout, FitsLayout, ReadsLayout, RefusesLayout, wo
 use Rattle.xdr3.specs.Shape.{Reads, Refuses}
 use Rattle.rpc_head.specs.declared.call.ProcId.{ProcId}
 use Rattle.rpc_head.specs.Messages.{call_layout, reply_layout, procedure_in}
-use Rattle.rpc_head.specs.Names.{names}
+use Rattle.rpc_head.specs.Names.{head_names}
 use Rattle.rpc_head.specs.Shapes.{message_start}
 use Rattle.procs3.specs.Table.{arguments_of, results_of}
 
@@ -35,7 +35,7 @@ procedure_of (call ∷ calls) xid = if xid_in call == xid then Some (procedure_i
 
 -- the body begins with the xid and the mtype, CALL (0) or REPLY (1) (RFC 5531, section 9)
 abbrev pub Starts : List ℕ → ℕ → ℕ → Type 0
-Starts body xid mtype = (left : List ℕ) × Reads message_start body (Word names.xid xid ∷ Word names.mtype mtype ∷ []) left
+Starts body xid mtype = (left : List ℕ) × Reads message_start body (Word head_names.xid xid ∷ Word head_names.mtype mtype ∷ []) left
 
 -- a front of the body is laid out so, and bytes are left over: Trailing at the first of them
 pub record LeavesMore (layout : Layout) (body : List ℕ) (stop : Stop) : Type 0 where

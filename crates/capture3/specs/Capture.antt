@@ -2,19 +2,23 @@
 use Rattle.std.specs.Prelude.{◌≡◌, ℕ, zero, ◌+◌, ◌≤◌, List, [], ◌∷◌, ◌++◌, length}
 use Rattle.record_mark.specs.Word.{IsWord, Joins}
 use Rattle.capture3.specs.Chunks.{max_bytes, IsStream}
+use Rattle.capture3.specs.SidedChunks.{Streams, size, AreMixed}
 
+-- of a file: 1, with the streams of a connection one after the other, or 2, with the chunks of both in any order
 pub data Version : Type 0 where
   One : Version
+  Two : Version
 
 -- the bytes NFS3CAP
 abbrev pub magic_front : List ℕ
 magic_front = 78 ∷ 70 ∷ 83 ∷ 51 ∷ 67 ∷ 65 ∷ 80 ∷ []
 
--- the byte after them: the character 1
+-- the byte after them: the character 1 or 2
 abbrev pub digit : Version → ℕ
 digit One = 49
+digit Two = 50
 
--- the eight bytes with which a file begins: NFS3CAP1
+-- the eight bytes with which a file begins: NFS3CAP1 or NFS3CAP2
 abbrev pub magic : Version → List ℕ
 magic version = magic_front ++ digit version ∷ []
 
@@ -22,20 +26,12 @@ magic version = magic_front ++ digit version ∷ []
 abbrev pub max_connections : ℕ
 max_connections = 65535
 
--- the bytes of a connection's two streams
-pub record Streams : Type 0 where
-  pub client : List ℕ
-  pub server : List ℕ
-
-abbrev pub size : Streams → ℕ
-size streams = length streams.client + length streams.server
-
 -- the stream bytes of connections together
 abbrev pub total_size : List Streams → ℕ
 total_size [] = zero
 total_size (streams ∷ more) = size streams + total_size more
 
--- the client stream, and then the server stream
+-- version 1: the client stream, and then the server stream
 pub record AreInTurn (bytes : List ℕ) (streams : Streams) : Type 0 where
   pub front : List ℕ
   pub last : List ℕ
@@ -46,6 +42,7 @@ pub record AreInTurn (bytes : List ℕ) (streams : Streams) : Type 0 where
 -- the streams of a connection, by the version of the file
 abbrev pub AreStreams : Version → List ℕ → Streams → Type 0
 AreStreams One bytes streams = AreInTurn bytes streams
+AreStreams Two bytes streams = AreMixed bytes streams
 
 -- the word 1, and the connection's streams
 pub record IsConnection (version : Version) (bytes : List ℕ) (streams : Streams) : Type 0 where

@@ -2,7 +2,7 @@
 use Rattle.std.specs.Prelude.{ℕ, List, [], ◌∷◌, ◌++◌}
 use Rattle.xdr3.specs.Item.{Item, Word, Opaque, Var}
 use Rattle.rpc_head.specs.declared.call.ProcId.{ProcId}
-use Rattle.rpc_head.specs.Names.{names}
+use Rattle.rpc_head.specs.Names.{head_names}
 use Rattle.capture3.specs.Entry.{Entry, Begin, Call, Turn, Reply, Close, End}
 
 abbrev pub magic_1 : List ℕ
@@ -35,11 +35,11 @@ null_procedure = record { prog = 100003; vers = 3; proc_no = 0 }
 
 abbrev pub null_call_items : List Item
 null_call_items =
-    Word names.xid 3735928559 ∷ Word names.mtype 0 ∷ Word names.rpcvers 2 ∷ Word names.prog 100003 ∷ Word names.vers 3 ∷ Word names.proc 0 ∷ Word names.cred_flavor 0 ∷ Opaque Var names.cred_body []
-    ∷ Word names.verf_flavor 0 ∷ Opaque Var names.verf_body [] ∷ []
+    Word head_names.xid 3735928559 ∷ Word head_names.mtype 0 ∷ Word head_names.rpcvers 2 ∷ Word head_names.prog 100003 ∷ Word head_names.vers 3 ∷ Word head_names.proc 0 ∷ Word head_names.cred_flavor 0 ∷ Opaque Var head_names.cred_body []
+    ∷ Word head_names.verf_flavor 0 ∷ Opaque Var head_names.verf_body [] ∷ []
 
 abbrev pub null_reply_items : List Item
-null_reply_items = Word names.xid 3735928559 ∷ Word names.mtype 1 ∷ Word names.reply_stat 0 ∷ Word names.verf_flavor 0 ∷ Opaque Var names.verf_body [] ∷ Word names.accept_stat 0 ∷ []
+null_reply_items = Word head_names.xid 3735928559 ∷ Word head_names.mtype 1 ∷ Word head_names.reply_stat 0 ∷ Word head_names.verf_flavor 0 ∷ Opaque Var head_names.verf_body [] ∷ Word head_names.accept_stat 0 ∷ []
 
 abbrev pub null_entries : List Entry
 null_entries = Begin ∷ Call null_call_items ∷ Turn ∷ Reply null_procedure null_reply_items ∷ Close ∷ End ∷ []
@@ -50,3 +50,36 @@ bad_mtype_cut = magic_1 ++ word_1 ++ (0 ∷ 0 ∷ 0 ∷ 12 ∷ []) ++ (128 ∷ 0
 
 abbrev pub bad_mtype : List ℕ
 bad_mtype = bad_mtype_cut ++ 2 ∷ []
+
+-- ---- version 2
+
+abbrev pub magic_2 : List ℕ
+magic_2 = 78 ∷ 70 ∷ 83 ∷ 51 ∷ 67 ∷ 65 ∷ 80 ∷ 50 ∷ []
+
+abbrev pub word_3 : List ℕ
+word_3 = 0 ∷ 0 ∷ 0 ∷ 3 ∷ []
+
+-- the streams of null_capture, each in one chunk with its side word
+abbrev pub client_chunk : List ℕ
+client_chunk = word_1 ++ (0 ∷ 0 ∷ 0 ∷ 44 ∷ []) ++ (128 ∷ 0 ∷ 0 ∷ 40 ∷ []) ++ null_call
+
+abbrev pub server_chunk : List ℕ
+server_chunk = word_2 ++ (0 ∷ 0 ∷ 0 ∷ 28 ∷ []) ++ (128 ∷ 0 ∷ 0 ∷ 24 ∷ []) ++ null_reply
+
+-- the chunk of the call first, and the chunk of the reply first
+abbrev pub null_mixed : List ℕ
+null_mixed = magic_2 ++ word_1 ++ client_chunk ++ server_chunk ++ word_0 ++ word_0
+
+abbrev pub null_mixed_swapped : List ℕ
+null_mixed_swapped = magic_2 ++ word_1 ++ server_chunk ++ client_chunk ++ word_0 ++ word_0
+
+-- a client record whose mtype is 2 up to all but the last byte of the side word 0, and with that byte
+abbrev pub bad_mtype_mixed_cut : List ℕ
+bad_mtype_mixed_cut = magic_2 ++ word_1 ++ word_1 ++ (0 ∷ 0 ∷ 0 ∷ 12 ∷ []) ++ (128 ∷ 0 ∷ 0 ∷ 8 ∷ []) ++ word_1 ++ word_2 ++ 0 ∷ 0 ∷ 0 ∷ []
+
+abbrev pub bad_mtype_mixed : List ℕ
+bad_mtype_mixed = bad_mtype_mixed_cut ++ 0 ∷ []
+
+-- the call in both streams
+abbrev pub call_answered_by_call : List ℕ
+call_answered_by_call = magic_2 ++ word_1 ++ client_chunk ++ word_2 ++ (0 ∷ 0 ∷ 0 ∷ 44 ∷ []) ++ (128 ∷ 0 ∷ 0 ∷ 40 ∷ []) ++ null_call ++ word_0

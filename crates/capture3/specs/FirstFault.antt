@@ -3,12 +3,13 @@ use Rattle.std.specs.Prelude.{◌≡◌, ◌≢◌, ◌⊎◌, ℕ, suc, ◌+◌
 use Rattle.record_mark.specs.Word.{IsWord, Joins}
 use Rattle.xdr3.specs.declared.reason.Reason.TheVariants.{BadMagic, CaptureCut, BadMark, AfterEnd, TooManyConnections}
 use Rattle.capture3.specs.declared.fault.Fault.{Fault}
-use Rattle.capture3.specs.Capture.{Version, magic, max_connections, Streams, total_size, IsConnection}
-use Rattle.capture3.specs.Connections.{Refusal, refusal, ConnectionShows}
+use Rattle.capture3.specs.Capture.{Version, magic, max_connections, total_size, IsConnection}
+use Rattle.capture3.specs.SidedChunks.{Streams}
+use Rattle.capture3.specs.Connections.{ShownFault, refusal, ConnectionShows}
 use Rattle.capture3.specs.Sides.{file_fault}
 use Rattle.capture3.specs.Typed.{IsWellFormed}
 
--- a byte among the first 8, which differs from that of each magic
+-- a byte among the first 8, after the front of a magic, which differs from the next byte of each magic with that front
 pub record DiffersFromMagic (bytes : List ℕ) (fault : Fault) : Type 0 where
   pub front : List ℕ
   pub byte : ℕ
@@ -35,8 +36,8 @@ pub record BehindConnections (bytes : List ℕ) : Type 0 where
   pub is_word : IsWord word mark
 
 -- the rules: the last byte of these bytes shows this fault
-pub data Rule (bytes : List ℕ) (shown : Refusal) : Type 0 where
-  -- a byte among the first 8 differs from the magic's
+pub data Rule (bytes : List ℕ) (shown : ShownFault) : Type 0 where
+  -- a byte among the first 8 differs from that of both magics
   MagicDiffers : DiffersFromMagic bytes shown.fault → shown ≡ refusal shown.fault → Rule bytes shown
   -- a whole connection word is not 0 or 1
   MarkIsBad : (b : BehindConnections bytes) → b.rest ≡ [] → 1 < b.mark → shown ≡ refusal (file_fault (length b.front) BadMark) → Rule bytes shown
@@ -49,16 +50,16 @@ pub data Rule (bytes : List ℕ) (shown : Refusal) : Type 0 where
   ByteBehindEnd : (b : BehindConnections bytes) → b.mark ≡ 0 → length b.rest ≡ 1 → shown ≡ refusal (file_fault (length b.front + 4) AfterEnd) → Rule bytes shown
 
 -- A rule holds of the bytes, and none of any shorter prefix.
-pub record Shows (bytes : List ℕ) (shown : Refusal) : Type 0 where
+pub record Shows (bytes : List ℕ) (shown : ShownFault) : Type 0 where
   pub rule : Rule bytes shown
-  pub first : (front more : List ℕ) (byte : ℕ) (other : Refusal) → bytes ≡ front ++ byte ∷ more → Rule front other → ⊥
+  pub first : (front more : List ℕ) (byte : ℕ) (other : ShownFault) → bytes ≡ front ++ byte ∷ more → Rule front other → ⊥
 
 -- no prefix shows a fault
 abbrev pub IsClean : List ℕ → Type 0
-IsClean bytes = (front rest : List ℕ) (shown : Refusal) → bytes ≡ front ++ rest → Shows front shown → ⊥
+IsClean bytes = (front rest : List ℕ) (shown : ShownFault) → bytes ≡ front ++ rest → Shows front shown → ⊥
 
 -- A prefix of the file shows the fault; or the file is clean and not well formed, and is cut at its length.
 abbrev pub FirstFault : List ℕ → Fault → Type 0
 FirstFault file fault =
-    ((front : List ℕ) × (rest : List ℕ) × (shown : Refusal) × (file ≡ front ++ rest) × Shows front shown × (fault ≡ shown.fault))
+    ((front : List ℕ) × (rest : List ℕ) × (shown : ShownFault) × (file ≡ front ++ rest) × Shows front shown × (fault ≡ shown.fault))
     ⊎ (IsClean file × (IsWellFormed file → ⊥) × (fault ≡ file_fault (length file) CaptureCut))

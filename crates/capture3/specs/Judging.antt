@@ -12,12 +12,12 @@ use Rattle.procs3.specs.Table.{arguments_of, results_of}
 use Rattle.capture3.specs.Bodies.{ReplyItems, procedure_of, xid_in}
 
 -- the items are all of the body
-abbrev pub ended : List ℕ → List Item × ℕ → Result (List Item) Stop
-ended body read = if read.1 == length body then Ok read.0 else refused read.1 Trailing
+abbrev pub all_of_body : List ℕ → List Item × ℕ → Result (List Item) Stop
+all_of_body body read = if read.1 == length body then Ok read.0 else refused read.1 Trailing
 
 -- a whole body by its layout
 abbrev pub read_whole : Layout → List ℕ → Result (List Item) Stop
-read_whole layout body = reading_layout layout body 0 >>= ended body
+read_whole layout body = reading_layout layout body 0 >>= all_of_body body
 
 abbrev pub is_same : ProcId → ProcId → Bool
 is_same a b = (a.prog == b.prog) && (a.vers == b.vers) && (a.proc_no == b.proc_no)

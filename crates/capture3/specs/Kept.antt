@@ -2,12 +2,12 @@
 use Rattle.std.specs.Prelude.{◌≡◌, ℕ, ◌+◌, Option, Some, None, List, [], ◌∷◌}
 use Rattle.xdr3.specs.Item.{Item}
 use Rattle.rpc_head.specs.Messages.{procedure_in}
-use Rattle.capture3.specs.declared.entry.Entry as kept
-use Rattle.capture3.specs.declared.entry.Entry.TheVariants as variants
-use Rattle.capture3.specs.declared.entry.EntryRef.{EntryRef}
-use Rattle.capture3.specs.declared.entry.EntryRef.TheVariants as lent
-use Rattle.capture3.specs.declared.entry.Kind.{Kind}
-use Rattle.capture3.specs.declared.entry.Kind.TheVariants as kinds
+use Rattle.capture3.specs.declared.reader.entry.Entry as kept
+use Rattle.capture3.specs.declared.reader.entry.Entry.TheVariants as variants
+use Rattle.capture3.specs.declared.reader.entry.EntryRef.{EntryRef}
+use Rattle.capture3.specs.declared.reader.entry.EntryRef.TheVariants as lent
+use Rattle.capture3.specs.declared.reader.entry.Kind.{Kind}
+use Rattle.capture3.specs.declared.reader.entry.Kind.TheVariants as kinds
 use Rattle.capture3.specs.Bodies.{IsCall, IsReply}
 use Rattle.capture3.specs.Entry.{Entry, Begin, Call, Turn, Reply, Close, End}
 

@@ -9,7 +9,8 @@ use Rattle.capture3.specs.declared.fault.Place.{Place}
 use Rattle.capture3.specs.declared.fault.Place.TheVariants.{File, Record}
 use Rattle.capture3.specs.declared.fault.Side.TheVariants.{Client, Server}
 use Rattle.capture3.specs.Bodies.{ReplyItems}
-use Rattle.capture3.specs.Capture.{Streams, max_connections}
+use Rattle.capture3.specs.Capture.{Version, One, Two, magic, max_connections}
+use Rattle.capture3.specs.SidedChunks.{Streams}
 use Rattle.capture3.specs.Chunks.{max_bytes}
 use Rattle.capture3.specs.Connections.{calls_in_turn, replies_to}
 use Rattle.capture3.specs.Entry.{Entry, Begin, Call, Turn, Reply, Close, End}
@@ -39,6 +40,10 @@ HasOneVerdict file = HasEntries file ⊎ HasFault file
 -- each shorter prefix of a well-formed file is cut at its own length
 abbrev pub IsCutShort : List ℕ → Type 0
 IsCutShort file = (entries : List Entry) (front more : List ℕ) (byte : ℕ) → Typed file entries → file ≡ front ++ byte ∷ more → FirstFault front (file_fault (length front) CaptureCut)
+
+-- the two files have the same entries, or neither is well formed
+abbrev pub HaveSameEntries : List ℕ → List ℕ → Type 0
+HaveSameEntries file other = (entries : List Entry) → Typed file entries ↔ Typed other entries
 
 -- a body is accepted as one message, or refused with one fault, and not both
 pub record IsJudgedOnce {M : Type 0} (judge : Judgement M) (before : List M) (body : List ℕ) : Type 0 where
@@ -76,9 +81,19 @@ pub record AreWithinLimits (entries : List Entry) : Type 0 where
   pub few : begins entries ≤ max_connections
   pub small : spelled entries ≤ max_bytes
 
--- The longest a capture can be: the magic, 65,535 connections of a word 1 and two words 0, the last word 0, and 1,073,741,824 stream bytes in chunks of one byte.
-abbrev pub most_bytes : ℕ
-most_bytes = 5369495552
+-- The most bytes of a capture, by its version: with 65,535 connections, and with 1,073,741,824 stream bytes in chunks of one byte each. Beside its chunks a
+-- connection has three words in version 1 and two in version 2, and beside its bytes a chunk has one word in version 1 and two in version 2.
+abbrev pub most_bytes : Version → ℕ
+most_bytes One = 5369495552
+most_bytes Two = 9664200708
+
+-- the bytes are a front of the version's magic, or begin with it
+abbrev pub IsOfVersion : Version → List ℕ → Type 0
+IsOfVersion version bytes = ((more : List ℕ) × (magic version ≡ bytes ++ more)) ⊎ ((more : List ℕ) × (bytes ≡ magic version ++ more))
+
+-- bytes of a version that are no longer than a capture of it may be
+abbrev pub IsWithinVersion : List ℕ → Type 0
+IsWithinVersion bytes = (version : Version) × IsOfVersion version bytes × (length bytes ≤ most_bytes version)
 
 -- Where a fault stands, by its reason: at a byte that the file has, at its length, or in a record. A record's body has its xid at byte 0, its mtype at
 -- byte 4, and in a call its rpcvers at byte 8 (RFC 5531, section 9).
@@ -103,3 +118,7 @@ HasItsPlace file WrongSide (Record connection side number byte) = byte ≡ 4
 HasItsPlace file NoCall (Record connection side number byte) = (side ≡ Server) × (byte ≡ 0)
 HasItsPlace file XidConflict (Record connection side number byte) = (side ≡ Client) × (byte ≡ 0)
 HasItsPlace _ _ _ = ⊥
+
+-- the most entries that a capture can have, with its end
+abbrev pub most_entries : ℕ
+most_entries = 1074003965

@@ -1,14 +1,15 @@
 -- The machine for one connection, after its word 1.
-use Rattle.std.specs.Prelude.{ℕ, List, ◌∷◌, ◌++◌, map}
+use Rattle.std.specs.Prelude.{ℕ, List, [], ◌∷◌, ◌++◌, map}
 use Rattle.xdr3.specs.Item.{Item}
 use Rattle.record_mark.specs.Machine.{Next, Goes, Ends, within}
 use Rattle.capture3.specs.declared.fault.Side.TheVariants.{Client, Server}
 use Rattle.capture3.specs.Bodies.{ReplyItems}
-use Rattle.capture3.specs.Capture.{Version, One}
-use Rattle.capture3.specs.Connections.{Refusal, refusal}
+use Rattle.capture3.specs.Capture.{Version, One, Two}
+use Rattle.capture3.specs.Connections.{ShownFault, refusal, client_refusal, server_refusal}
 use Rattle.capture3.specs.Entry.{Entry, Begin, Call, Turn}
 use Rattle.capture3.specs.Judging.{judge_call, judge_reply}
-use Rattle.capture3.specs.Reading.{Judge}
+use Rattle.capture3.specs.Mixing.{Mixing, MixedEnd, MixedCloses, MixedRefuses, mixed_next, mixing_from}
+use Rattle.capture3.specs.Reading.{Judge, StreamEnd, Held, Faulty, stream_end}
 use Rattle.capture3.specs.Sides.{place_at}
 use Rattle.capture3.specs.Siding.{Siding, SideEnd, SideCloses, SideRefuses, side_next, siding_from}
 use Rattle.capture3.specs.Typed.{reply_entry, connection_entries}
@@ -20,10 +21,11 @@ judge_replies calls = λ _. judge_reply calls
 pub data Opening : Type 0 where
   InClient : Siding (List Item) → Opening
   InServer : (calls : List (List Item)) → Siding ReplyItems → Opening
+  InMixed : Mixing → Opening
 
 pub data Closing : Type 0 where
   Closes : (at total : ℕ) → (entries : List Entry) → Closing
-  Refuses : Refusal → Closing
+  Refuses : ShownFault → Closing
 
 -- the client side is whole
 abbrev pub turning : SideEnd (List Item) → Next Opening Closing
@@ -35,14 +37,32 @@ abbrev pub ending : List (List Item) → SideEnd ReplyItems → Next Opening Clo
 ending calls (SideCloses at total replies) = Ends (Closes at total (connection_entries calls replies))
 ending calls (SideRefuses fault) = Ends (Refuses (refusal fault))
 
+-- in version 2: the server stream has been judged, after these calls
+abbrev pub server_said : ℕ → ℕ → ℕ → List (List Item) → StreamEnd ReplyItems → Next Opening Closing
+server_said number at total calls (Held replies) = Ends (Closes at total (connection_entries calls replies))
+server_said number at total calls (Faulty replies fault) = Ends (Refuses (server_refusal number calls replies fault))
+
+-- the client stream has been judged
+abbrev pub client_said : ℕ → ℕ → ℕ → List ℕ → StreamEnd (List Item) → Next Opening Closing
+client_said number at total server (Held calls) = server_said number at total calls (stream_end (judge_replies calls) server)
+client_said number at total server (Faulty calls fault) = Ends (Refuses (client_refusal number calls fault))
+
+-- the side word 0 has come, or a fault of the chunks
+abbrev pub conversing : ℕ → MixedEnd → Next Opening Closing
+conversing number (MixedCloses at total streams) = client_said number at total streams.server (stream_end judge_call streams.client)
+conversing number (MixedRefuses fault) = Ends (Refuses (refusal fault))
+
 abbrev pub opening_next : ℕ → Opening → ℕ → Next Opening Closing
 opening_next number (InClient s) byte = within InClient turning (side_next judge_call (place_at number Client) s byte)
 opening_next number (InServer calls s) byte = within (InServer calls) (ending calls) (side_next (judge_replies calls) (place_at number Server) s byte)
+opening_next number (InMixed s) byte = within InMixed (conversing number) (mixed_next s byte)
 
 abbrev pub opened : Version → ℕ → ℕ → Opening
 opened One start before = InClient (siding_from start before)
+opened Two start before = InMixed (mixing_from start before)
 
 -- the entries of a connection that are whole
 abbrev pub opening_entries : Opening → List Entry
 opening_entries (InClient s) = Begin ∷ map Call s.reading.messages
 opening_entries (InServer calls s) = (Begin ∷ map Call calls) ++ (Turn ∷ map reply_entry s.reading.messages)
+opening_entries (InMixed s) = Begin ∷ []

@@ -5,8 +5,8 @@ use Rattle.xdr3.specs.declared.reason.Reason.TheVariants.{BadMagic, CaptureCut, 
 use Rattle.record_mark.specs.Machine.{Next, Goes, Ends, Run, Runs, Stops, Stopped, after, within, last_running}
 use Rattle.record_mark.specs.Word.{word_next}
 use Rattle.capture3.specs.declared.fault.Fault.{Fault}
-use Rattle.capture3.specs.Capture.{Version, One, digit, magic_front, max_connections}
-use Rattle.capture3.specs.Connections.{Refusal, refusal}
+use Rattle.capture3.specs.Capture.{Version, One, Two, digit, magic_front, max_connections}
+use Rattle.capture3.specs.Connections.{ShownFault, refusal}
 use Rattle.capture3.specs.Entry.{Entry, End}
 use Rattle.capture3.specs.Opening.{Opening, Closing, Closes, Refuses, opening_next, opened, opening_entries}
 use Rattle.capture3.specs.Sides.{file_fault}
@@ -34,7 +34,7 @@ magic_left [] = Digit
 magic_left (due ∷ more) = Magic due more
 
 -- a connection word has come
-abbrev pub marked : Version → ℕ → ℕ → ℕ → List Entry → ℕ → Next Parsing Refusal
+abbrev pub marked : Version → ℕ → ℕ → ℕ → List Entry → ℕ → Next Parsing ShownFault
 marked version at total number entries zero = Goes (record { version = version; at = at + 4; total = total; number = number; entries = entries; spot = Ended })
 marked version at total number entries (suc zero) =
     cond (nat_lt number max_connections) (Goes (record { version = version; at = at + 4; total = total; number = suc number; entries = entries; spot = Inside (opened version (at + 4) total) }))
@@ -42,29 +42,30 @@ marked version at total number entries (suc zero) =
 marked version at total number entries (suc (suc other)) = Ends (refusal (file_fault at BadMark))
 
 -- a connection has ended
-abbrev pub closed : Version → ℕ → List Entry → Closing → Next Parsing Refusal
+abbrev pub closed : Version → ℕ → List Entry → Closing → Next Parsing ShownFault
 closed version number entries (Closes at total more) = Goes (record { version = version; at = at; total = total; number = number; entries = entries ++ more; spot = Mark [] })
 closed version number entries (Refuses shown) = Ends shown
 
-abbrev pub spot_step : Version → ℕ → ℕ → ℕ → List Entry → Spot → ℕ → Next Parsing Refusal
+abbrev pub spot_step : Version → ℕ → ℕ → ℕ → List Entry → Spot → ℕ → Next Parsing ShownFault
 spot_step version at total number entries (Magic due more) byte =
     cond (nat_eq byte due) (Goes (record { version = version; at = at + 1; total = total; number = number; entries = entries; spot = magic_left more })) (Ends (refusal (file_fault at BadMagic)))
 spot_step version at total number entries Digit byte =
-    cond (nat_eq byte (digit One)) (Goes (record { version = One; at = at + 1; total = total; number = number; entries = entries; spot = Mark [] })) (Ends (refusal (file_fault at BadMagic)))
+    cond (nat_eq byte (digit One)) (Goes (record { version = One; at = at + 1; total = total; number = number; entries = entries; spot = Mark [] }))
+    (cond (nat_eq byte (digit Two)) (Goes (record { version = Two; at = at + 1; total = total; number = number; entries = entries; spot = Mark [] })) (Ends (refusal (file_fault at BadMagic))))
 spot_step version at total number entries (Mark part) byte =
     within (λ p. record { version = version; at = at; total = total; number = number; entries = entries; spot = Mark p }) (marked version at total number entries) (word_next part byte)
 spot_step version at total number entries (Inside o) byte =
     within (λ p. record { version = version; at = at; total = total; number = number; entries = entries; spot = Inside p }) (closed version number entries) (opening_next number o byte)
 spot_step version at total number entries Ended byte = Ends (refusal (file_fault at AfterEnd))
 
-abbrev pub file_next : Parsing → ℕ → Next Parsing Refusal
+abbrev pub file_next : Parsing → ℕ → Next Parsing ShownFault
 file_next s byte = spot_step s.version s.at s.total s.number s.entries s.spot byte
 
 abbrev pub file_start : Parsing
 file_start = record { version = One; at = 0; total = 0; number = 0; entries = []; spot = magic_left magic_front }
 
 -- the machine after these bytes
-abbrev pub parsed : List ℕ → Run Parsing Refusal
+abbrev pub parsed : List ℕ → Run Parsing ShownFault
 parsed bytes = after file_next (Runs file_start) bytes
 
 -- the entries that are whole, without the capture's end
@@ -86,7 +87,7 @@ concluded size entries (Mark part) = Err (file_fault size CaptureCut)
 concluded size entries (Inside o) = Err (file_fault size CaptureCut)
 concluded size entries Ended = Ok (entries ++ End ∷ [])
 
-abbrev pub verdict_of : ℕ → Run Parsing Refusal → Result (List Entry) Fault
+abbrev pub verdict_of : ℕ → Run Parsing ShownFault → Result (List Entry) Fault
 verdict_of size (Runs s) = concluded size s.entries s.spot
 verdict_of size (Stops shown) = Err shown.fault
 verdict_of size (Stopped shown) = Err shown.fault
@@ -96,7 +97,7 @@ abbrev pub verdict : List ℕ → Result (List Entry) Fault
 verdict file = verdict_of (length file) (parsed file)
 
 -- the entries that the byte of the fault still reaches
-abbrev pub last_entries : Run Parsing Refusal → List Entry
+abbrev pub last_entries : Run Parsing ShownFault → List Entry
 last_entries (Runs s) = []
 last_entries (Stops shown) = shown.more
 last_entries (Stopped shown) = shown.more

@@ -3,9 +3,10 @@ use Rattle.std.specs.Prelude.{◌≡◌, ◌⊎◌, ℕ, ◌+◌, ◌<◌, ◌�
 use Rattle.record_mark.specs.Word.{IsWord, Joins}
 use Rattle.xdr3.specs.Item.{Item}
 use Rattle.capture3.specs.Bodies.{ReplyItems}
-use Rattle.capture3.specs.Capture.{Version, One, magic, max_connections, Streams, total_size, IsConnection}
+use Rattle.capture3.specs.Capture.{Version, One, Two, magic, max_connections, total_size, IsConnection}
+use Rattle.capture3.specs.SidedChunks.{Streams, BeginsMixed}
 use Rattle.capture3.specs.Chunks.{max_bytes, IsStream, BeginsStream}
-use Rattle.capture3.specs.Connections.{Refusal, calls_in_turn, replies_to}
+use Rattle.capture3.specs.Connections.{ShownFault, calls_in_turn, replies_to}
 use Rattle.capture3.specs.Entry.{Entry, Begin, Call, Turn}
 use Rattle.capture3.specs.FirstFault.{Shows, IsClean}
 use Rattle.capture3.specs.Records.{Holds, HoldsSoFar}
@@ -44,9 +45,10 @@ pub record ReachesReplies (before : ℕ) (bytes : List ℕ) (entries : List Entr
   pub answers : HoldsSoFar (replies_to calls) server replies
   pub entries_are : entries ≡ (Begin ∷ map Call calls) ++ (Turn ∷ map reply_entry replies)
 
--- what is whole of a connection that is not, after its word 1
+-- What is whole of a connection that is not, after its word 1: in version 2 its begin alone, since its messages are whole with the side word 0.
 abbrev pub ReachesInside : Version → ℕ → List ℕ → List Entry → Type 0
 ReachesInside One before bytes entries = ReachesCalls before bytes entries ⊎ ReachesReplies before bytes entries
+ReachesInside Two before bytes entries = BeginsMixed before bytes × (entries ≡ Begin ∷ [])
 
 -- what is whole in bytes that show no fault
 pub data AreWhole (bytes : List ℕ) (entries : List Entry) : Type 0 where
@@ -58,15 +60,20 @@ pub data AreWhole (bytes : List ℕ) (entries : List Entry) : Type 0 where
   InConnection : (version : Version) (front mark rest : List ℕ) (connections : List Streams) (before more : List Entry) → bytes ≡ front ++ mark ++ rest → Opens version front connections before → IsWord mark 1 → length connections < max_connections
       → ReachesInside version (total_size connections) rest more → entries ≡ before ++ more → AreWhole bytes entries
 
--- the longest clean prefix of the bytes, and the entries that the byte after it still reaches, whose fault it shows
+-- The longest clean prefix of the bytes. Where a byte comes after it, that byte shows a fault, and still reaches these entries.
 pub record IsLongestClean (bytes front : List ℕ) (more : List Entry) : Type 0 where
   pub rest : List ℕ
   pub split : bytes ≡ front ++ rest
   pub clean : IsClean front
-  pub longest : ((rest ≡ []) × (more ≡ [])) ⊎ ((byte : ℕ) × (back : List ℕ) × (shown : Refusal) × (rest ≡ byte ∷ back) × Shows (front ++ byte ∷ []) shown × (more ≡ shown.more))
+  pub longest : ((rest ≡ []) × (more ≡ [])) ⊎ ((byte : ℕ) × (back : List ℕ) × (shown : ShownFault) × (rest ≡ byte ∷ back) × Shows (front ++ byte ∷ []) shown × (more ≡ shown.more))
 
--- The entries that are whole in the longest clean prefix. The capture's end is one of them only where the bytes are well formed.
+-- The entries that are whole in the longest clean prefix, and those that the byte after it still reaches: in version 2, where the side word 0 shows a record's fault,
+-- the connection's entries before that record. The capture's end is one of them only where the bytes are well formed.
 abbrev pub Reached : List ℕ → List Entry → Type 0
 Reached bytes entries =
     Typed bytes entries
     ⊎ ((IsWellFormed bytes → ⊥) × (front : List ℕ) × (whole : List Entry) × (more : List Entry) × IsLongestClean bytes front more × AreWhole front whole × (entries ≡ whole ++ more))
+
+-- some of the entries that the bytes reach, from the first on, or all
+abbrev pub AreFirstReached : List ℕ → List Entry → Type 0
+AreFirstReached bytes entries = (more : List Entry) × Reached bytes (entries ++ more)

@@ -1,9 +1,9 @@
 -- The machine that reads a stream: the messages so far, and the record that it is in.
-use Rattle.std.specs.Prelude.{ℕ, List, [], ◌∷◌, ◌++◌, Result, Ok, Err}
-use Rattle.xdr3.specs.declared.reason.Reason.TheVariants.{RecordTooLong}
+use Rattle.std.specs.Prelude.{ℕ, List, [], ◌∷◌, ◌++◌, length, Result, Ok, Err}
+use Rattle.xdr3.specs.declared.reason.Reason.TheVariants.{RecordCut, RecordTooLong}
 use Rattle.xdr3.specs.declared.reason.Stop.{Stop}
-use Rattle.record_mark.specs.Machine.{Next, Goes, Ends, within}
-use Rattle.record_mark.specs.Joining.{Joining, Between, Joined, Whole, TooLong, join_next}
+use Rattle.record_mark.specs.Machine.{Next, Goes, Ends, Run, Runs, Stops, Stopped, after, last_running, within}
+use Rattle.record_mark.specs.Joining.{Joining, Between, Header, Bytes, Joined, Whole, TooLong, join_next}
 use Rattle.capture3.specs.Records.{RecordFault, fault_at}
 
 -- from the messages before and a body, the message, or where and why it is refused
@@ -27,3 +27,27 @@ stream_next judge s byte = within (λ j. record { messages = s.messages; joining
 
 abbrev pub unread : {M : Type 0} → Reading M
 unread = record { messages = []; joining = Between }
+
+-- its messages, or the messages before its first fault
+pub data StreamEnd (M : Type 0) : Type 0 where
+  Held : (messages : List M) → StreamEnd M
+  Faulty : (messages : List M) → RecordFault → StreamEnd M
+
+-- the stream ends here
+abbrev pub left_in : {M : Type 0} → List M → Joining → StreamEnd M
+left_in messages Between = Held messages
+left_in messages (Header body part) = Faulty messages (fault_at messages (length body) RecordCut)
+left_in messages (Bytes body last left) = Faulty messages (fault_at messages (length body) RecordCut)
+
+abbrev pub end_of : {M : Type 0} → List M → Run (Reading M) RecordFault → StreamEnd M
+end_of messages (Runs s) = left_in s.messages s.joining
+end_of messages (Stops fault) = Faulty messages fault
+end_of messages (Stopped fault) = Faulty messages fault
+
+-- what it says at a stream's end, from where it stands before the rest of the stream
+abbrev pub rest_end : {M : Type 0} → Judge M → Reading M → List ℕ → StreamEnd M
+rest_end judge s rest = end_of (last_running (stream_next judge) s rest).messages (after (stream_next judge) (Runs s) rest)
+
+-- what it says of a whole stream
+abbrev pub stream_end : {M : Type 0} → Judge M → List ℕ → StreamEnd M
+stream_end judge stream = rest_end judge unread stream

@@ -76,3 +76,15 @@ pub record IsCut (stream : List ℕ) (fault : RecordFault) : Type 0 where
   pub marks : Marks front bodies
   pub is_open : IsOpen last body
   pub is : fault ≡ record { number = suc (length bodies); byte = length body; reason = RecordCut }
+
+-- the first fault of a whole stream, after the messages of the records before it
+pub data FirstRecordFault {M : Type 0} (judge : Judgement M) (stream : List ℕ) (messages : List M) (fault : RecordFault) : Type 0 where
+  -- the next record is refused
+  RefusesNext : (front last rest body : List ℕ) (stop : Stop) → stream ≡ front ++ last ++ rest → Holds judge front messages → IsRecord last body → judge.refuses messages body stop
+      → fault ≡ fault_at messages stop.at stop.reason → FirstRecordFault judge stream messages fault
+  -- its body passes the limit
+  NextIsTooLong : (front last rest : List ℕ) (at : ℕ) → stream ≡ front ++ last ++ rest → Holds judge front messages → IsTooLong last at
+      → fault ≡ fault_at messages at RecordTooLong → FirstRecordFault judge stream messages fault
+  -- it is open where the stream ends: RecordCut, after as many bytes of its body as have come
+  NextIsCut : (front last body : List ℕ) → stream ≡ front ++ last → Holds judge front messages → IsOpen last body
+      → fault ≡ fault_at messages (length body) RecordCut → FirstRecordFault judge stream messages fault

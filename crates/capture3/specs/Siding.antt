@@ -8,7 +8,7 @@ use Rattle.capture3.specs.declared.fault.Fault.{Fault}
 use Rattle.capture3.specs.Chunks.{max_bytes}
 use Rattle.capture3.specs.Records.{RecordFault, fault_at}
 use Rattle.capture3.specs.Reading.{Judge, Reading, stream_next, unread}
-use Rattle.capture3.specs.Sides.{Position, file_fault}
+use Rattle.capture3.specs.Sides.{file_fault}
 
 -- in a length word, or in a chunk's bytes, with how many are left after the next
 pub data Point : Type 0 where
@@ -55,6 +55,3 @@ side_next judge place s byte = side_step judge place s.at s.total s.reading s.po
 
 abbrev pub siding_from : {M : Type 0} → ℕ → ℕ → Siding M
 siding_from start before = record { at = start; total = before; reading = unread; point = Length [] }
-
-abbrev pub side_start : {M : Type 0} → Position → Siding M
-side_start position = siding_from position.start position.before

@@ -4,7 +4,8 @@ use Rattle.xdr3.specs.Item.{Item}
 use Rattle.record_mark.specs.RecordMark.{Marks}
 use Rattle.rpc_head.specs.Messages.{procedure_in}
 use Rattle.capture3.specs.Bodies.{ReplyItems, IsCall, IsReply, xid_in}
-use Rattle.capture3.specs.Capture.{Version, Streams, IsCapture}
+use Rattle.capture3.specs.Capture.{Version, IsCapture}
+use Rattle.capture3.specs.SidedChunks.{Streams}
 use Rattle.capture3.specs.Entry.{Entry, Begin, Call, Turn, Reply, Close, End}
 
 -- each body is one of the things, in order

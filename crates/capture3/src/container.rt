@@ -1,35 +1,58 @@
 // The container: connections of two streams, each cut into chunks, whose records are joined.
 
-ghost use Rattle.std.specs.Prelude.{◌≡◌, ◌≢◌, ◌≤◌, ◌<◌, ◌+◌, length, take, IfOk, IfErr, OnOk, None};
-ghost use Rattle.capture3.specs.Container.{Arrives, Fails, Leaves, unpacking_of};
-ghost use Rattle.capture3.specs.Position.{cost_of, IsOpenBody, IsSound, most_things, room_of, TakesSome};
-ghost use Rattle.capture3.specs.Unpacking.{unpacking_start};
-ghost use Rattle.record_mark.specs.RecordMark.{max_body};
-ghost use Rattle.record_mark.specs.Taking.{IsRunning, IsWhole, body_of, joining_of, released};
+pub(crate) mod kept_streams;
+pub(crate) mod packing;
+pub(crate) mod position;
+pub(crate) mod side_words;
+pub(crate) mod word_part;
 
+ghost use Rattle.std.specs.Prelude.{◌≡◌, ◌≢◌, ◌≤◌, ◌<◌, ◌+◌, length, take, IfOk, IfErr, OnOk, None, Some};
+ghost use Rattle.capture3.specs.machinery.Container.{AreStored, Arrives, Comes, ComesToFault, ShowsError, first_cursor, IsCutInRecord, IsReady, IsStored, Leaves, RecallFails, Recalled, room_in, unpacking_in};
+ghost use Rattle.record_mark.specs.Joining.{Between};
+ghost use Rattle.capture3.specs.machinery.Position.{AreEmpty, cost_of, IsOpenBody, IsSoundPosition, KeepsStreams, most_things, room_of, StoredWith, TakesRoom, TakesSome};
+ghost use Rattle.capture3.specs.machinery.Unpacking.{unpacking_start};
+ghost use Rattle.record_mark.specs.RecordMark.{max_body};
+ghost use Rattle.record_mark.specs.Taking.{IsRunning, IsWhole, body_of, joining_of, released, unbegun};
+
+use crate::container::kept_streams::Streams;
+use crate::container::position::{Event, Position, Spot, Taken, file_fault};
 use crate::fault::{Error, Place, Side};
-use crate::position::{Event, Position, Spot, Taken, file_fault};
 use record_mark::{JoinError, Joiner, Step};
 use std::alloc::Global;
 use xdr3::Reason;
+
+/// Where the judging stands in kept streams: at which side's, and how many of its bytes were taken.
+#[derive(Clone, Copy)]
+pub(crate) struct Cursor {
+    side: Side,
+    taken: usize,
+}
 
 /// Takes a capture apart, from pieces cut anywhere.
 #[derive(Drop)]
 pub(crate) struct Container {
     pub(crate) position: Position,
     pub(crate) joiner: Joiner,
+    /// Empty but in a connection of version 2.
+    pub(crate) streams: Streams,
+    /// Where the records of kept streams are judged. The position is already after their side word 0.
+    pub(crate) cursor: Option<Cursor>,
 }
 
 impl Container {
     pub(crate) fn new(alloc: Global) -> Container
-        ensures sound { IsSound result.position }
+        ensures sound { IsSoundPosition result.position }
         ensures running { IsRunning result.joiner }
-        ensures room { room_of result.position ≡ most_things }
-        ensures machine { unpacking_of result.position result.joiner ≡ unpacking_start }
+        ensures empty { AreEmpty result.streams }
+        ensures unopened { result.cursor ≡ None }
+        ensures room { room_of result.position result.streams ≡ most_things }
+        ensures machine { unpacking_in result ≡ unpacking_start }
     {
         Container {
             position: Position::start(),
             joiner: Joiner::new(alloc),
+            streams: Streams::new(alloc),
+            cursor: None,
         }
     }
 
@@ -46,6 +69,8 @@ impl Container {
     pub(crate) fn release(&mut self)
         ensures joiner { self.new.joiner ≡ released self.old.joiner }
         ensures position { self.new.position ≡ self.old.position }
+        ensures streams { self.new.streams ≡ self.old.streams }
+        ensures cursor { self.new.cursor ≡ self.old.cursor }
     {
         self.joiner.release();
     }
@@ -62,22 +87,86 @@ impl Container {
         self.position.record_fault(side, byte, reason)
     }
 
+    /// What is whole next: a thing of kept streams, for which no byte is taken, or what bytes of `piece`
+    /// make whole. It says how many were taken: all of them where nothing is whole.
+    #[inline(always)]
+    pub(crate) fn next(&mut self, piece: &[u8]) -> Result<(usize, Option<Event>), Error>
+        requires sound { IsSoundPosition self.old.position }
+        requires stored { IsStored self.old }
+        requires ready { IsReady self.old.cursor self.old.joiner }
+        ensures within { IfOk result (λ r. r.0 ≤ length piece.now) }
+        ensures some { IfOk result (λ r. 0 < length piece.now → r.1 ≡ None → 0 < r.0) }
+        ensures more { IfOk result (λ r. r.1 ≡ None → r.0 ≡ length piece.now) }
+        ensures recalling { self.old.cursor ≢ None → IfOk result
+            (λ r. (r.0 ≡ 0) × (r.1 ≢ None)) }
+        ensures opened { IfOk result (λ r. r.1 ≢ Some Event.Streams) }
+        ensures comes { IfOk result (λ r. Comes self.old self.new (take r.0 piece.now) r.1) }
+        ensures joiner { IfOk result (λ r. Leaves r.1 self.new.joiner) }
+        ensures fault { IfErr result (ComesToFault self.old piece.now) }
+        ensures sound { OnOk result (IsSoundPosition self.new.position) }
+        ensures stored { OnOk result (IsStored self.new) }
+        ensures ready { OnOk result (IsReady self.new.cursor (released self.new.joiner)) }
+        ensures room { IfOk result
+            (λ r. room_in self.new + cost_of r.1 self.new.streams ≤ room_in self.old) }
+    {
+        match self.cursor {
+            Some(cursor) => match self.recall(cursor) {
+                Ok(event) => Ok((0, Some(event))),
+                Err(error) => Err(error),
+            },
+            None => match self.advance(piece) {
+                Ok((count, Some(Event::Streams))) => match self.first_recalled() {
+                    Ok(event) => Ok((count, Some(event))),
+                    Err(error) => Err(error),
+                },
+                Ok((count, event)) => Ok((count, event)),
+                Err(error) => Err(error),
+            },
+        }
+    }
+
+    /// What is whole first in the streams, which are whole.
+    #[inline(never)]
+    fn first_recalled(&mut self) -> Result<Event, Error>
+        requires sound { IsSoundPosition self.old.position }
+        requires stored { StoredWith (Some Event.Streams) self.old.position self.old.streams }
+        ensures recalled { IfOk result
+            (Recalled (first_cursor) self.old.position self.new.position self.old.streams
+            self.new.streams self.new.joiner self.new.cursor) }
+        ensures joiner { IfOk result (λ event. Leaves (Some event) self.new.joiner) }
+        ensures fault { IfErr result
+            (RecallFails first_cursor self.old.position self.old.streams) }
+        ensures sound { OnOk result (IsSoundPosition self.new.position) }
+        ensures stored { OnOk result (IsStored self.new) }
+        ensures ready { OnOk result (IsReady self.new.cursor (released self.new.joiner)) }
+        ensures room { OnOk result (room_in self.new + 1
+            ≤ room_of self.old.position self.old.streams
+            + cost_of (Some Event.Streams) self.old.streams) }
+    {
+        let cursor = self.open_streams();
+        self.recall(cursor)
+    }
+
     /// Takes bytes of `piece` until something is whole or the piece is used up, and says how many.
-    pub(crate) fn advance(&mut self, piece: &[u8]) -> Result<(usize, Option<Event>), Error>
-        requires sound { IsSound self.old.position }
+    #[inline(never)]
+    fn advance(&mut self, piece: &[u8]) -> Result<(usize, Option<Event>), Error>
+        requires sound { IsSoundPosition self.old.position }
+        requires stored { AreStored self.old.position None self.old.streams }
         requires running { IsRunning self.old.joiner }
         ensures within { IfOk result (λ r. r.0 ≤ length piece.now) }
-        ensures sound { OnOk result (IsSound self.new.position) }
+        ensures sound { OnOk result (IsSoundPosition self.new.position) }
         ensures some { IfOk result (λ r. 0 < length piece.now → 0 < r.0) }
         ensures more { IfOk result (λ r. r.1 ≡ None → r.0 ≡ length piece.now) }
         ensures joiner { IfOk result (λ r. Leaves r.1 self.new.joiner) }
         ensures machine { IfOk result
-            (λ r. Arrives (unpacking_of self.old.position self.old.joiner)
-            (take r.0 piece.now) r.1 self.new.position self.new.joiner) }
-        ensures fault { IfErr result (Fails
-            (unpacking_of self.old.position self.old.joiner) piece.now) }
-        ensures room { IfOk result (λ r. room_of self.new.position + cost_of r.1
-            ≤ room_of self.old.position) }
+            (λ r. Arrives (unpacking_in self.old) (take r.0 piece.now) r.1 self.new.position
+            self.new.joiner self.new.streams) }
+        ensures fault { IfErr result (ShowsError (unpacking_in self.old) piece.now) }
+        ensures room { IfOk result
+            (λ r. room_of self.new.position self.new.streams + cost_of r.1 self.new.streams
+            ≤ room_of self.old.position self.old.streams) }
+        ensures stored { IfOk result (λ r. StoredWith r.1 self.new.position self.new.streams) }
+        ensures cursor { self.new.cursor ≡ self.old.cursor }
     {
         let mut taken = 0;
         while taken < piece.len() {
@@ -108,29 +197,168 @@ impl Container {
         }
     }
 
-    /// Takes the bytes of `rest` that belong to the part of the capture that is open. The position stays.
+    /// Takes the bytes of `rest` that belong to the part of the capture that is open. The position
+    /// stays.
     fn step(&mut self, rest: &[u8]) -> Result<Taken, Error>
         requires some { 0 < length rest.now }
-        requires sound { IsSound self.old.position }
+        requires sound { IsSoundPosition self.old.position }
+        requires stored { AreStored self.old.position None self.old.streams }
         requires running { IsRunning self.old.joiner }
         ensures taken { IfOk result (TakesSome self.old.position rest.now) }
         ensures joiner { IfOk result (λ taken. Leaves taken.event self.new.joiner) }
         ensures machine { IfOk result
-            (λ taken. Arrives (unpacking_of self.old.position self.old.joiner)
-            (take taken.count rest.now) taken.event taken.position self.new.joiner) }
-        ensures fault { IfErr result (Fails
-            (unpacking_of self.old.position self.old.joiner) rest.now) }
+            (λ taken. Arrives (unpacking_in self.old) (take taken.count rest.now) taken.event
+            taken.position self.new.joiner self.new.streams) }
+        ensures fault { IfErr result (ShowsError (unpacking_in self.old) rest.now) }
+        ensures room { IfOk result
+            (λ taken. room_of taken.position self.new.streams
+            + cost_of taken.event self.new.streams
+            ≤ room_of self.old.position self.old.streams) }
+        ensures stored { IfOk result
+            (λ taken. StoredWith taken.event taken.position self.new.streams) }
+        ensures cursor { self.new.cursor ≡ self.old.cursor }
         ensures position { self.new.position ≡ self.old.position }
     {
         match self.position.spot {
             Spot::Magic => self.position.take_magic(rest),
+            Spot::Digit => self.position.take_digit(rest),
             Spot::Mark(part) => self.position.take_mark(part, rest),
             Spot::Length(side, part) => {
                 self.position
                     .take_length(side, part, self.open_body(), rest)
             }
             Spot::Chunk(side, left) => self.join(side, left, rest),
+            Spot::Side(part) => self.position.take_side(part, rest),
+            Spot::SideLength(side, part) => self.position.take_side_length(side, part, rest),
+            Spot::SideChunk(side, left) => self.gather(side, left, rest),
             Spot::Ended => Err(file_fault(self.position.at, Reason::AfterEnd)),
+        }
+    }
+
+    /// Version 2: keeps bytes of a chunk. The position stays.
+    #[inline(never)]
+    fn gather(&mut self, side: Side, left: u32, rest: &[u8]) -> Result<Taken, Error>
+        requires some { 0 < length rest.now }
+        requires sound { IsSoundPosition self.old.position }
+        requires stored { AreStored self.old.position None self.old.streams }
+        requires running { IsRunning self.old.joiner }
+        requires here { self.old.position.spot ≡ Spot.SideChunk side left }
+        ensures taken { IfOk result (TakesSome self.old.position rest.now) }
+        ensures event { IfOk result (λ taken. taken.event ≡ None) }
+        ensures machine { IfOk result
+            (λ taken. Arrives (unpacking_in self.old) (take taken.count rest.now) None
+            taken.position self.new.joiner self.new.streams) }
+        ensures error { IfErr result (λ error. error ≡ Error.Memory) }
+        ensures room { IfOk result
+            (λ taken. room_of taken.position self.new.streams
+            ≤ room_of self.old.position self.old.streams) }
+        ensures stored { IfOk result
+            (λ taken. AreStored taken.position None self.new.streams) }
+        ensures joiner { self.new.joiner ≡ self.old.joiner }
+        ensures position { self.new.position ≡ self.old.position }
+        ensures cursor { self.new.cursor ≡ self.old.cursor }
+    {
+        let count = rest.len().min(left as usize);
+        self.streams.add(side, &rest[..count])?;
+        Ok(self.position.take_side_chunk(side, left, count as u32))
+    }
+
+    /// Starts judging the streams, which are whole: from the client's first byte.
+    fn open_streams(&mut self) -> Cursor
+        ensures result { result ≡ first_cursor }
+        ensures cursor { self.new.cursor ≡ Some result }
+        ensures position { self.new.position ≡ self.old.position }
+        ensures joiner { self.new.joiner ≡ unbegun }
+        ensures streams { self.new.streams ≡ self.old.streams }
+    {
+        // No record is begun among chunks that are kept. To clear the joiner spares the clauses that
+        // would carry this to here.
+        self.joiner.clear();
+        let cursor = Cursor {
+            side: Side::Client,
+            taken: 0,
+        };
+        self.cursor = Some(cursor);
+        cursor
+    }
+
+    /// What is whole next in the streams after the cursor: a record, or a stream's end. With the
+    /// server's the streams are let go.
+    #[inline(never)]
+    fn recall(&mut self, cursor: Cursor) -> Result<Event, Error>
+        requires sound { IsSoundPosition self.old.position }
+        requires here { self.old.cursor ≡ Some cursor }
+        requires stored { IsStored self.old }
+        requires unbegun { self.old.joiner ≡ unbegun }
+        ensures recalled { IfOk result
+            (Recalled cursor self.old.position self.new.position self.old.streams self.new.streams
+            self.new.joiner self.new.cursor) }
+        ensures joiner { IfOk result (λ event. Leaves (Some event) self.new.joiner) }
+        ensures fault { IfErr result (RecallFails cursor self.old.position self.old.streams) }
+        ensures sound { OnOk result (IsSoundPosition self.new.position) }
+        ensures stored { OnOk result (IsStored self.new) }
+        ensures ready { OnOk result (IsReady self.new.cursor (released self.new.joiner)) }
+        ensures room { OnOk result (room_in self.new + 1 ≤ room_in self.old) }
+    {
+        let side = cursor.side;
+        let rest = &self.streams.of_side(side)[cursor.taken..];
+        match self.joiner.push(rest) {
+            Ok((count, Step::Record)) => {
+                self.position = self.position.with_records(self.position.records + 1);
+                self.cursor = Some(Cursor {
+                    side,
+                    taken: cursor.taken + count,
+                });
+                Ok(Event::Record(side))
+            }
+            Ok((_, Step::More)) => self.recall_end(side),
+            Err(JoinError::TooLong { at }) => {
+                Err(
+                    self.position
+                        .next_record_fault(side, at, Reason::RecordTooLong),
+                )
+            }
+            Err(JoinError::Memory) => Err(Error::Memory),
+        }
+    }
+
+    /// The end of this side's stream, which is cut where a record is open.
+    fn recall_end(&mut self, side: Side) -> Result<Event, Error>
+        requires sound { IsSoundPosition self.old.position }
+        requires running { IsRunning self.old.joiner }
+        ensures between { OnOk result (joining_of self.old.joiner ≡ Between) }
+        ensures joiner { self.new.joiner ≡ self.old.joiner }
+        ensures client { side ≡ Side.Client → IfOk result
+            (λ event. (event ≡ Event.Turn)
+            × (self.new.position ≡ record self.old.position { records = 0 })
+            × (self.new.cursor ≡ Some (record { side = Side.Server; taken = 0 }))
+            × (self.new.streams ≡ self.old.streams)) }
+        ensures server { side ≡ Side.Server → IfOk result
+            (λ event. (event ≡ Event.Close) × (self.new.position ≡ self.old.position)
+            × (self.new.cursor ≡ None) × AreEmpty self.new.streams) }
+        ensures cut { IfErr result
+            (IsCutInRecord self.old.position side (joining_of self.old.joiner)) }
+    {
+        if let Some(byte) = self.open_body() {
+            return Err(
+                self.position
+                    .next_record_fault(side, byte, Reason::RecordCut),
+            );
+        }
+        match side {
+            Side::Client => {
+                self.position = self.position.with_records(0);
+                self.cursor = Some(Cursor {
+                    side: Side::Server,
+                    taken: 0,
+                });
+                Ok(Event::Turn)
+            }
+            Side::Server => {
+                self.cursor = None;
+                self.streams.clear();
+                Ok(Event::Close)
+            }
         }
     }
 
@@ -149,16 +377,19 @@ impl Container {
     /// Takes bytes of a chunk. The position stays.
     fn join(&mut self, side: Side, left: u32, rest: &[u8]) -> Result<Taken, Error>
         requires some { 0 < length rest.now }
-        requires sound { IsSound self.old.position }
+        requires sound { IsSoundPosition self.old.position }
         requires running { IsRunning self.old.joiner }
         requires here { self.old.position.spot ≡ Spot.Chunk side left }
         ensures taken { IfOk result (TakesSome self.old.position rest.now) }
         ensures joiner { IfOk result (λ taken. Leaves taken.event self.new.joiner) }
         ensures machine { IfOk result
-            (λ taken. Arrives (unpacking_of self.old.position self.old.joiner)
-            (take taken.count rest.now) taken.event taken.position self.new.joiner) }
-        ensures fault { IfErr result (Fails
-            (unpacking_of self.old.position self.old.joiner) rest.now) }
+            (λ taken. Arrives (unpacking_in self.old) (take taken.count rest.now) taken.event
+            taken.position self.new.joiner self.new.streams) }
+        ensures fault { IfErr result (ShowsError (unpacking_in self.old) rest.now) }
+        ensures room { IfOk result (TakesRoom self.old.position) }
+        ensures stored { IfOk result (KeepsStreams self.old.position) }
+        ensures streams { self.new.streams ≡ self.old.streams }
+        ensures cursor { self.new.cursor ≡ self.old.cursor }
         ensures position { self.new.position ≡ self.old.position }
     {
         let position = self.position;

@@ -1,5 +1,8 @@
 // What a device's call that failed answers.
 
+pub(crate) mod plan;
+pub(crate) mod source;
+
 /// A device's read, write or flush failed.
 #[derive(Clone, Copy, Debug, PartialEq, Eq)]
 pub struct DeviceFailed;

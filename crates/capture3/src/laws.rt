@@ -5,20 +5,22 @@ ghost use Rattle.xdr3.specs.Item.{AreBytes, Item};
 ghost use Rattle.record_mark.specs.Machine.{after};
 ghost use Rattle.capture3.specs.declared.fault.Fault.{Fault};
 ghost use Rattle.capture3.specs.Bodies.{ReplyItems};
-ghost use Rattle.capture3.specs.Capture.{Streams};
+ghost use Rattle.capture3.specs.Capture.{IsCapture, Version};
+ghost use Rattle.capture3.specs.SidedChunks.{Streams};
 ghost use Rattle.capture3.specs.Connections.{calls_in_turn, replies_to};
 ghost use Rattle.capture3.specs.Entry.{Entry};
 ghost use Rattle.capture3.specs.FirstFault.{FirstFault, IsClean};
-ghost use Rattle.capture3.specs.Laws.{AreWithinLimits, HasItsPlace, HasOneVerdict, IsCutShort, IsJudgedInTurn, IsJudgedOnce, most_bytes};
+ghost use Rattle.capture3.specs.Laws.{AreWithinLimits, HasItsPlace, HasOneVerdict, HaveSameEntries, IsCutShort, IsJudgedInTurn, IsJudgedOnce, IsWithinVersion, most_bytes};
 ghost use Rattle.capture3.specs.Parsing.{file_next, parsed, reached, verdict};
 ghost use Rattle.capture3.specs.Reached.{Reached};
 ghost use Rattle.capture3.specs.Typed.{Typed};
 ghost use Rattle.std.specs.Prelude.{[], ◌∷◌};
-ghost use Rattle.xdr3.specs.declared.reason.Reason.TheVariants.{AfterEnd, BadEnum, CaptureCut, TooManyBytes};
+ghost use Rattle.xdr3.specs.declared.reason.Reason.TheVariants.{AfterEnd, BadEnum, BadMark, CaptureCut, TooManyBytes, WrongSide};
 ghost use Rattle.capture3.specs.declared.fault.Place.TheVariants.{Record};
-ghost use Rattle.capture3.specs.declared.fault.Side.TheVariants.{Client};
-ghost use Rattle.capture3.specs.Entry.{End};
-ghost use Rattle.capture3.specs.Examples.{bad_mtype, bad_mtype_cut, magic_1, null_capture, null_entries, word_0, word_1};
+ghost use Rattle.capture3.specs.declared.fault.Side.TheVariants.{Client, Server};
+ghost use Rattle.capture3.specs.Entry.{Begin, Call, Close, End, Turn};
+ghost use Rattle.capture3.specs.Examples.{bad_mtype, bad_mtype_cut, magic_1, null_call_items, null_capture, null_entries, word_0, word_1};
+ghost use Rattle.capture3.specs.Examples.{bad_mtype_mixed, bad_mtype_mixed_cut, call_answered_by_call, client_chunk, magic_2, null_mixed, null_mixed_swapped, server_chunk, word_3};
 ghost use Rattle.capture3.specs.Sides.{file_fault};
 
 /// For each file exactly one holds: one list of entries, or one first fault.
@@ -36,6 +38,14 @@ pub fn in_its_place()
 /// Every proper prefix of a well-formed file is cut at its own length.
 pub fn cut_short()
     ensures { (file : List ℕ) → AreBytes file → IsCutShort file }
+{}
+
+/// Files of the same streams have the same entries: whatever version each has, and however it cuts
+/// the streams into chunks.
+pub fn across_versions()
+    ensures { (version other : Version) (file again : List ℕ) (connections : List Streams)
+        → IsCapture version file connections → IsCapture other again connections
+        → HaveSameEntries file again }
 {}
 
 /// A body of the client stream is one call, or has one first fault, after any calls before it; and so
@@ -63,11 +73,12 @@ pub fn within_limits()
         → AreWithinLimits entries }
 {}
 
-/// A well-formed file has at most 5,369,495,552 bytes, and so have bytes that show no fault.
+/// A capture has at most 5,369,495,552 bytes in version 1 and 9,664,200,708 in version 2, and bytes
+/// that show no fault are no longer than a capture of their version may be.
 pub fn longest()
-    ensures typed { (file : List ℕ) (entries : List Entry) → Typed file entries
-        → length file ≤ most_bytes }
-    ensures clean { (file : List ℕ) → AreBytes file → IsClean file → length file ≤ most_bytes }
+    ensures captures { (version : Version) (file : List ℕ) (connections : List Streams)
+        → IsCapture version file connections → length file ≤ most_bytes version }
+    ensures clean { (bytes : List ℕ) → AreBytes bytes → IsClean bytes → IsWithinVersion bytes }
 {}
 
 /// The machine answers the entries or the first fault, and each only where it holds; and what it emits
@@ -86,7 +97,8 @@ pub fn pieces()
     ensures { (front back : List ℕ) → parsed (front ++ back) ≡ after file_next (parsed front) back }
 {}
 
-/// What small captures are: one call of NULL and its reply, the smallest file, and some with faults.
+/// What small captures are: one call of NULL and its reply, the smallest file, and some with faults; and
+/// the same in version 2, with the chunks of both sides in either order.
 pub fn examples()
     ensures null { Typed null_capture null_entries }
     ensures smallest { Typed (magic_1 ++ word_0) (End ∷ []) }
@@ -96,4 +108,23 @@ pub fn examples()
     ensures bad_mtype { FirstFault bad_mtype
         (record { place = Record 1 Client 1 4; reason = BadEnum }) }
     ensures bad_mtype_cut { FirstFault bad_mtype_cut (file_fault 27 CaptureCut) }
+    ensures null_mixed { Typed null_mixed null_entries }
+    ensures null_mixed_swapped { Typed null_mixed_swapped null_entries }
+    ensures smallest_mixed { Typed (magic_2 ++ word_0) (End ∷ []) }
+    ensures empty_mixed { Typed (magic_2 ++ word_1 ++ word_0 ++ word_0)
+        (Begin ∷ Turn ∷ Close ∷ End ∷ []) }
+    ensures bad_side { FirstFault (magic_2 ++ word_1 ++ word_3) (file_fault 12 BadMark) }
+    ensures bad_side_after_chunks { FirstFault (magic_2 ++ word_1 ++ client_chunk
+        ++ server_chunk ++ word_3) (file_fault 100 BadMark) }
+    ensures no_length { FirstFault (magic_2 ++ word_1 ++ word_1 ++ word_0) (file_fault 16 BadMark) }
+    ensures too_many_mixed { FirstFault (magic_2 ++ word_1 ++ word_1 ++ 64 ∷ 0 ∷ 0 ∷ 1 ∷ [])
+        (file_fault 16 TooManyBytes) }
+    ensures bad_mtype_mixed { FirstFault bad_mtype_mixed
+        (record { place = Record 1 Client 1 4; reason = BadEnum }) }
+    ensures bad_mtype_mixed_cut { FirstFault bad_mtype_mixed_cut (file_fault 35 CaptureCut) }
+    ensures call_answered_by_call { FirstFault call_answered_by_call
+        (record { place = Record 1 Server 1 4; reason = WrongSide }) }
+    ensures reached_at_fault { Reached call_answered_by_call
+        (Begin ∷ Call null_call_items ∷ Turn ∷ []) }
+    ensures reached_before_side { Reached bad_mtype_mixed_cut (Begin ∷ []) }
 {}

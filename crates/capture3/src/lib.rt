@@ -1,33 +1,21 @@
 //! Captures of NFS version 3 traffic: their container, their messages, and their first fault.
 #![tactic(auto)]
 
-mod calls;
 mod container;
 mod device;
-mod entries;
-mod entry;
 mod fault;
-mod hashers;
-mod judging;
 pub mod laws;
 mod message;
-mod message_scan;
-mod packing;
-mod plan;
-mod position;
-mod silent;
-mod source;
-mod whole;
-mod word_part;
+mod reader;
 
+pub use container::packing::{pack_chunk, pack_header};
+pub use container::position::{MAX_BYTES, MAX_CONNECTIONS};
 pub use device::DeviceFailed;
-pub use entries::{Entries, new_block};
-pub use entry::{CallRef, Entry, EntryRef, KeptCall, KeptReply, Kind, ReplyRef};
+pub use device::plan::FaultPlan;
+pub use device::source::{FromRead, MemSource, Source};
 pub use fault::{Error, Fault, Place, Side};
-pub use hashers::Hashers;
-pub use packing::{pack_chunk, pack_header};
-pub use plan::FaultPlan;
-pub use position::{MAX_BYTES, MAX_CONNECTIONS};
-pub use silent::Silent;
-pub use source::{FromRead, MemSource, Source};
-pub use whole::parse;
+pub use message::silent::Silent;
+pub use reader::entries::{Entries, new_block};
+pub use reader::entry::{CallRef, Entry, EntryRef, KeptCall, KeptReply, Kind, ReplyRef};
+pub use reader::hashers::Hashers;
+pub use reader::whole::parse;

@@ -1,5 +1,9 @@
 // Refusals of messages.
 
+pub(crate) mod calls;
+pub(crate) mod scan;
+pub(crate) mod silent;
+
 ghost use Rattle.std.specs.Prelude.{◌≡◌};
 
 use xdr3::{GetError, Reason, Stop};

@@ -20,11 +20,11 @@ const NULL_PROCEDURE: ProcId = ProcId {
 };
 
 /// A hasher without a key: the answers do not depend on it.
-fn hasher() -> BuildHasherDefault<FoldHasher> {
+pub(crate) fn hasher() -> BuildHasherDefault<FoldHasher> {
     BuildHasherDefault::default()
 }
 
-fn name(entry: &Entry) -> &'static str {
+pub(crate) fn name(entry: &Entry) -> &'static str {
     match entry {
         Entry::Begin => "begin",
         Entry::Call(_) => "call",
@@ -35,7 +35,7 @@ fn name(entry: &Entry) -> &'static str {
     }
 }
 
-fn name_of(kind: Kind) -> &'static str {
+pub(crate) fn name_of(kind: Kind) -> &'static str {
     match kind {
         Kind::Begin => "begin",
         Kind::Call(_) => "call",
@@ -120,11 +120,11 @@ fn a_stream_that_fails_once(rt: HostRuntime) {
 }
 
 // The entries of the capture above, and how many of its bytes each needs.
-const NAMES: [&str; 6] = ["begin", "call", "turn", "reply", "close", "end"];
+pub(crate) const NAMES: [&str; 6] = ["begin", "call", "turn", "reply", "close", "end"];
 
 const NEEDED: [usize; 5] = [12, 60, 64, 96, 100];
 
-fn file_fault(at: usize, reason: Reason) -> Error {
+pub(crate) fn file_fault(at: usize, reason: Reason) -> Error {
     Error::Refused(Fault {
         place: Place::File { at: at as u64 },
         reason,
@@ -132,7 +132,7 @@ fn file_fault(at: usize, reason: Reason) -> Error {
 }
 
 /// The names of the entries up to the end or to an error. Each is answered again.
-fn read_names<S: Source>(
+pub(crate) fn read_names<S: Source>(
     rt: &impl Abort,
     alloc: Global,
     source: &mut S,
@@ -182,7 +182,11 @@ fn entries_in_blocks(rt: HostRuntime) -> Result<(), Fail> {
 }
 
 /// A message that is told to a visitor that writes is its body again.
-fn message_is_told(rt: &impl Abort, alloc: Global, lent: EntryRef<'_>) -> Result<(), Fail> {
+pub(crate) fn message_is_told(
+    rt: &impl Abort,
+    alloc: Global,
+    lent: EntryRef<'_>,
+) -> Result<(), Fail> {
     let mut told = Writer::new(alloc);
     match lent {
         EntryRef::Call(call) => {

@@ -1,4 +1,4 @@
-//! Tests of the reader of captures and of messages as values, on one worked capture.
+//! Tests of the reader of captures and of messages as values, on one worked capture, in both versions.
 #![tactic(auto)]
 
 #[cfg(test)]
@@ -7,3 +7,5 @@ mod captures;
 mod sample;
 #[cfg(test)]
 mod typed_messages;
+#[cfg(test)]
+mod version_2;

@@ -15,7 +15,8 @@ use Rattle.clap.specs.declared.parser.matches.ValueSource.TheVariants.{CommandLi
 use Rattle.clap.specs.declared.builder.value_parser.Reading.TheVariants.{AsWritten}
 use Rattle.line3.specs.declared.asked.LineFault.{LineFault}
 use Rattle.line3.specs.declared.asked.LineFault.TheVariants.{Usage, Odd, SameName, NotText, Memory}
-use Rattle.line3.specs.Asked.{AreFileWords, AreRefused, Form, Check, Show, Canon, Same, Pack, IsUsage, IsFileWord, IsLine, words_of}
+use Rattle.line3.specs.Asked.{AreFileWords, AreRefused, Form, Check, Show, Canon, Same, Pack, IsFileWord, IsLine, words_of}
+use Rattle.line3.specs.machinery.Asked.{IsUsage}
 use Rattle.line3.specs.Grammar.{app, one_file, packing_form, two_files}
 
 pub simple : is_simple app ≡ true

@@ -2,7 +2,8 @@
 
 ghost use Rattle.std.specs.Prelude.{◌≡◌, ◌≤◌, ◌∷◌, ℕ, List, [], IfErr, IfOk, codes, length, map, string_bytes};
 ghost use Rattle.clap.specs.Words.{kind_of};
-ghost use Rattle.line3.specs.Asked.{AreRefused, Asks, IsUsage};
+ghost use Rattle.line3.specs.Asked.{AreRefused, Asks};
+ghost use Rattle.line3.specs.machinery.Asked.{IsUsage};
 
 use crate::asked::{Job, LineFault};
 use crate::grammar::command;

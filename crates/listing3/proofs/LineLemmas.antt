@@ -9,10 +9,10 @@ use Rattle.xdr3.specs.Item.{Item, Word, Opaque, Handle}
 use Rattle.xdr3.specs.Visit.{Adds, Keeps}
 use Rattle.rpc_head.specs.declared.call.ProcId.{ProcId}
 use Rattle.rpc_head.specs.Messages.{procedure_in}
-use Rattle.rpc_head.specs.Names.{names}
+use Rattle.rpc_head.specs.Names.{head_names}
 use Rattle.nfs3_types.specs.declared.handle.Handle as handles
-use Rattle.capture3.specs.declared.entry.Kind.{Kind}
-use Rattle.capture3.specs.declared.entry.Kind.TheVariants as kinds
+use Rattle.capture3.specs.declared.reader.entry.Kind.{Kind}
+use Rattle.capture3.specs.declared.reader.entry.Kind.TheVariants as kinds
 use Rattle.capture3.specs.declared.fault.Error.{Error}
 use Rattle.capture3.specs.Entry.{Entry, Begin, Call, Turn, Reply, Close, End}
 use Rattle.capture3.specs.Kept.{IsOfKind}
@@ -30,7 +30,7 @@ use Rattle.canon3.proofs.Messages.{is_headed_call, is_headed_reply}
 use Rattle.canon3.proofs.Visiting.{still_err}
 use Rattle.canon3.proofs.SinkWritesLemmas.{front_of_second}
 use Rattle.listing3.proofs.ListingLemmas.{shown_push}
-use Rattle.listing3.specs.LineWriter.{always, behind, IsBehind, IsTextOf, items_before, Stands}
+use Rattle.listing3.specs.machinery.LineWriter.{always, after_front, HasLineUnderWay, IsTextOf, items_before, LineStands}
 use Rattle.listing3.specs.Listing.{entry_line, line, opening, prefix, procedure_name, shown, shown_item, shown_items}
 
 -- ---- pieces of a line
@@ -40,8 +40,8 @@ xid_text xid = opening (codes "xid") ++ decimal xid
 
 pub composed : (connection : ℕ) (side : List ℕ) (number xid : ℕ) (id : ProcId) (rest : List Item) (head text : List ℕ)
     → head ≡ prefix connection side number ++ (xid_text xid ++ (32 ∷ procedure_name id)) → text ≡ shown_items rest ++ 10 ∷ []
-    → head ++ text ≡ line connection side number id (Word names.xid xid ∷ rest)
-unfolding names
+    → head ++ text ≡ line connection side number id (Word head_names.xid xid ∷ rest)
+unfolding head_names
 composed connection side number xid id rest head text head_is text_is =
     let p = prefix connection side number in
     let n : List ℕ = shown_items rest ++ 10 ∷ [] in
@@ -61,14 +61,14 @@ same_front (x ∷ a) (y ∷ b) items more n e =
     (ap (λ (l : List Item). x ∷ l) r.0 ∙ ap (λ i. i ∷ b) head, r.1)
 
 module _ {S H : Type 0} (writer : LineWriter S H) where
-  pub is_behind : (front items : List Item) → Stands writer (behind front items) → IsBehind writer front items
+  pub is_behind : (front items : List Item) → LineStands writer (after_front front items) → HasLineUnderWay writer front items
   is_behind front items (other, own, are, is) =
       let many : length front ≡ length other = cc in
       let all : front ++ items ≡ other ++ own = cc in
       let same = same_front front other items own many all in
-      subst (λ (l : List Item). IsBehind writer l items) (sym same.0) (subst (IsBehind writer other) (sym same.1) is)
+      subst (λ (l : List Item). HasLineUnderWay writer l items) (sym same.0) (subst (HasLineUnderWay writer other) (sym same.1) is)
 
-  pub stands_behind : (front items : List Item) → IsBehind writer front items → Stands writer (behind front items)
+  pub stands_behind : (front items : List Item) → HasLineUnderWay writer front items → LineStands writer (after_front front items)
   stands_behind front items is = (front, items, refl, is)
 
 -- ---- one item more
@@ -76,13 +76,13 @@ module _ {S H : Type 0} (writer : LineWriter S H) where
 abbrev pub TextOf : List ℕ → List Item → Type 0
 TextOf text items = text ≡ shown_items items
 
-pub behind-append : (front items more : List Item) → behind front items ++ more ≡ behind front (items ++ more)
+pub behind-append : (front items more : List Item) → after_front front items ++ more ≡ after_front front (items ++ more)
 behind-append front items more = ap (λ (l : List Item). Word [] (length front) ∷ l) (append_assoc front items more)
 
 module _ {S H : Type 0} (old new : LineWriter S H) (i : Item) where
   pub adds : ((front : List Item) → Gathers old.handles.numbers front → Gathers new.handles.numbers (front ++ i ∷ []))
       → ((items : List Item) → IsTextOf old.xid old.items items → IsTextOf new.xid new.items (items ++ i ∷ []))
-      → Adds Stands old new (i ∷ [])
+      → Adds LineStands old new (i ∷ [])
   unfolding Adds
   adds gathers text all (front, items, are, is) = (
     front,
@@ -92,7 +92,7 @@ module _ {S H : Type 0} (old new : LineWriter S H) (i : Item) where
   )
 
   pub keeps : ((items : List Item) → Gathers old.handles.numbers items → Gathers new.handles.numbers items)
-      → ((items : List Item) → IsTextOf old.xid old.items items → IsTextOf new.xid new.items items) → Keeps Stands old new
+      → ((items : List Item) → IsTextOf old.xid old.items items → IsTextOf new.xid new.items items) → Keeps LineStands old new
   unfolding Keeps
   keeps gathers text all (front, items, are, is) = (front, items, are, record { gathered = gathers (front ++ items) is.gathered; text = text items is.text })
 
@@ -128,17 +128,17 @@ module _ {S H : Type 0} (writer : LineWriter S H) (text : List ℕ) where
   abbrev pub with_text : LineWriter S H
   with_text = record { handles = writer.handles; xid = writer.xid; items = text; head = writer.head }
 
-  pub adds_plain : (i : Item) → handles_in (i ∷ []) ≡ [] → IsLater writer.xid i → Adds TextOf writer.items text (i ∷ []) → Adds Stands writer with_text (i ∷ [])
+  pub adds_plain : (i : Item) → handles_in (i ∷ []) ≡ [] → IsLater writer.xid i → Adds TextOf writer.items text (i ∷ []) → Adds LineStands writer with_text (i ∷ [])
   adds_plain i none later write =
       adds writer with_text i (λ front h. gathers_none writer.handles.numbers front (i ∷ []) none h) (text_more writer.xid writer.items text i later write)
 
-  pub keeps_text : Keeps TextOf writer.items text → Keeps Stands writer with_text
+  pub keeps_text : Keeps TextOf writer.items text → Keeps LineStands writer with_text
   keeps_text kept = keeps writer with_text (Word [] 0) (λ items h. h) (text_still writer.xid writer.items text kept)
 
   -- the text and the table with the handle
   pub adds_both : (table : List handles.Handle) (name bytes : List ℕ) → text ≡ writer.items ++ shown_item (Opaque Handle name bytes)
       → Adds Gathers writer.handles.numbers table (Opaque Handle name bytes ∷ [])
-      → Adds Stands writer (record { handles = record { numbers = table }; xid = writer.xid; items = text; head = writer.head }) (Opaque Handle name bytes ∷ [])
+      → Adds LineStands writer (record { handles = record { numbers = table }; xid = writer.xid; items = text; head = writer.head }) (Opaque Handle name bytes ∷ [])
   unfolding Adds
   adds_both table name bytes is gathers =
       adds writer (record { handles = record { numbers = table }; xid = writer.xid; items = text; head = writer.head }) (Opaque Handle name bytes) gathers
@@ -147,7 +147,7 @@ module _ {S H : Type 0} (writer : LineWriter S H) (text : List ℕ) where
 
 -- the xid is told
 pub adds_xid : {S H : Type 0} (writer : LineWriter S H) (name : List ℕ) (n : ℕ) → writer.xid ≡ None
-    → Adds Stands writer (record { handles = writer.handles; xid = Some n; items = writer.items; head = writer.head }) (Word name n ∷ [])
+    → Adds LineStands writer (record { handles = writer.handles; xid = Some n; items = writer.items; head = writer.head }) (Word name n ∷ [])
 adds_xid writer name n none =
     adds writer (record { handles = writer.handles; xid = Some n; items = writer.items; head = writer.head }) (Word name n) (λ front h. gathers_none writer.handles.numbers front (Word name n ∷ []) refl h) text
   where
@@ -170,40 +170,40 @@ module _ {S H : Type 0} (writer : LineWriter S H) (table : List handles.Handle) 
   abbrev pub with_both : LineWriter S H
   with_both = record { handles = record { numbers = table }; xid = writer.xid; items = new; head = writer.head }
 
-  kept_both : Keeps Gathers writer.handles.numbers table → new ≡ writer.items → Keeps Stands writer with_both
+  kept_both : Keeps Gathers writer.handles.numbers table → new ≡ writer.items → Keeps LineStands writer with_both
   unfolding Keeps
   kept_both gathers same = keeps writer with_both (Word [] 0) gathers (λ items t. subst (λ (l : List ℕ). IsTextOf writer.xid l items) (sym same) t)
 
   -- the text is cut where the handle was not added
   pub settled_err : {T E : Type 0} (written result : Result T E) (between more : List ℕ) (before : ℕ) → result ≡ written → OnErr written (new ≡ take before between) → before ≡ length writer.items → between ≡ writer.items ++ more
-      → OnErr written (Keeps Gathers writer.handles.numbers table) → OnErr result (Keeps Stands writer with_both)
+      → OnErr written (Keeps Gathers writer.handles.numbers table) → OnErr result (Keeps LineStands writer with_both)
   settled_err {T = T} {E = E} written result between more before same cut size is kept =
-      subst (λ (r : Result T E). OnErr r (Keeps Stands writer with_both)) (sym same)
+      subst (λ (r : Result T E). OnErr r (Keeps LineStands writer with_both)) (sym same)
       (still_err written (λ (c : Keeps Gathers writer.handles.numbers table × (new ≡ take before between)). kept_both c.0 (c.1 ∙ ap (λ n. take n between) size ∙ ap (take (length writer.items)) is ∙ take-append_seam writer.items more)) (both_err _ _ written kept cut))
 
 -- ---- an entry's line
 
-pub no_xid : {S H : Type 0} (writer : LineWriter S H) (front rest : List Item) (n : ℕ) → writer.xid ≡ None → Stands writer (behind front (Word names.xid n ∷ rest)) → ⊥
+pub no_xid : {S H : Type 0} (writer : LineWriter S H) (front rest : List Item) (n : ℕ) → writer.xid ≡ None → LineStands writer (after_front front (Word head_names.xid n ∷ rest)) → ⊥
 no_xid writer front rest n none stands =
-    let some : writer.xid ≡ Some n = (is_behind writer front (Word names.xid n ∷ rest) stands).text.0 in
+    let some : writer.xid ≡ Some n = (is_behind writer front (Word head_names.xid n ∷ rest) stands).text.0 in
     absurd cc
 
-pub is_line : {S H : Type 0} (writer : LineWriter S H) (connection : ℕ) (side : List ℕ) (number xid : ℕ) (id : ProcId) (front rest : List Item) (n : ℕ) (head text : List ℕ) → writer.xid ≡ Some xid → Stands writer (behind front (Word names.xid n ∷ rest))
-    → head ≡ prefix connection side number ++ (xid_text xid ++ (32 ∷ procedure_name id)) → text ≡ writer.items ++ 10 ∷ [] → head ++ text ≡ line connection side number id (Word names.xid n ∷ rest)
+pub is_line : {S H : Type 0} (writer : LineWriter S H) (connection : ℕ) (side : List ℕ) (number xid : ℕ) (id : ProcId) (front rest : List Item) (n : ℕ) (head text : List ℕ) → writer.xid ≡ Some xid → LineStands writer (after_front front (Word head_names.xid n ∷ rest))
+    → head ≡ prefix connection side number ++ (xid_text xid ++ (32 ∷ procedure_name id)) → text ≡ writer.items ++ 10 ∷ [] → head ++ text ≡ line connection side number id (Word head_names.xid n ∷ rest)
 is_line writer connection side number xid id front rest n head text told stands head_is text_is =
-    let b = (is_behind writer front (Word names.xid n ∷ rest) stands).text in
+    let b = (is_behind writer front (Word head_names.xid n ∷ rest) stands).text in
     let some : writer.xid ≡ Some n = b.0 in
     let same : xid ≡ n = cc in
     composed connection side number n id rest head text (head_is ∙ ap (λ k. prefix connection side number ++ (xid_text k ++ (32 ∷ procedure_name id))) same) (text_is ∙ ap (λ (l : List ℕ). l ++ 10 ∷ []) b.1)
 
 module _ (P : Entry → Type 0) (entries : List Entry) (one : Entry) (kind : Kind) (of : IsOfKind kind one) (first : AreFirst (entries ++ one ∷ [])) where
-  pub listed_call : (id : ProcId) → kind ≡ kinds.Call id → ((n : ℕ) (rest : List Item) → id ≡ procedure_in (Word names.xid n ∷ rest) → P (Call (Word names.xid n ∷ rest))) → P one
+  pub listed_call : (id : ProcId) → kind ≡ kinds.Call id → ((n : ℕ) (rest : List Item) → id ≡ procedure_in (Word head_names.xid n ∷ rest) → P (Call (Word head_names.xid n ∷ rest))) → P one
   listed_call id is p =
       let (items, asks, this) = subst (λ k. IsOfKind k one) is of in
       let h = is_headed_call items (subst IsLaidOut this (last_laid entries one first)) in
       subst P (sym this) (subst (λ (l : List Item). P (Call l)) (sym h.is) (p h.number ((h.start ++ h.head) ++ h.back) (asks ∙ ap procedure_in h.is)))
 
-  pub listed_reply : (id : ProcId) → kind ≡ kinds.Reply id → ((n : ℕ) (rest : List Item) → P (Reply id (Word names.xid n ∷ rest))) → P one
+  pub listed_reply : (id : ProcId) → kind ≡ kinds.Reply id → ((n : ℕ) (rest : List Item) → P (Reply id (Word head_names.xid n ∷ rest))) → P one
   listed_reply id is p =
       let (items, this) = subst (λ k. IsOfKind k one) is of in
       let h = is_headed_reply id items (subst IsLaidOut this (last_laid entries one first)) in
@@ -226,8 +226,8 @@ module _ (P : Entry → Type 0) (entries : List Entry) (one : Entry) (kind : Kin
 
 -- one entry more
 pub listed_more : {S H X : Type 0} (now : LineWriter S H) (old between after : Option (List ℕ)) (progress : Progress) (entries : List Entry) (one : Entry) (r : Result X Error) → HasPassed progress entries → Appends old between (shown entries)
-    → Stands now (items_before (entries ++ one ∷ [])) → OnOk r (Appends between after (entry_line progress.connections progress.records one)) → OnErr r (AppendsFront between after (entry_line progress.connections progress.records one))
-    → HasWrittenOrCut shown items_before Stands always now old after (entries ++ one ∷ []) r
+    → LineStands now (items_before (entries ++ one ∷ [])) → OnOk r (Appends between after (entry_line progress.connections progress.records one)) → OnErr r (AppendsFront between after (entry_line progress.connections progress.records one))
+    → HasWrittenOrCut shown items_before LineStands always now old after (entries ++ one ∷ []) r
 listed_more now old between after progress entries one (Ok x) came written stands appended cut = (
   tt,
   stands,

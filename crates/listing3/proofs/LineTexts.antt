@@ -7,7 +7,7 @@ use Rattle.std.proofs.lemmas.Fmt.{decimal_injective}
 use Rattle.xdr3.specs.Item.{Item}
 use Rattle.rpc_head.specs.declared.call.ProcId.{ProcId}
 use Rattle.rpc_head.specs.Messages.{procedure_in}
-use Rattle.procs3.specs.Names.{mount_name, name_of, nfs_name}
+use Rattle.procs3.specs.Names.{mount_name, name_of_procedure, nfs_name}
 use Rattle.procs3.specs.Table.{is_mount, is_nfs}
 use Rattle.capture3.specs.Bodies.{ReplyItems, xid_in}
 use Rattle.capture3.specs.Entry.{Entry, Call, Turn, Close}
@@ -75,7 +75,7 @@ mount_name_word n =
     name_if (nat_eq n 5) (Some (codes "MOUNTPROC3_EXPORT")) _ refl (
     refl))))))
 
-id_word : (id : ProcId) → IsWordName (name_of id)
+id_word : (id : ProcId) → IsWordName (name_of_procedure id)
 id_word id = name_if (is_nfs id) (nfs_name id.proc_no) _ (nfs_name_word id.proc_no) (name_if (is_mount id) (mount_name id.proc_no) None (mount_name_word id.proc_no) refl)
 
 procedure_run : (id : ProcId) → AllByRecursion IsInWord (procedure_name id)

@@ -329,47 +329,47 @@ results_have_names id =
 -- ---- messages
 
 verifier_names : HasNames verifier
-unfolding verifier head.names
+unfolding verifier head.head_names
 verifier_names = ((refl, refl), λ n. (refl, refl))
 
 gids_names : HasNames gids
-unfolding gids head.names
+unfolding gids head.head_names
 gids_names = ((refl, refl), ((refl, refl), λ n. tt))
 
 parameters_names : HasNames parameters
-unfolding parameters head.names
+unfolding parameters head.head_names
 parameters_names = (((refl, refl), λ n. tt), ((refl, refl), (((refl, refl), λ n. tt), (((refl, refl), λ n. tt), gids_names))))
 
 auth_sys_names : HasNames auth_sys
-unfolding auth_sys head.names
+unfolding auth_sys head.head_names
 auth_sys_names = ((refl, refl), parameters_names)
 
 credential_names : HasNames credential
-unfolding credential head.names
-credential_names = ((refl, refl), λ n. names_if (nat_eq n 0) (opaque Var head.names.cred_body 400) auth_sys (refl, refl) auth_sys_names)
+unfolding credential head.head_names
+credential_names = ((refl, refl), λ n. names_if (nat_eq n 0) (opaque Var head.head_names.cred_body 400) auth_sys (refl, refl) auth_sys_names)
 
 call_head_names : HasNames call_head
-unfolding call_head head.names
+unfolding call_head head.head_names
 call_head_names = ((refl, refl), λ n. (((refl, refl), λ n. tt), (((refl, refl), λ n. tt), (((refl, refl), λ n. tt), (credential_names, verifier_names)))))
 
 accept_names : HasNames accept
-unfolding accept head.names
+unfolding accept head.head_names
 accept_names = ((refl, refl), λ n. names_if (nat_eq n 2) versions nothing (((refl, refl), λ n. tt), ((refl, refl), λ n. tt)) tt)
 
 deny_names : HasNames deny
-unfolding deny head.names
-deny_names = ((refl, refl), λ n. names_if (nat_eq n 0) versions (listed head.names.auth_stat auth_stats) (((refl, refl), λ n. tt), ((refl, refl), λ n. tt)) ((refl, refl), λ n. tt))
+unfolding deny head.head_names
+deny_names = ((refl, refl), λ n. names_if (nat_eq n 0) versions (listed head.head_names.auth_stat auth_stats) (((refl, refl), λ n. tt), ((refl, refl), λ n. tt)) ((refl, refl), λ n. tt))
 
 reply_head_names : HasNames reply_head
-unfolding reply_head head.names
+unfolding reply_head head.head_names
 reply_head_names = ((refl, refl), λ n. names_if (nat_eq n 0) (verifier then accept) deny (verifier_names, accept_names) deny_names)
 
 call_start_names : HasNames call_start
-unfolding call_start head.names
+unfolding call_start head.head_names
 call_start_names = (((refl, refl), λ n. tt), ((refl, refl), λ n. tt))
 
 reply_start_names : HasNames reply_start
-unfolding reply_start head.names
+unfolding reply_start head.head_names
 reply_start_names = (((refl, refl), λ n. tt), ((refl, refl), λ n. tt))
 
 pub calls_have_names : LayoutHasNames (call_layout arguments_of)

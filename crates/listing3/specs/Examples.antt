@@ -2,7 +2,7 @@
 use Rattle.std.specs.Prelude.{◌≡◌, ℕ, List, [], ◌∷◌, ◌++◌, codes}
 use Rattle.xdr3.specs.Item.{Item, Word, Hyper, Fixed, Opaque, Rest, Var, Text, Handle}
 use Rattle.capture3.specs.Entry.{Entry}
-use Rattle.canon3.specs.Examples.{call_of, connection, one, reply_of}
+use Rattle.canon3.specs.Examples.{call_of, connection, one, success_reply}
 use Rattle.listing3.specs.Listing.{entry_line, shown, shown_item}
 
 -- a line with its newline
@@ -11,7 +11,7 @@ line_of text = text ++ 10 ∷ []
 
 -- a NULL call and its reply (RFC 1813, section 3.3.0)
 abbrev pub null : List Entry
-null = one (call_of 100003 0 3735928559 [] ∷ []) (reply_of 100003 0 3735928559 [] ∷ [])
+null = one (call_of 100003 0 3735928559 [] ∷ []) (success_reply 100003 0 3735928559 [] ∷ [])
 
 abbrev pub null_call_text : List ℕ
 null_call_text = codes "1 client 1 xid=3735928559 NFSPROC3_NULL mtype=0 rpcvers=2 prog=100003 vers=3 proc=0 cred_flavor=0 cred_body= verf_flavor=0 verf_body="
@@ -23,8 +23,8 @@ pub record ListsNull : Type 0 where
   pub lines : shown null ≡ line_of null_call_text ++ line_of null_reply_text
 
 -- GETATTR's reply (RFC 1813, section 3.3.1), the second of its stream in the third connection
-abbrev pub attributes : List Item
-attributes =
+abbrev pub attributes_reply : List Item
+attributes_reply =
     Word (codes "status") 0 ∷ Word (codes "type") 2 ∷ Word (codes "mode") 493 ∷ Word (codes "nlink") 2 ∷ Word (codes "uid") 0 ∷ Word (codes "gid") 0
     ∷ Hyper (codes "size") 4096 ∷ Hyper (codes "used") 4096 ∷ Word (codes "rdev1") 0 ∷ Word (codes "rdev2") 0 ∷ Hyper (codes "fsid") 1 ∷ Hyper (codes "fileid") 2
     ∷ Word (codes "atime_sec") 1 ∷ Word (codes "atime_nsec") 0 ∷ Word (codes "mtime_sec") 1 ∷ Word (codes "mtime_nsec") 0 ∷ Word (codes "ctime_sec") 1 ∷ Word (codes "ctime_nsec") 0 ∷ []
@@ -35,13 +35,13 @@ getattr_reply_text =
     ++ codes " size=4096 used=4096 rdev1=0 rdev2=0 fsid=1 fileid=2 atime_sec=1 atime_nsec=0 mtime_sec=1 mtime_nsec=0 ctime_sec=1 ctime_nsec=0"
 
 pub record ListsGetattr : Type 0 where
-  pub line : entry_line 3 1 (reply_of 100003 1 7 attributes) ≡ line_of getattr_reply_text
+  pub line : entry_line 3 1 (success_reply 100003 1 7 attributes_reply) ≡ line_of getattr_reply_text
 
 -- A call and its reply of a program that is neither NFS nor MOUNT, in the second of three connections, of which the others have no message.
 abbrev pub raw : List Entry
 raw =
     connection [] []
-    ++ (connection (call_of 100227 1 5 (Rest (codes "rest") (0 ∷ 0 ∷ 0 ∷ 4 ∷ 10 ∷ 11 ∷ 12 ∷ 13 ∷ 0 ∷ 0 ∷ 0 ∷ 1 ∷ []) ∷ []) ∷ []) (reply_of 100227 1 5 (Rest (codes "rest") [] ∷ []) ∷ [])
+    ++ (connection (call_of 100227 1 5 (Rest (codes "rest") (0 ∷ 0 ∷ 0 ∷ 4 ∷ 10 ∷ 11 ∷ 12 ∷ 13 ∷ 0 ∷ 0 ∷ 0 ∷ 1 ∷ []) ∷ []) ∷ []) (success_reply 100227 1 5 (Rest (codes "rest") [] ∷ []) ∷ [])
     ++ one [] [])
 
 abbrev pub raw_call_text : List ℕ

@@ -2,4 +2,4 @@
 pub mod Listing
 pub mod Laws
 pub mod Examples
-pub mod LineWriter
+pub mod machinery

@@ -5,7 +5,7 @@ use Rattle.hex.specs.Hex.{encode_lower}
 use Rattle.xdr3.specs.Item.{Item, Word, Hyper, Fixed, WriteVerf, Opaque, Rest, Kind, Var, Text, Handle}
 use Rattle.rpc_head.specs.declared.call.ProcId.{ProcId}
 use Rattle.rpc_head.specs.Messages.{procedure_in}
-use Rattle.procs3.specs.Names.{name_of}
+use Rattle.procs3.specs.Names.{name_of_procedure}
 use Rattle.capture3.specs.Entry.{Entry, Call, Reply}
 use Rattle.canon3.specs.Parting.{connections, records_after}
 
@@ -64,7 +64,7 @@ named None = codes "RAW"
 named (Some name) = name
 
 abbrev pub procedure_name : ProcId → List ℕ
-procedure_name id = named (name_of id)
+procedure_name id = named (name_of_procedure id)
 
 -- the connection's number, the side, and the record's number in its stream
 abbrev pub prefix : (connection : ℕ) (side : List ℕ) (record_number : ℕ) → List ℕ

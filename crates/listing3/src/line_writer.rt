@@ -4,7 +4,7 @@ ghost use Rattle.std.specs.Prelude.{◌≡◌, ◌≤◌, ◌<◌, ◌+◌, ◌*
 ghost use Rattle.std.specs.Io.KnownBytes.{Appends};
 ghost use Rattle.xdr3.specs.Item.{Handle as HandleKind, Item, Opaque, Word};
 ghost use Rattle.xdr3.specs.Visit.{Adds, Keeps};
-ghost use Rattle.rpc_head.specs.Names.{names};
+ghost use Rattle.rpc_head.specs.Names.{head_names};
 ghost use Rattle.capture3.specs.Device as devices;
 ghost use Rattle.capture3.specs.Entry as spec;
 ghost use Rattle.capture3.specs.Entry.{items_of};
@@ -12,10 +12,10 @@ ghost use Rattle.capture3.specs.Kept.{IsOfKind};
 ghost use Rattle.canon3.specs.HandleTable.{Gathers};
 ghost use Rattle.canon3.specs.Laws.{AreFirst};
 ghost use Rattle.canon3.specs.Passed.{passed_steps};
-ghost use Rattle.canon3.specs.Summary.{all_items};
+ghost use Rattle.canon3.specs.machinery.Summary.{all_items};
 ghost use Rattle.canon3.specs.WriteErrors.{CountsWriting, IsOfWriting};
 ghost use Rattle.canon3.specs.SinkWrites.{AppendsFront};
-ghost use Rattle.listing3.specs.LineWriter.{behind, Stands};
+ghost use Rattle.listing3.specs.machinery.LineWriter.{after_front, LineStands};
 ghost use Rattle.listing3.specs.Listing.{entry_line, line, opening, prefix, procedure_name};
 
 use crate::head_text::HeadText;
@@ -64,7 +64,7 @@ fn write_two<W: Sink>(sink: &mut W, first: &[u8], second: &[u8]) -> Result<(), D
 impl<S: BuildHasher + Drop> LineWriter<S> {
     /// Before a capture.
     pub(crate) fn new(alloc: Global, hasher: S) -> LineWriter<S>
-        ensures { Stands result (behind [] []) }
+        ensures { LineStands result (after_front [] []) }
     {
         LineWriter {
             handles: HandleTable::new(alloc, hasher),
@@ -77,7 +77,7 @@ impl<S: BuildHasher + Drop> LineWriter<S> {
     /// Begins a message in place of the one before.
     fn begin_message(&mut self)
         ensures { (items : List Item) → Gathers self.old.handles.numbers items
-            → Stands self.new (behind items []) }
+            → LineStands self.new (after_front items []) }
     {
         self.xid = None;
         self.items.forget();
@@ -87,8 +87,8 @@ impl<S: BuildHasher + Drop> LineWriter<S> {
     fn add_handle(&mut self, name: &'static str, bytes: &[u8]) -> Result<(), AllocError>
         requires { length bytes.now ≤ 64 }
         ensures ok { OnOk result
-            (Adds Stands self.old self.new (Opaque HandleKind name.now bytes.now ∷ [])) }
-        ensures err { OnErr result (Keeps Stands self.old self.new) }
+            (Adds LineStands self.old self.new (Opaque HandleKind name.now bytes.now ∷ [])) }
+        ensures err { OnErr result (Keeps LineStands self.old self.new) }
     {
         let before = self.items.bytes().len();
         match self.items.append_hex(name, bytes) {
@@ -148,17 +148,17 @@ impl<S: BuildHasher + Drop> LineWriter<S> {
         requires { passed_steps passed.now + 1 < 2 ^ 32 }
         ensures handles { self.new.handles ≡ self.old.handles }
         ensures ok { (front rest : List Item) (n : ℕ)
-            → Stands self.old (behind front (Word names.xid n ∷ rest))
+            → LineStands self.old (after_front front (Word head_names.xid n ∷ rest))
             → OnOk result
             (Appends (W.written sink.old) (W.written sink.new)
             (line passed.now.progress.connections side.now (passed.now.progress.records + 1) id
-            (Word names.xid n ∷ rest))) }
+            (Word head_names.xid n ∷ rest))) }
         ensures err { (front rest : List Item) (n : ℕ)
-            → Stands self.old (behind front (Word names.xid n ∷ rest))
+            → LineStands self.old (after_front front (Word head_names.xid n ∷ rest))
             → OnErr result
             (AppendsFront (W.written sink.old) (W.written sink.new)
             (line passed.now.progress.connections side.now (passed.now.progress.records + 1) id
-            (Word names.xid n ∷ rest))) }
+            (Word head_names.xid n ∷ rest))) }
         ensures count { CountsWriting (W.failures sink.old) (W.failures sink.new) result }
         ensures error { IfErr result IsOfWriting }
     {
@@ -182,13 +182,13 @@ impl<S: BuildHasher + Drop> LineWriter<S> {
         ensures handles { self.new.handles ≡ self.old.handles }
         ensures ok { (entries : List spec.Entry) (one : spec.Entry) → IsOfKind kind one
             → AreFirst (entries ++ one ∷ [])
-            → Stands self.old (behind (all_items entries) (items_of one))
+            → LineStands self.old (after_front (all_items entries) (items_of one))
             → OnOk result
             (Appends (W.written sink.old) (W.written sink.new)
             (entry_line passed.now.progress.connections passed.now.progress.records one)) }
         ensures err { (entries : List spec.Entry) (one : spec.Entry) → IsOfKind kind one
             → AreFirst (entries ++ one ∷ [])
-            → Stands self.old (behind (all_items entries) (items_of one))
+            → LineStands self.old (after_front (all_items entries) (items_of one))
             → OnErr result
             (AppendsFront (W.written sink.old) (W.written sink.new)
             (entry_line passed.now.progress.connections passed.now.progress.records one)) }
@@ -205,9 +205,9 @@ impl<S: BuildHasher + Drop> LineWriter<S> {
 
 #[tactic(auto, unfolding(xdr3::specs::Visit::Adds, xdr3::specs::Visit::Keeps))]
 impl<S: BuildHasher + Drop> Visit for LineWriter<S> {
-    ghost use Rattle.listing3.specs.LineWriter.{Stands};
+    ghost use Rattle.listing3.specs.machinery.LineWriter.{LineStands};
 
-    ghost stands = { Stands };
+    ghost stands = { LineStands };
 
     fn word(&mut self, name: &'static str, n: u32) -> Result<(), AllocError> {
         match self.xid {
@@ -249,7 +249,7 @@ impl<S: BuildHasher + Drop> Visit for LineWriter<S> {
 }
 
 impl<S: BuildHasher + Drop> EntryWriter for LineWriter<S> {
-    ghost use Rattle.listing3.specs.LineWriter.{always, items_before};
+    ghost use Rattle.listing3.specs.machinery.LineWriter.{always, items_before};
     ghost use Rattle.listing3.specs.Listing.{shown};
 
     ghost form = { shown };

@@ -1,11 +1,12 @@
 // The commands' calls. At most one growth is refused in a test, so of two runs one has its whole answer.
 
-use crate::samples::{COMMIT, hashers};
+use crate::samples::{COMMIT, MIXED, hashers};
 use canon3::{MemSink, Sink, Summary, Verdict, canon, check, same};
 use capture3::{Error, MemSource};
 use line3::{Job, LineFault, job};
 use listing3::show;
 use packing3::Packing;
+use std::alloc::Global;
 use std::process::Abort;
 use std::test::Fail;
 
@@ -38,50 +39,110 @@ fn agree(rt: &impl Abort, first: &Run, second: &Run) {
 
 #[test]
 fn a_capture_is_checked(rt: HostRuntime) {
-    let mut source = MemSource::new(&COMMIT, 50, 0);
-    let answer = check(rt.alloc(), hashers(), &mut source);
+    is_checked(&rt, rt.alloc(), &COMMIT);
+}
+
+#[test]
+fn a_capture_of_version_2_is_checked(rt: HostRuntime) {
+    is_checked(&rt, rt.alloc(), &MIXED);
+}
+
+fn is_checked(rt: &impl Abort, alloc: Global, capture: &[u8]) {
+    let mut source = MemSource::new(capture, 50, 0);
+    let answer = check(alloc, hashers(), &mut source);
     assert!(rt; answer == Ok(COUNTS) || answer == Err(Error::Memory));
 }
 
-fn canonical(rt: &HostRuntime, mut sink: MemSink) -> Run {
-    let mut source = MemSource::new(&COMMIT, 50, 0);
+fn canonical(rt: &HostRuntime, capture: &[u8], mut sink: MemSink) -> Run {
+    let mut source = MemSource::new(capture, 50, 0);
     (canon(rt.alloc(), hashers(), &mut source, &mut sink), sink)
 }
 
 #[test]
-fn a_canonical_form_is_written(rt: HostRuntime) -> Result<(), Fail> {
+fn a_canonical_form_is_written(rt: HostRuntime) {
     let (Ok(first), Ok(second)) = (
         MemSink::new(rt.alloc(), 999, 999, 0),
         MemSink::new(rt.alloc(), 999, 999, 0),
     ) else {
-        return Ok(());
+        return;
     };
-    agree(&rt, &canonical(&rt, first), &canonical(&rt, second));
-    Ok(())
+    agree(
+        &rt,
+        &canonical(&rt, &COMMIT, first),
+        &canonical(&rt, &COMMIT, second),
+    );
 }
 
-fn listed(rt: &HostRuntime, mut sink: MemSink) -> Run {
-    let mut source = MemSource::new(&COMMIT, 50, 0);
+/// It has one form with the capture of version 1.
+#[test]
+fn a_canonical_form_of_version_2_is_written(rt: HostRuntime) {
+    let (Ok(first), Ok(second)) = (
+        MemSink::new(rt.alloc(), 999, 999, 0),
+        MemSink::new(rt.alloc(), 999, 999, 0),
+    ) else {
+        return;
+    };
+    agree(
+        &rt,
+        &canonical(&rt, &MIXED, first),
+        &canonical(&rt, &COMMIT, second),
+    );
+}
+
+fn listed(rt: &HostRuntime, capture: &[u8], mut sink: MemSink) -> Run {
+    let mut source = MemSource::new(capture, 50, 0);
     (show(rt.alloc(), hashers(), &mut source, &mut sink), sink)
 }
 
 #[test]
-fn a_listing_is_written(rt: HostRuntime) -> Result<(), Fail> {
+fn a_listing_is_written(rt: HostRuntime) {
     let (Ok(first), Ok(second)) = (
         MemSink::new(rt.alloc(), 999, 999, 0),
         MemSink::new(rt.alloc(), 999, 999, 0),
     ) else {
-        return Ok(());
+        return;
     };
-    agree(&rt, &listed(&rt, first), &listed(&rt, second));
-    Ok(())
+    agree(
+        &rt,
+        &listed(&rt, &COMMIT, first),
+        &listed(&rt, &COMMIT, second),
+    );
+}
+
+#[test]
+fn a_listing_of_version_2_is_written(rt: HostRuntime) {
+    let (Ok(first), Ok(second)) = (
+        MemSink::new(rt.alloc(), 999, 999, 0),
+        MemSink::new(rt.alloc(), 999, 999, 0),
+    ) else {
+        return;
+    };
+    agree(
+        &rt,
+        &listed(&rt, &MIXED, first),
+        &listed(&rt, &COMMIT, second),
+    );
 }
 
 #[test]
 fn a_capture_is_compared_with_itself(rt: HostRuntime) {
-    let mut first = MemSource::new(&COMMIT, 50, 0);
-    let mut second = MemSource::new(&COMMIT, 7, 0);
-    match same(rt.alloc(), hashers(), hashers(), &mut first, &mut second) {
+    are_the_same(&rt, rt.alloc(), &COMMIT, &COMMIT);
+}
+
+#[test]
+fn captures_of_both_versions_are_compared(rt: HostRuntime) {
+    are_the_same(&rt, rt.alloc(), &MIXED, &COMMIT);
+}
+
+#[test]
+fn a_capture_of_version_2_is_the_second(rt: HostRuntime) {
+    are_the_same(&rt, rt.alloc(), &COMMIT, &MIXED);
+}
+
+fn are_the_same(rt: &impl Abort, alloc: Global, one: &[u8], other: &[u8]) {
+    let mut first = MemSource::new(one, 50, 0);
+    let mut second = MemSource::new(other, 7, 0);
+    match same(alloc, hashers(), hashers(), &mut first, &mut second) {
         Ok(verdict) => assert_eq!(rt; verdict, Verdict::Same),
         Err(refused) => assert_eq!(rt; refused.error, Error::Memory),
     }

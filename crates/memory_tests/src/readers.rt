@@ -1,19 +1,27 @@
 // Readers of a capture, and of messages as values.
 
-use crate::samples::{COMMIT, hashers};
+use crate::samples::{COMMIT, MIXED, hashers};
 use capture3::{Entries, Entry, Error, MemSource, Silent, new_block, parse};
 use std::alloc::Global;
 use std::process::Abort;
-use std::test::Fail;
 use typed3::{read_call, read_reply};
 
 #[test]
 fn a_capture_is_parsed(rt: HostRuntime) {
-    match parse(rt.alloc(), &COMMIT) {
+    is_parsed(&rt, rt.alloc(), &COMMIT);
+}
+
+#[test]
+fn a_capture_of_version_2_is_parsed(rt: HostRuntime) {
+    is_parsed(&rt, rt.alloc(), &MIXED);
+}
+
+fn is_parsed(rt: &impl Abort, alloc: Global, capture: &[u8]) {
+    match parse(alloc, capture) {
         Ok(entries) => {
             assert_eq!(rt; entries.len(), 6);
             for entry in entries.iter() {
-                message_is_read(&rt, rt.alloc(), entry);
+                message_is_read(rt, alloc, entry);
             }
         }
         Err(error) => assert_eq!(rt; error, Error::Memory),
@@ -37,22 +45,30 @@ fn message_is_read(rt: &impl Abort, alloc: Global, entry: &Entry) {
     }
 }
 
-/// A reader that met a refused growth answers it for good, and lends nothing.
 #[test]
-fn entries_are_read_one_by_one(rt: HostRuntime) -> Result<(), Fail> {
-    let Ok(block) = new_block(rt.alloc()) else {
-        return Ok(());
+fn entries_are_read_one_by_one(rt: HostRuntime) {
+    are_read(&rt, rt.alloc(), &COMMIT);
+}
+
+#[test]
+fn entries_of_version_2_are_read_one_by_one(rt: HostRuntime) {
+    are_read(&rt, rt.alloc(), &MIXED);
+}
+
+/// A reader that met a refused growth answers it for good, and lends nothing.
+fn are_read(rt: &impl Abort, alloc: Global, capture: &[u8]) {
+    let Ok(block) = new_block(alloc) else {
+        return;
     };
-    let mut source = MemSource::new(&COMMIT, 7, 0);
-    let mut entries = Entries::through(rt.alloc(), hashers().calls, &mut source, block);
+    let mut source = MemSource::new(capture, 7, 0);
+    let mut entries = Entries::through(alloc, hashers().calls, &mut source, block);
     for _ in 0..6 {
         if let Err(error) = entries.next(&mut Silent) {
             assert_eq!(rt; error, Error::Memory);
             assert!(rt; entries.next(&mut Silent).err() == Some(Error::Memory));
             assert!(rt; entries.entry().is_none());
-            return Ok(());
+            return;
         }
     }
     assert!(rt; matches!(entries.next(&mut Silent), Ok(None)));
-    Ok(())
 }

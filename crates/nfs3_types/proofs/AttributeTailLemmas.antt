@@ -4,7 +4,7 @@ use Rattle.xdr3.specs.declared.reason.GetError.{GetError}
 use Rattle.xdr3.specs.Item.{Item}
 use Rattle.xdr3.specs.Scan.{Scans, Stops}
 use Rattle.xdr3.specs.View.{View}
-use Rattle.nfs3_types.specs.AttributeTails.{behind_type, settable_times}
+use Rattle.nfs3_types.specs.machinery.AttributeTails.{behind_type, settable_times}
 use Rattle.nfs3_types.specs.Shapes.{attributes, file_kind, ◌then◌, time_how}
 use Rattle.nfs3_types.specs.Names.{names}
 

@@ -2,5 +2,5 @@
 use Rattle.std.specs.Prelude.{ℕ, List, take}
 use Rattle.nfs3_types.specs.declared.handle.Handle.{Handle}
 
-abbrev pub bytes_of : Handle → List ℕ
-bytes_of handle = take handle.len handle.bytes
+abbrev pub handle_bytes : Handle → List ℕ
+handle_bytes handle = take handle.len handle.bytes

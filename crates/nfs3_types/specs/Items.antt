@@ -14,7 +14,7 @@ use Rattle.nfs3_types.specs.declared.settable.Sattr.{Sattr}
 use Rattle.nfs3_types.specs.declared.status.Status.{Status}
 use Rattle.nfs3_types.specs.declared.handle.Handle as handles
 use Rattle.nfs3_types.specs.FileKind.{file_kind_number}
-use Rattle.nfs3_types.specs.Handle.{bytes_of}
+use Rattle.nfs3_types.specs.Handle.{handle_bytes}
 use Rattle.nfs3_types.specs.Names.{names}
 use Rattle.nfs3_types.specs.Status.{status_number}
 use Rattle.nfs3_types.specs.Times.{time_how_items, time_items}
@@ -26,7 +26,7 @@ abbrev pub file_kind_items : FileKind → List Item
 file_kind_items k = Word names.type (file_kind_number k) ∷ []
 
 abbrev pub handle_items : handles.Handle → List Item
-handle_items h = Opaque Handle names.fh (bytes_of h) ∷ []
+handle_items h = Opaque Handle names.fh (handle_bytes h) ∷ []
 
 abbrev pub attributes_items : Fattr → List Item
 attributes_items f =
@@ -70,4 +70,4 @@ abbrev pub guard_items : Guard → List Item
 guard_items g = optional_items names.check (time_items names.ctime_sec names.ctime_nsec) g.check
 
 abbrev pub dir_op_items : DirOp → List Item
-dir_op_items d = Opaque Handle names.fh (bytes_of d.dir) ∷ Opaque Text names.name d.name.now ∷ []
+dir_op_items d = Opaque Handle names.fh (handle_bytes d.dir) ∷ Opaque Text names.name d.name.now ∷ []

@@ -10,4 +10,4 @@ pub mod Times
 pub mod Items
 pub mod Results
 pub mod Mounts
-pub mod AttributeTails
+pub mod machinery

@@ -29,11 +29,11 @@ mounted_items m = Opaque Text names.hostname m.hostname.now ∷ Opaque Text name
 abbrev pub mount_list_items : MountList → List Item
 mount_list_items l = linked_items names.entry mounted_items l.entries.items
 
-abbrev pub group_items : Group → List Item
-group_items g = Opaque Text names.name g.name.now ∷ []
+abbrev pub export_group_items : Group → List Item
+export_group_items g = Opaque Text names.name g.name.now ∷ []
 
 abbrev pub export_items : Export → List Item
-export_items e = followed_by (Opaque Text names.directory e.directory.now ∷ []) (linked_items names.group group_items e.groups.items)
+export_items e = followed_by (Opaque Text names.directory e.directory.now ∷ []) (linked_items names.group export_group_items e.groups.items)
 
 abbrev pub exports_items : Exports → List Item
 exports_items e = linked_items names.entry export_items e.entries.items

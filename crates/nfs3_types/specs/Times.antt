@@ -1,10 +1,8 @@
 -- The items of times (RFC 1813, sections 2.5 and 2.6). Their names are those of the place where they stand.
-use Rattle.std.specs.Prelude.{ℕ, List, [], ◌∷◌, ◌++◌}
+use Rattle.std.specs.Prelude.{ℕ, List, [], ◌∷◌}
 use Rattle.xdr3.specs.Item.{Item, Word}
 use Rattle.nfs3_types.specs.declared.time.Time.{Time}
 use Rattle.nfs3_types.specs.declared.time.TimeHow.{TimeHow}
-use Rattle.nfs3_types.specs.declared.time.Times.{Times}
-use Rattle.nfs3_types.specs.Names.{names}
 use Rattle.nfs3_types.specs.declared.time.TimeHow.TheVariants.{Keep, Server, Client}
 
 abbrev pub time_items : List ℕ → List ℕ → Time → List Item
@@ -14,8 +12,3 @@ abbrev pub time_how_items : List ℕ → List ℕ → List ℕ → TimeHow → L
 time_how_items name sec nsec Keep = Word name 0 ∷ []
 time_how_items name sec nsec Server = Word name 1 ∷ []
 time_how_items name sec nsec (Client t) = Word name 2 ∷ time_items sec nsec t
-
-abbrev pub times_items : Times → List Item
-times_items t =
-    time_items names.atime_sec names.atime_nsec t.atime
-    ++ (time_items names.mtime_sec names.mtime_nsec t.mtime ++ time_items names.ctime_sec names.ctime_nsec t.ctime)

@@ -22,12 +22,12 @@ pub struct Handle {
 }
 
 impl Handle {
-    ghost use Rattle.nfs3_types.specs.Handle.{bytes_of};
+    ghost use Rattle.nfs3_types.specs.Handle.{handle_bytes};
 
     /// None over 64 bytes.
     pub fn new(bytes: &[u8]) -> Option<Handle>
         ensures long { IsNone result ↔ (64 < length bytes.now) }
-        ensures bytes { IfSome result (λ handle. bytes_of handle ≡ bytes.now) }
+        ensures bytes { IfSome result (λ handle. handle_bytes handle ≡ bytes.now) }
     {
         if bytes.len() <= 64 {
             Some(Handle::from_short(bytes))
@@ -38,7 +38,7 @@ impl Handle {
 
     fn from_short(bytes: &[u8]) -> Handle
         requires { length bytes.now ≤ 64 }
-        ensures { bytes_of result ≡ bytes.now }
+        ensures { handle_bytes result ≡ bytes.now }
     {
         let mut held = [0; 64];
         held[..bytes.len()].copy_from_slice(bytes);
@@ -50,7 +50,7 @@ impl Handle {
 
     /// Its bytes, at most 64.
     pub fn as_slice(&self) -> &[u8]
-        ensures bytes { result.now ≡ bytes_of self.now }
+        ensures bytes { result.now ≡ handle_bytes self.now }
         ensures short { length result.now ≤ 64 }
     {
         &self.bytes[..self.len as usize]
@@ -58,18 +58,18 @@ impl Handle {
 
     /// Whether it is the public handle, which has no bytes.
     pub fn is_public(&self) -> bool
-        ensures { IsTrue result ↔ (bytes_of self.now ≡ []) }
+        ensures { IsTrue result ↔ (handle_bytes self.now ≡ []) }
     {
         self.len == 0
     }
 }
 
 impl PartialEq for Handle {
-    ghost use Rattle.nfs3_types.specs.Handle.{bytes_of};
+    ghost use Rattle.nfs3_types.specs.Handle.{handle_bytes};
 
-    ghost eq = { λ a b. bytes_eq (bytes_of a) (bytes_of b) };
+    ghost eq = { λ a b. bytes_eq (handle_bytes a) (handle_bytes b) };
 
-    ghost laws = { on_per bytes_of (partial_equiv_from_equiv nat_list_eq_equiv) };
+    ghost laws = { on_per handle_bytes (partial_equiv_from_equiv nat_list_eq_equiv) };
 
     fn eq(&self, other: &Handle) -> bool {
         self.as_slice() == other.as_slice()
@@ -77,17 +77,17 @@ impl PartialEq for Handle {
 }
 
 impl Eq for Handle {
-    ghost use Rattle.nfs3_types.specs.Handle.{bytes_of};
+    ghost use Rattle.nfs3_types.specs.Handle.{handle_bytes};
 
-    ghost laws = { on_equiv bytes_of nat_list_eq_equiv };
+    ghost laws = { on_equiv handle_bytes nat_list_eq_equiv };
 }
 
 impl PartialOrd for Handle {
-    ghost use Rattle.nfs3_types.specs.Handle.{bytes_of};
+    ghost use Rattle.nfs3_types.specs.Handle.{handle_bytes};
 
-    ghost partial_cmp = { λ a b. Some (slice_cmp nat_cmp (bytes_of a) (bytes_of b)) };
+    ghost partial_cmp = { λ a b. Some (slice_cmp nat_cmp (handle_bytes a) (handle_bytes b)) };
 
-    ghost laws = { on_po bytes_of texts_po };
+    ghost laws = { on_po handle_bytes texts_po };
 
     fn partial_cmp(&self, other: &Handle) -> Option<Ordering> {
         Some(self.cmp(other))
@@ -95,15 +95,15 @@ impl PartialOrd for Handle {
 }
 
 impl Ord for Handle {
-    ghost use Rattle.nfs3_types.specs.Handle.{bytes_of};
+    ghost use Rattle.nfs3_types.specs.Handle.{handle_bytes};
 
-    ghost cmp = { λ a b. slice_cmp nat_cmp (bytes_of a) (bytes_of b) };
+    ghost cmp = { λ a b. slice_cmp nat_cmp (handle_bytes a) (handle_bytes b) };
 
-    ghost total = { on_total bytes_of nat_list_cmp_total };
+    ghost total = { on_total handle_bytes nat_list_cmp_total };
 
     ghost matches_partial_cmp = { λ a b. refl };
 
-    ghost matches_eq = { λ a b. texts_ties (bytes_of a) (bytes_of b) };
+    ghost matches_eq = { λ a b. texts_ties (handle_bytes a) (handle_bytes b) };
 
     fn cmp(&self, other: &Handle) -> Ordering {
         self.as_slice().cmp(other.as_slice())
@@ -111,9 +111,9 @@ impl Ord for Handle {
 }
 
 impl Hash for Handle {
-    ghost use Rattle.nfs3_types.specs.Handle.{bytes_of};
+    ghost use Rattle.nfs3_types.specs.Handle.{handle_bytes};
 
-    ghost hash_input = { λ handle. bytes_of handle ∷ [] };
+    ghost hash_input = { λ handle. handle_bytes handle ∷ [] };
 
     ghost respects_eq = { Prim.search (hashing, rules) };
 

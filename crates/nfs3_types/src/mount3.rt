@@ -262,9 +262,9 @@ impl<'a> Xdr<'a> for Group<'a> {
 }
 
 impl<'a> Walk for Group<'a> {
-    ghost use Rattle.nfs3_types.specs.Mounts.{group_items};
+    ghost use Rattle.nfs3_types.specs.Mounts.{export_group_items};
 
-    ghost items = { group_items };
+    ghost items = { export_group_items };
 
     #[tactic(auto, unfolding(crate::specs::Names::names))]
     fn walk<V: Visit>(&self, visitor: &mut V) -> Result<(), AllocError> {

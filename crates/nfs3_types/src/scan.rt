@@ -1,7 +1,7 @@
 // Parts that a visitor is told as they are read (RFC 1813, sections 2.5, 2.6 and 5).
 
 ghost use Rattle.std.specs.Prelude.{IfErr, OnOk};
-ghost use Rattle.nfs3_types.specs.AttributeTails.{behind_type, settable_times};
+ghost use Rattle.nfs3_types.specs.machinery.AttributeTails.{behind_type, settable_times};
 ghost use Rattle.nfs3_types.specs.Shapes as shapes;
 ghost use Rattle.xdr3.specs.Item.{Text};
 ghost use Rattle.xdr3.specs.Scan.{Scans, Stops};
@@ -124,7 +124,7 @@ impl Scan for Fattr {
 }
 
 #[inline]
-#[tactic(auto, using(xdr3::proofs::FlatLemmas::flats), unfolding(crate::specs::AttributeTails::behind_type, crate::specs::Shapes::times, crate::specs::Shapes::time, crate::specs::Names::names))]
+#[tactic(auto, using(xdr3::proofs::FlatLemmas::flats), unfolding(crate::specs::machinery::AttributeTails::behind_type, crate::specs::Shapes::times, crate::specs::Shapes::time, crate::specs::Names::names))]
 fn scan_behind_type<V: Visit>(input: &mut Input, visitor: &mut V) -> Result<(), GetError>
     ensures ok { OnOk result
         (Scans V.stands behind_type input.old input.new visitor.old visitor.new) }
@@ -258,7 +258,7 @@ impl Scan for Sattr {
 }
 
 #[inline]
-#[tactic(auto, using(xdr3::proofs::ScanLemmas::scans), unfolding(crate::specs::AttributeTails::settable_times, crate::specs::Names::names))]
+#[tactic(auto, using(xdr3::proofs::ScanLemmas::scans), unfolding(crate::specs::machinery::AttributeTails::settable_times, crate::specs::Names::names))]
 fn scan_settable_times<V: Visit>(input: &mut Input, visitor: &mut V) -> Result<(), GetError>
     ensures ok { OnOk result
         (Scans V.stands settable_times input.old input.new visitor.old visitor.new) }

@@ -236,9 +236,9 @@ impl<'a, T: Xdr<'a> + Drop, F: Xdr<'a> + Drop> Xdr<'a> for Res<T, F> {
 }
 
 impl<T: Walk, F: Walk> Walk for Res<T, F> {
-    ghost use Rattle.nfs3_types.specs.Results.{results_items};
+    ghost use Rattle.nfs3_types.specs.Results.{items_by_status};
 
-    ghost items = { λ r. results_items T.items F.items r };
+    ghost items = { λ r. items_by_status T.items F.items r };
 
     #[tactic(auto, using(xdr3::proofs::Walks::steps), unfolding(crate::specs::Names::names))]
     fn walk<V: Visit>(&self, visitor: &mut V) -> Result<(), AllocError> {

@@ -103,7 +103,7 @@ pub(crate) struct Times {
 
 impl Times {
     ghost use Rattle.nfs3_types.specs.Shapes.{times};
-    ghost use Rattle.nfs3_types.specs.Times.{times_items};
+    ghost use Rattle.nfs3_types.specs.machinery.Times.{times_items};
 
     /// Takes the next six words. `Short` at the one that is not whole.
     #[tactic(auto, unfolding(xdr3::specs::Reading::reading, crate::specs::Shapes::times))]

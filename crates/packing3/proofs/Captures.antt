@@ -4,7 +4,8 @@ use Rattle.std.specs.List.{flat_map}
 use Rattle.record_mark.proofs.Steps.{IsWord-big_bytes}
 use Rattle.record_mark.specs.Word.{Joins}
 use Rattle.xdr3.specs.Item.{word_bytes}
-use Rattle.capture3.specs.Capture.{IsCapture, IsConnection, One, Streams, max_connections, total_size}
+use Rattle.capture3.specs.Capture.{IsCapture, IsConnection, One, max_connections, total_size}
+use Rattle.capture3.specs.SidedChunks.{Streams}
 use Rattle.capture3.specs.Chunks.{IsChunk, IsStream, max_bytes}
 use Rattle.canon3.specs.Bytes.{chunk_bytes}
 use Rattle.packing3.specs.Packed.{AreCut, ArePacked, IsPackedConnection, IsPackedStream, full_size}

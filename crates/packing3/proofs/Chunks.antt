@@ -13,12 +13,12 @@ use Rattle.capture3.specs.declared.fault.Place.TheVariants as places
 use Rattle.xdr3.specs.declared.reason.Reason.TheVariants as reasons
 use Rattle.capture3.specs.Chunks.{max_bytes}
 use Rattle.byteorder.specs.Numbers.{length-bytes_high_first}
-use Rattle.packing3.specs.Stopped.{PassesLimit, Tells}
+use Rattle.packing3.specs.Stopped.{ChunkPassesLimit, Tells}
 use Rattle.canon3.specs.Bytes.{chunk_bytes}
 use Rattle.canon3.specs.SinkWrites.{AppendsFront}
 use Rattle.packing3.specs.declared.stream.Extent.{Extent}
 use Rattle.packing3.specs.Packed.{AreCut, IsPackedStream, full_size}
-use Rattle.packing3.specs.Streaming.{AreFull, Grows, HasChunk, HasFull, HasStream, IsStopped, StopsInChunk, StopsInStream, last_chunk}
+use Rattle.packing3.specs.machinery.Streaming.{AreFull, Grows, HasChunk, HasFull, HasStream, IsStopped, StopsInChunk, StopsInStream, last_chunk}
 use Rattle.packing3.proofs.Stops.{stopped_after, stopped_before, stopped_writing}
 
 -- ---- chunks that are full, and one more
@@ -172,7 +172,7 @@ pub chunk_refused : (l0 l1 w0 : Option (List ℕ)) (e0 : Extent) (error : Error)
     → error ≡ errors.Refused (record { place = places.File e0.at; reason = reasons.TooManyBytes }) → StopsInChunk l0 l1 w0 w0 e0 error
 chunk_refused l0 l1 w0 e0 error chunk n consumed many within room over is =
     let are : flat_map chunk_bytes (last_chunk chunk) ≡ chunk_bytes chunk ++ [] = ap (flat_map chunk_bytes) (last_of chunk (omega (arith, many, room, over))) in
-    let told : PassesLimit (record { place = places.File e0.at; reason = reasons.TooManyBytes }) (e0.at + length {A = ℕ} []) (flat_map chunk_bytes (last_chunk chunk)) (e0.streamed + length chunk) = record {
+    let told : ChunkPassesLimit (record { place = places.File e0.at; reason = reasons.TooManyBytes }) (e0.at + length {A = ℕ} []) (flat_map chunk_bytes (last_chunk chunk)) (e0.streamed + length chunk) = record {
       chunk = chunk;
       more = [];
       begins = are;

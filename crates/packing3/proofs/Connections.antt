@@ -9,7 +9,7 @@ use Rattle.capture3.specs.declared.fault.Error.TheVariants as errors
 use Rattle.canon3.specs.SinkWrites.{AppendsFront}
 use Rattle.canon3.proofs.SinkWritesLemmas.{front_of_first}
 use Rattle.packing3.specs.declared.stream.Extent.{Extent}
-use Rattle.packing3.specs.Streaming.{Grows, HasConnection, HasStream, IsStopped, StopsInConnection, StopsInStream}
+use Rattle.packing3.specs.machinery.Streaming.{Grows, HasConnection, HasStream, IsStopped, StopsInConnection, StopsInStream}
 use Rattle.packing3.proofs.Chunks.{grows_more, packed_none}
 use Rattle.packing3.proofs.Stops.{stopped_after, stopped_before, stopped_writing}
 

@@ -9,15 +9,17 @@ use Rattle.xdr3.specs.Item.{word_bytes}
 use Rattle.capture3.specs.declared.fault.Error.{Error}
 use Rattle.capture3.specs.declared.fault.Error.TheVariants as errors
 use Rattle.capture3.specs.declared.fault.Place.TheVariants as places
-use Rattle.capture3.specs.Capture.{One, Streams, magic, max_connections, size, total_size}
+use Rattle.capture3.specs.Capture.{One, magic, max_connections, total_size}
+use Rattle.capture3.specs.SidedChunks.{Streams, size}
 use Rattle.capture3.specs.Chunks.{max_bytes}
 use Rattle.canon3.specs.SinkWrites.{AppendsFront}
 use Rattle.canon3.proofs.SinkWritesLemmas.{front_of_second}
 use Rattle.packing3.specs.declared.packing.Packing.{Packing}
 use Rattle.packing3.specs.Packed.{ArePacked, IsPackedConnection}
-use Rattle.packing3.specs.Packing.{Adds, FailsToAdd, Finishes, IsFull, StandsFor, ending_of}
+use Rattle.packing3.specs.Packing.{AddsPair, Finishes, HasAdded, ending_of}
+use Rattle.packing3.specs.machinery.Packing.{FailsToAdd, IsFull}
 use Rattle.packing3.specs.Stopped.{HasNoRoom, BreaksOff, Tells}
-use Rattle.packing3.specs.Streaming.{HasConnection, IsStopped, StopsInConnection}
+use Rattle.packing3.specs.machinery.Streaming.{HasConnection, IsStopped, StopsInConnection}
 use Rattle.packing3.proofs.Captures.{is_capture}
 use Rattle.packing3.proofs.Stops.{stopped_after, stopped_before}
 
@@ -35,7 +37,7 @@ total_more (p ∷ pairs) streams = omega (arith, total_more pairs streams)
 
 module _ {W : Type 0} (written : W → Option (List ℕ)) where
   pub added : (old new : Packing W) (first c0 c1 s0 s1 : Option (List ℕ)) (pairs : List Streams) → HasConnection c0 c1 s0 s1 (written old.sink) (written new.sink) old.extent new.extent → new.connections ≡ old.connections + 1 → ending_of new ≡ None
-      → StandsFor written old first pairs → Adds written new first c0 c1 s0 s1 pairs (Ok (tt {0}))
+      → HasAdded written old first pairs → AddsPair written new first c0 c1 s0 s1 pairs (Ok (tt {0}))
   added old new first c0 c1 s0 s1 pairs it count going h = record {
     streams = it.streams;
     from_client = it.from_client;
@@ -56,7 +58,7 @@ module _ {W : Type 0} (written : W → Option (List ℕ)) where
   }
 
   broken_off : (old : Packing W) (first c0 c1 s0 s1 w1 : Option (List ℕ)) (pairs : List Streams) (error : Error) (it : StopsInConnection c0 c1 s0 s1 (written old.sink) w1 old.extent error)
-      → StandsFor written old first pairs → BreaksOff first w1 (pairs ++ it.streams ∷ []) error
+      → HasAdded written old first pairs → BreaksOff first w1 (pairs ++ it.streams ∷ []) error
   broken_off old first c0 c1 s0 s1 w1 pairs error it h =
       let before = old.extent.streamed + size it.streams in
       let all : IsStopped first w1 ((h.front ++ it.bytes) ++ word_bytes 0) 0 before error =
@@ -74,7 +76,7 @@ module _ {W : Type 0} (written : W → Option (List ℕ)) where
       }
 
   no_room : (old : Packing W) (first c0 c1 s0 s1 w1 : Option (List ℕ)) (pairs : List Streams) (error : Error) → IsFull old c0 c1 s0 s1 (written old.sink) w1 error
-      → StandsFor written old first pairs → HasNoRoom first w1 pairs error
+      → HasAdded written old first pairs → HasNoRoom first w1 pairs error
   no_room old first c0 c1 s0 s1 w1 pairs error full h = record {
     front = h.front;
     packed = h.packed;
@@ -84,7 +86,7 @@ module _ {W : Type 0} (written : W → Option (List ℕ)) where
   }
 
   pub not_added : (old new : Packing W) (first c0 c1 s0 s1 : Option (List ℕ)) (pairs : List Streams) (error : Error) → FailsToAdd old c0 c1 s0 s1 (written old.sink) (written new.sink) error
-      → StandsFor written old first pairs → Adds written new first c0 c1 s0 s1 pairs (Err error)
+      → HasAdded written old first pairs → AddsPair written new first c0 c1 s0 s1 pairs (Err error)
   not_added old new first c0 c1 s0 s1 pairs error (inl full) h = record {
     streams = record { client = []; server = [] };
     from_client = subst (λ l. Consumes c0 l []) (sym full.same_client) (Consumes-nil c0);
@@ -100,7 +102,7 @@ module _ {W : Type 0} (written : W → Option (List ℕ)) where
 
   pub finishes : (old : Packing W) (first w1 : Option (List ℕ)) (pairs : List Streams) (result : Result (Unit {0}) Error) → old.connections ≤ max_connections → old.extent.streamed ≤ max_bytes
       → OnOk result (Appends (written old.sink) w1 (word_bytes 0)) → OnErr result (AppendsFront (written old.sink) w1 (word_bytes 0)) → IfErr result (λ error. error ≡ errors.Write)
-      → StandsFor written old first pairs → Finishes first w1 pairs result
+      → HasAdded written old first pairs → Finishes first w1 pairs result
   finishes old first w1 pairs (Ok done) few room whole front is h = record {
     file = h.front ++ word_bytes 0;
     packed = record { front = h.front; split = refl; packed = h.packed };

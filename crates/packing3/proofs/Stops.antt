@@ -8,7 +8,7 @@ use Rattle.capture3.specs.declared.fault.Error.TheVariants as errors
 use Rattle.canon3.specs.Bytes.{chunk_bytes}
 use Rattle.canon3.specs.SinkWrites.{AppendsFront}
 use Rattle.packing3.specs.Stopped.{Tells}
-use Rattle.packing3.specs.Streaming.{IsStopped}
+use Rattle.packing3.specs.machinery.Streaming.{IsStopped}
 
 -- more bytes come at the end
 pub tells_with : (error : Error) (at total : ℕ) (next more : List ℕ) → Tells error at next total → Tells error at (next ++ more) total

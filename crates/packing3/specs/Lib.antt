@@ -2,4 +2,4 @@ pub mod Packed
 pub mod Stopped
 pub mod Devices
 pub mod Packing
-pub mod Streaming
+pub mod machinery

@@ -3,7 +3,8 @@ use Rattle.std.specs.Prelude.{◌≡◌, ℕ, ◌<◌, ◌≤◌, List, [], ◌�
 use Rattle.std.specs.List.{concat, flat_map}
 use Rattle.record_mark.specs.Word.{Joins}
 use Rattle.xdr3.specs.Item.{word_bytes}
-use Rattle.capture3.specs.Capture.{One, magic, Streams}
+use Rattle.capture3.specs.Capture.{One, magic}
+use Rattle.capture3.specs.SidedChunks.{Streams}
 use Rattle.canon3.specs.Bytes.{chunk_bytes}
 
 -- how many bytes a full chunk has

@@ -3,18 +3,16 @@ use Rattle.std.specs.Prelude.{◌≡◌, ◌⊎◌, ℕ, List, [], ◌∷◌, �
 use Rattle.std.specs.Io.KnownBytes.{Appends, Consumes, IsAtEnd}
 use Rattle.capture3.specs.declared.fault.Error.{Error}
 use Rattle.capture3.specs.declared.fault.Error.TheVariants as errors
-use Rattle.capture3.specs.declared.fault.Place.TheVariants as places
-use Rattle.xdr3.specs.declared.reason.Reason.TheVariants as reasons
-use Rattle.capture3.specs.Capture.{One, magic, Streams, total_size, max_connections, IsCapture}
+use Rattle.capture3.specs.Capture.{One, magic, total_size, IsCapture}
+use Rattle.capture3.specs.SidedChunks.{Streams}
 use Rattle.canon3.specs.WriteErrors.{CountsWriting}
 use Rattle.canon3.specs.SinkWrites.{AppendsFront}
 use Rattle.packing3.specs.declared.packing.Packing.{Packing}
 use Rattle.packing3.specs.Packed.{ArePacked, IsPacked}
 use Rattle.packing3.specs.Stopped.{HasNoRoom, BreaksOff}
-use Rattle.packing3.specs.Streaming.{StopsInConnection}
 
 -- the capture of the pairs is written
-pub record HasWritten (old new : Option (List ℕ)) (pairs : List Streams) : Type 0 where
+pub record HasWrittenCapture (old new : Option (List ℕ)) (pairs : List Streams) : Type 0 where
   pub file : List ℕ
   pub packed : IsPacked file pairs
   pub capture : IsCapture One file pairs
@@ -28,7 +26,7 @@ pub record HasWrittenFront (old new : Option (List ℕ)) (pairs : List Streams) 
   pub is : error ≡ errors.Write
 
 abbrev pub Finishes : (old new : Option (List ℕ)) → List Streams → Result (Unit {0}) Error → Type 0
-Finishes old new pairs (Ok done) = HasWritten old new pairs
+Finishes old new pairs (Ok done) = HasWrittenCapture old new pairs
 Finishes old new pairs (Err error) = HasWrittenFront old new pairs error
 
 module _ {W : Type 0} where
@@ -37,7 +35,7 @@ module _ {W : Type 0} where
   ending_of packing = packing.ended
 
   -- The sink held `old` before the start, and was given the magic and the connections of these pairs since.
-  pub record StandsFor (written : W → Option (List ℕ)) (packing : Packing W) (old : Option (List ℕ)) (pairs : List Streams) : Type 0 where
+  pub record HasAdded (written : W → Option (List ℕ)) (packing : Packing W) (old : Option (List ℕ)) (pairs : List Streams) : Type 0 where
     pub going : ending_of packing ≡ None
     pub front : List ℕ
     pub packed : ArePacked front pairs
@@ -49,13 +47,13 @@ module _ {W : Type 0} where
   -- One pair more is added, whose sources are read to their ends. Or no pair has room, and nothing was read or written. Or an error came
   -- while the pair was read and written.
   abbrev pub AddsStreams : (W → Option (List ℕ)) → Packing W → (old client server : Option (List ℕ)) → List Streams → Streams → Result (Unit {0}) Error → Type 0
-  AddsStreams written new old client server pairs streams (Ok done) = IsAtEnd client × IsAtEnd server × StandsFor written new old (pairs ++ streams ∷ [])
+  AddsStreams written new old client server pairs streams (Ok done) = IsAtEnd client × IsAtEnd server × HasAdded written new old (pairs ++ streams ∷ [])
   AddsStreams written new old client server pairs streams (Err error) =
       ((streams ≡ record { client = []; server = [] }) × HasNoRoom old (written new.sink) pairs error)
       ⊎ BreaksOff old (written new.sink) (pairs ++ streams ∷ []) error
 
   -- the same, with the streams that the sources gave in the call
-  pub record Adds (written : W → Option (List ℕ)) (new : Packing W) (old old_client client old_server server : Option (List ℕ)) (pairs : List Streams) (result : Result (Unit {0}) Error) : Type 0 where
+  pub record AddsPair (written : W → Option (List ℕ)) (new : Packing W) (old old_client client old_server server : Option (List ℕ)) (pairs : List Streams) (result : Result (Unit {0}) Error) : Type 0 where
     pub streams : Streams
     pub from_client : Consumes old_client client streams.client
     pub from_server : Consumes old_server server streams.server
@@ -70,18 +68,3 @@ module _ {W : Type 0} where
   abbrev pub CountsStart : (W → ℕ) → W → Result (Packing W) (Error × W) → Type 0
   CountsStart failures sink (Ok packing) = failures packing.sink ≡ failures sink
   CountsStart failures sink (Err failed) = CountsWriting {X = Unit {0}} (failures sink) (failures failed.1) (Err failed.0)
-
-  -- ---- within the crate
-
-  -- no connection has room, and nothing was read or written
-  pub record IsFull (packing : Packing W) (old_client client old_server server old written : Option (List ℕ)) (error : Error) : Type 0 where
-    pub full : packing.connections ≡ max_connections
-    pub is : error ≡ errors.Refused (record { place = places.File packing.extent.at; reason = reasons.TooManyConnections })
-    pub same_client : client ≡ old_client
-    pub same_server : server ≡ old_server
-    pub same_sink : written ≡ old
-
-  abbrev pub FailsToAdd : Packing W → (old_client client old_server server old written : Option (List ℕ)) → Error → Type 0
-  FailsToAdd packing old_client client old_server server old written error =
-      IsFull packing old_client client old_server server old written error
-      ⊎ StopsInConnection old_client client old_server server old written packing.extent error

@@ -6,13 +6,14 @@ use Rattle.capture3.specs.declared.fault.Error.{Error}
 use Rattle.capture3.specs.declared.fault.Error.TheVariants as errors
 use Rattle.capture3.specs.declared.fault.Fault.{Fault}
 use Rattle.capture3.specs.declared.fault.Place.TheVariants as places
-use Rattle.capture3.specs.Capture.{Streams, total_size, max_connections}
+use Rattle.capture3.specs.Capture.{total_size, max_connections}
+use Rattle.capture3.specs.SidedChunks.{Streams}
 use Rattle.capture3.specs.Chunks.{max_bytes}
 use Rattle.canon3.specs.Bytes.{chunk_bytes}
 use Rattle.packing3.specs.Packed.{ArePacked, IsPacked}
 
 -- A chunk comes next. With it the stream bytes of all that was read, `total`, pass the limit, and without it they keep it. The fault is at its length word.
-pub record PassesLimit (fault : Fault) (at : ℕ) (next : List ℕ) (total : ℕ) : Type 0 where
+pub record ChunkPassesLimit (fault : Fault) (at : ℕ) (next : List ℕ) (total : ℕ) : Type 0 where
   pub chunk : List ℕ
   pub more : List ℕ
   pub begins : next ≡ chunk_bytes chunk ++ more
@@ -22,7 +23,7 @@ pub record PassesLimit (fault : Fault) (at : ℕ) (next : List ℕ) (total : ℕ
 
 -- What an error says where `at` bytes of the file are written, and `next` are its other bytes.
 abbrev pub Tells : Error → (at : ℕ) (next : List ℕ) (total : ℕ) → Type 0
-Tells (errors.Refused fault) at next total = PassesLimit fault at next total
+Tells (errors.Refused fault) at next total = ChunkPassesLimit fault at next total
 Tells errors.Read at next total = ⊤
 Tells errors.Write at next total = ⊤
 Tells errors.Memory at next total = ⊥

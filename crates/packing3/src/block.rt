@@ -3,7 +3,7 @@
 ghost use Rattle.std.specs.Prelude.{◌≡◌, ◌≤◌, ◌<◌, length, take, vec_len, IfOk, OnErr};
 ghost use Rattle.std.specs.Io.KnownBytes.{Consumes, IsAtEnd};
 ghost use Rattle.capture3.specs.Device.{Counts};
-ghost use Rattle.packing3.specs.Streaming.{ConsumesFewer};
+ghost use Rattle.packing3.specs.machinery.Streaming.{ConsumesFewer};
 
 use capture3::{DeviceFailed, Source};
 use std::alloc::{AllocError, Global};

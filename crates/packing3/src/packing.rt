@@ -3,13 +3,14 @@
 ghost use Rattle.std.specs.Prelude.{◌≡◌, ◌≤◌, ◌+◌, ◌*◌, ℕ, List, [], Option, None, Some, Err, vec_len, IfErr, IfOk, IsSome, MatchResult, OnErr, OnOk};
 ghost use Rattle.std.specs.Io.KnownBytes.{Appends};
 ghost use Rattle.xdr3.specs.Item.{word_bytes};
-ghost use Rattle.capture3.specs.Capture.{max_connections, Streams};
+ghost use Rattle.capture3.specs.Capture.{max_connections};
+ghost use Rattle.capture3.specs.SidedChunks.{Streams};
 ghost use Rattle.capture3.specs.Chunks.{max_bytes};
 ghost use Rattle.canon3.specs.WriteErrors.{CountsWriting};
 ghost use Rattle.canon3.specs.SinkWrites.{AppendsFront, IsFlushed};
 ghost use Rattle.packing3.specs.Packed.{full_size};
 ghost use Rattle.packing3.specs.Devices.{CountsReadings};
-ghost use Rattle.packing3.specs.Streaming.{HasConnection};
+ghost use Rattle.packing3.specs.machinery.Streaming.{HasConnection};
 
 use crate::block::zeros;
 use crate::stream::{Extent, FULL_CHUNK, write, write_connection};
@@ -39,7 +40,8 @@ pub struct Packing<W> {
 }
 
 impl<W: Sink> Packing<W> {
-    ghost use Rattle.packing3.specs.Packing.{Adds, CountsStart, ending_of, FailsToAdd, FailsToStart, Finishes, StandsFor};
+    ghost use Rattle.packing3.specs.Packing.{AddsPair, CountsStart, ending_of, FailsToStart, Finishes, HasAdded};
+    ghost use Rattle.packing3.specs.machinery.Packing.{FailsToAdd};
 
     /// Takes the memory of one chunk, and writes the magic.
     ///
@@ -48,7 +50,7 @@ impl<W: Sink> Packing<W> {
     /// `Memory`, and nothing is written; or `Write`, and a front of the magic is written. The sink
     /// is given back.
     pub fn start(alloc: Global, mut sink: W) -> Result<Packing<W>, (Error, W)>
-        ensures stands { IfOk result (λ packing. StandsFor W.written packing (W.written sink) []) }
+        ensures stands { IfOk result (λ packing. HasAdded W.written packing (W.written sink) []) }
         ensures err { IfErr result (λ failed. FailsToStart W.written sink failed.0 failed.1) }
         ensures write { CountsStart W.failures sink result }
     {
@@ -86,8 +88,8 @@ impl<W: Sink> Packing<W> {
     /// `finish` what that answered, and nothing is read or written.
     pub fn add<C: Source, S: Source>(&mut self, client: &mut C, server: &mut S) -> Result<(), Error>
         ensures adds { (old : Option (List ℕ)) (pairs : List Streams)
-            → StandsFor W.written self.old old pairs
-            → Adds W.written self.new old
+            → HasAdded W.written self.old old pairs
+            → AddsPair W.written self.new old
             (C.left client.old) (C.left client.new) (S.left server.old) (S.left server.new)
             pairs result }
         ensures ended { ending_of self.old ≡ None
@@ -125,7 +127,7 @@ impl<W: Sink> Packing<W> {
     /// error of `add` that error, and nothing is written.
     pub fn finish(&mut self) -> Result<(), Error>
         ensures finishes { (old : Option (List ℕ)) (pairs : List Streams)
-            → StandsFor W.written self.old old pairs
+            → HasAdded W.written self.old old pairs
             → Finishes old (W.written self.new.sink) pairs result }
         ensures flushes { ending_of self.old ≡ None
             → OnOk result (IsFlushed (W.written self.new.sink) (W.flushed self.new.sink)) }

@@ -8,7 +8,7 @@ ghost use Rattle.canon3.specs.WriteErrors.{CountsWriting};
 ghost use Rattle.canon3.specs.SinkWrites.{AppendsFront};
 ghost use Rattle.packing3.specs.Packed.{full_size};
 ghost use Rattle.packing3.specs.Devices.{CountsReadings};
-ghost use Rattle.packing3.specs.Streaming.{HasChunk, HasConnection, HasStream, GrowsLittle, StopsInChunk, StopsInConnection, StopsInStream};
+ghost use Rattle.packing3.specs.machinery.Streaming.{HasChunk, HasConnection, HasStream, GrowsLittle, StopsInChunk, StopsInConnection, StopsInStream};
 
 use crate::block::fill;
 use canon3::{Sink, write_all};

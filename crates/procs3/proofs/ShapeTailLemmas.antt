@@ -7,7 +7,7 @@ use Rattle.xdr3.specs.Shape.{word}
 use Rattle.xdr3.specs.View.{View}
 use Rattle.nfs3_types.specs.Names.{names}
 use Rattle.nfs3_types.specs.Shapes.{◌then◌}
-use Rattle.procs3.specs.ShapeTails.{directory_counts, fsinfo_numbers, fsinfo_parts, fsstat_numbers, fsstat_parts, pathconf_limits, pathconf_names, pathconf_parts, range, range_parts, write_parts, written}
+use Rattle.procs3.specs.machinery.ShapeTails.{directory_counts, fsinfo_numbers, fsinfo_parts, fsstat_numbers, fsstat_parts, pathconf_limits, pathconf_names, pathconf_parts, range, range_parts, write_parts, written}
 use Rattle.procs3.specs.Shapes.{file_range, fsinfo_ok, fsstat_ok, pathconf_ok, write_args}
 
 pub write_args_scanned : {V : Type 0} (stands : V → List Item → Type 0) (v0 v1 : View) (s0 s1 : V) → Scans stands write_parts v0 v1 s0 s1 → Scans stands write_args v0 v1 s0 s1

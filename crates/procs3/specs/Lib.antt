@@ -2,4 +2,4 @@
 pub mod Shapes
 pub mod Table
 pub mod Names
-pub mod ShapeTails
+pub mod machinery

@@ -1,15 +1,15 @@
 // The names of procedures.
 
 ghost use Rattle.std.specs.Prelude.{◌≡◌, IfSome, IsNone, Some, None};
-ghost use Rattle.procs3.specs.Names.{mount_name, name_of, nfs_name};
+ghost use Rattle.procs3.specs.Names.{mount_name, name_of_procedure, nfs_name};
 
 use rpc_head::ProcId;
 
 /// The name of a procedure of NFS version 3 or MOUNT version 3 (RFC 1813, sections 3.3 and 5.2), and none
 /// of any other.
 pub fn proc_name(id: ProcId) -> Option<&'static str>
-    ensures name { IfSome result (λ name. name_of id ≡ Some name.now) }
-    ensures none { IsNone result → name_of id ≡ None }
+    ensures name { IfSome result (λ name. name_of_procedure id ≡ Some name.now) }
+    ensures none { IsNone result → name_of_procedure id ≡ None }
 {
     match (id.prog, id.vers) {
         (100_003, 3) => nfs_name(id.proc_no),

@@ -1,7 +1,7 @@
 // Arguments and results that a visitor is told as they are read (RFC 1813, sections 3.3 and 5.2).
 
 ghost use Rattle.std.specs.Prelude.{IfErr, OnOk};
-ghost use Rattle.procs3.specs.ShapeTails.{directory_counts, fsinfo_numbers, fsinfo_parts, fsstat_numbers, fsstat_parts, pathconf_limits, pathconf_names, pathconf_parts, range, range_parts, write_parts, written};
+ghost use Rattle.procs3.specs.machinery.ShapeTails.{directory_counts, fsinfo_numbers, fsinfo_parts, fsstat_numbers, fsstat_parts, pathconf_limits, pathconf_names, pathconf_parts, range, range_parts, write_parts, written};
 ghost use Rattle.xdr3.specs.Scan.{Scans, Stops};
 
 use crate::scan_items::{
@@ -95,7 +95,7 @@ impl Scan for FileRange {
 }
 
 #[inline]
-#[tactic(auto, using(xdr3::proofs::ScanLemmas::scans), unfolding(crate::specs::ShapeTails::range_parts))]
+#[tactic(auto, using(xdr3::proofs::ScanLemmas::scans), unfolding(crate::specs::machinery::ShapeTails::range_parts))]
 fn scan_range_parts<V: Visit>(input: &mut Input, visitor: &mut V) -> Result<(), GetError>
     ensures ok { OnOk result
         (Scans V.stands range_parts input.old input.new visitor.old visitor.new) }
@@ -109,7 +109,7 @@ fn scan_range_parts<V: Visit>(input: &mut Input, visitor: &mut V) -> Result<(), 
 const RANGE: [PlainField; 2] = [PlainField::Hyper("offset"), PlainField::Word("count")];
 
 #[inline]
-#[tactic(auto, using(xdr3::proofs::FlatLemmas::flats), unfolding(crate::specs::ShapeTails::range, nfs3_types::specs::Names::names))]
+#[tactic(auto, using(xdr3::proofs::FlatLemmas::flats), unfolding(crate::specs::machinery::ShapeTails::range, nfs3_types::specs::Names::names))]
 fn scan_range<V: Visit>(input: &mut Input, visitor: &mut V) -> Result<(), GetError>
     ensures ok { OnOk result (Scans V.stands range input.old input.new visitor.old visitor.new) }
     ensures err { IfErr result (λ error. Stops range input.old error) }
@@ -150,7 +150,7 @@ impl Scan for WriteArgs {
 }
 
 #[inline]
-#[tactic(auto, using(xdr3::proofs::ScanLemmas::scans), unfolding(crate::specs::ShapeTails::write_parts, nfs3_types::specs::Names::names))]
+#[tactic(auto, using(xdr3::proofs::ScanLemmas::scans), unfolding(crate::specs::machinery::ShapeTails::write_parts, nfs3_types::specs::Names::names))]
 fn scan_write_parts<V: Visit>(input: &mut Input, visitor: &mut V) -> Result<(), GetError>
     ensures ok { OnOk result
         (Scans V.stands write_parts input.old input.new visitor.old visitor.new) }
@@ -163,7 +163,7 @@ fn scan_write_parts<V: Visit>(input: &mut Input, visitor: &mut V) -> Result<(), 
 }
 
 #[inline]
-#[tactic(auto, using(xdr3::proofs::ScanLemmas::scans), unfolding(crate::specs::ShapeTails::written, nfs3_types::specs::Names::names))]
+#[tactic(auto, using(xdr3::proofs::ScanLemmas::scans), unfolding(crate::specs::machinery::ShapeTails::written, nfs3_types::specs::Names::names))]
 fn scan_written<V: Visit>(input: &mut Input, visitor: &mut V) -> Result<(), GetError>
     ensures ok { OnOk result (Scans V.stands written input.old input.new visitor.old visitor.new) }
     ensures err { IfErr result (λ error. Stops written input.old error) }
@@ -484,7 +484,7 @@ impl Scan for ReadDirPlusArgs {
 }
 
 #[inline]
-#[tactic(auto, using(xdr3::proofs::ScanLemmas::scans), unfolding(crate::specs::ShapeTails::directory_counts, nfs3_types::specs::Names::names))]
+#[tactic(auto, using(xdr3::proofs::ScanLemmas::scans), unfolding(crate::specs::machinery::ShapeTails::directory_counts, nfs3_types::specs::Names::names))]
 fn scan_directory_counts<V: Visit>(input: &mut Input, visitor: &mut V) -> Result<(), GetError>
     ensures ok { OnOk result
         (Scans V.stands directory_counts input.old input.new visitor.old visitor.new) }
@@ -548,7 +548,7 @@ impl Scan for FsStatOk {
 }
 
 #[inline]
-#[tactic(auto, using(xdr3::proofs::ScanLemmas::scans), unfolding(crate::specs::ShapeTails::fsstat_parts))]
+#[tactic(auto, using(xdr3::proofs::ScanLemmas::scans), unfolding(crate::specs::machinery::ShapeTails::fsstat_parts))]
 fn scan_fsstat_parts<V: Visit>(input: &mut Input, visitor: &mut V) -> Result<(), GetError>
     ensures ok { OnOk result
         (Scans V.stands fsstat_parts input.old input.new visitor.old visitor.new) }
@@ -570,7 +570,7 @@ const FSSTAT: [PlainField; 7] = [
 ];
 
 #[inline]
-#[tactic(auto, using(xdr3::proofs::FlatLemmas::flats), unfolding(crate::specs::ShapeTails::fsstat_numbers, nfs3_types::specs::Names::names))]
+#[tactic(auto, using(xdr3::proofs::FlatLemmas::flats), unfolding(crate::specs::machinery::ShapeTails::fsstat_numbers, nfs3_types::specs::Names::names))]
 fn scan_fsstat_numbers<V: Visit>(input: &mut Input, visitor: &mut V) -> Result<(), GetError>
     ensures ok { OnOk result
         (Scans V.stands fsstat_numbers input.old input.new visitor.old visitor.new) }
@@ -595,7 +595,7 @@ impl Scan for FsInfoOk {
 }
 
 #[inline]
-#[tactic(auto, using(xdr3::proofs::ScanLemmas::scans), unfolding(crate::specs::ShapeTails::fsinfo_parts))]
+#[tactic(auto, using(xdr3::proofs::ScanLemmas::scans), unfolding(crate::specs::machinery::ShapeTails::fsinfo_parts))]
 fn scan_fsinfo_parts<V: Visit>(input: &mut Input, visitor: &mut V) -> Result<(), GetError>
     ensures ok { OnOk result
         (Scans V.stands fsinfo_parts input.old input.new visitor.old visitor.new) }
@@ -621,7 +621,7 @@ const FSINFO: [PlainField; 11] = [
 ];
 
 #[inline]
-#[tactic(auto, using(xdr3::proofs::FlatLemmas::flats), unfolding(crate::specs::ShapeTails::fsinfo_numbers, nfs3_types::specs::Shapes::time, nfs3_types::specs::Names::names))]
+#[tactic(auto, using(xdr3::proofs::FlatLemmas::flats), unfolding(crate::specs::machinery::ShapeTails::fsinfo_numbers, nfs3_types::specs::Shapes::time, nfs3_types::specs::Names::names))]
 fn scan_fsinfo_numbers<V: Visit>(input: &mut Input, visitor: &mut V) -> Result<(), GetError>
     ensures ok { OnOk result
         (Scans V.stands fsinfo_numbers input.old input.new visitor.old visitor.new) }
@@ -646,7 +646,7 @@ impl Scan for PathConfOk {
 }
 
 #[inline]
-#[tactic(auto, using(xdr3::proofs::ScanLemmas::scans), unfolding(crate::specs::ShapeTails::pathconf_parts, nfs3_types::specs::Names::names))]
+#[tactic(auto, using(xdr3::proofs::ScanLemmas::scans), unfolding(crate::specs::machinery::ShapeTails::pathconf_parts, nfs3_types::specs::Names::names))]
 fn scan_pathconf_parts<V: Visit>(input: &mut Input, visitor: &mut V) -> Result<(), GetError>
     ensures ok { OnOk result
         (Scans V.stands pathconf_parts input.old input.new visitor.old visitor.new) }
@@ -657,7 +657,7 @@ fn scan_pathconf_parts<V: Visit>(input: &mut Input, visitor: &mut V) -> Result<(
 }
 
 #[inline]
-#[tactic(auto, using(xdr3::proofs::ScanLemmas::scans), unfolding(crate::specs::ShapeTails::pathconf_limits, nfs3_types::specs::Names::names))]
+#[tactic(auto, using(xdr3::proofs::ScanLemmas::scans), unfolding(crate::specs::machinery::ShapeTails::pathconf_limits, nfs3_types::specs::Names::names))]
 fn scan_pathconf_limits<V: Visit>(input: &mut Input, visitor: &mut V) -> Result<(), GetError>
     ensures ok { OnOk result
         (Scans V.stands pathconf_limits input.old input.new visitor.old visitor.new) }
@@ -669,7 +669,7 @@ fn scan_pathconf_limits<V: Visit>(input: &mut Input, visitor: &mut V) -> Result<
 }
 
 #[inline]
-#[tactic(auto, using(xdr3::proofs::ScanLemmas::scans), unfolding(crate::specs::ShapeTails::pathconf_names, nfs3_types::specs::Names::names))]
+#[tactic(auto, using(xdr3::proofs::ScanLemmas::scans), unfolding(crate::specs::machinery::ShapeTails::pathconf_names, nfs3_types::specs::Names::names))]
 fn scan_pathconf_names<V: Visit>(input: &mut Input, visitor: &mut V) -> Result<(), GetError>
     ensures ok { OnOk result
         (Scans V.stands pathconf_names input.old input.new visitor.old visitor.new) }

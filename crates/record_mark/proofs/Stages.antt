@@ -4,7 +4,8 @@ use Rattle.record_mark.specs.declared.join.Stage.{Stage}
 use Rattle.record_mark.specs.declared.join.Stage.TheVariants.{Unbegun, Header, Fragment, Done, Refused, Starved}
 use Rattle.record_mark.specs.RecordMark.{HasBody}
 use Rattle.record_mark.specs.Taking.{Taking, Led, OutOfMemory, HasTaken, IsRunning, unbegun}
-use Rattle.record_mark.specs.Stage.{taking_at, IsSoundAt, IsOpenAt}
+use Rattle.record_mark.specs.Stage.{taking_at, IsSoundAt}
+use Rattle.record_mark.specs.machinery.Stage.{IsOpenAt}
 use Rattle.record_mark.proofs.Takings.{led_by, has_body}
 use Rattle.record_mark.proofs.Outcomes.{too_long_alone}
 

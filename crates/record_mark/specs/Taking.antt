@@ -1,8 +1,8 @@
 -- What a joiner of records has taken, and what a piece more of bytes comes to.
 use Rattle.std.specs.Prelude.{◌≡◌, ◌≤◌, ℕ, List, [], ◌++◌, length, take}
-use Rattle.record_mark.specs.Machine.{Run, Runs, Stops, Stopped, after}
+use Rattle.record_mark.specs.Machine.{Run, Runs, Stops, Stopped}
 use Rattle.record_mark.specs.RecordMark.{IsRecord, IsTooLong, IsUnfinished}
-use Rattle.record_mark.specs.Joining.{Joining, Between, Header, Bytes, Joined, Whole, join_next, HasJoined, EndsRecord}
+use Rattle.record_mark.specs.Joining.{Joining, Between, Header, Bytes, Joined, Whole, HasJoined, EndsRecord}
 
 -- the bytes taken have led the machine here; or memory ran out, so that some of them are lost
 pub data Taking : Type 0 where
@@ -51,11 +51,6 @@ abbrev pub body_of : Taking → List ℕ
 body_of (Led (Runs s)) = joined_body s
 body_of (Led (Stops (Whole body))) = body
 body_of _ = []
-
--- bytes more
-abbrev pub led_on : Taking → List ℕ → Taking
-led_on (Led run) bytes = Led (after join_next run bytes)
-led_on OutOfMemory bytes = OutOfMemory
 
 -- the first n bytes of the piece make the record whole
 abbrev pub EndsWithin : List ℕ → List ℕ → ℕ → Type 0

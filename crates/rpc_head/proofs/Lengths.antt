@@ -8,7 +8,7 @@ use Rattle.rpc_head.specs.declared.credential.AuthSys.{AuthSys}
 use Rattle.rpc_head.specs.Credentials.{parameter_items}
 use Rattle.rpc_head.specs.Gids.{groups_of}
 use Rattle.rpc_head.specs.Groups.{count_items, group_items}
-use Rattle.rpc_head.specs.Names.{names}
+use Rattle.rpc_head.specs.Names.{head_names}
 
 groups_length : (groups : List ℕ) → length (zero_spelling (flat_map group_items groups)) ≡ 4 * length groups
 groups_length [] = omega arith
@@ -21,12 +21,12 @@ opaque_length name bytes =
 pub body_length : (s : AuthSys) → length (zero_spelling (parameter_items s)) ≡ 20 + (length s.machinename.now + residue (length s.machinename.now)) + 4 * length (groups_of s.gids)
 unfolding followed_by
 body_length s =
-    let front : List Item = Word names.stamp s.stamp ∷ Opaque Text names.machinename s.machinename.now ∷ Word names.uid s.uid ∷ Word names.gid s.gid ∷ [] in
-    let name = zero_spelling_of (Opaque Text names.machinename s.machinename.now) in
+    let front : List Item = Word head_names.stamp s.stamp ∷ Opaque Text head_names.machinename s.machinename.now ∷ Word head_names.uid s.uid ∷ Word head_names.gid s.gid ∷ [] in
+    let name = zero_spelling_of (Opaque Text head_names.machinename s.machinename.now) in
     omega (
       arith,
       length-zero_spelling front (count_items (groups_of s.gids)),
       length-append name (word_bytes s.uid ++ (word_bytes s.gid ++ [])),
-      opaque_length names.machinename s.machinename.now,
+      opaque_length head_names.machinename s.machinename.now,
       groups_length (groups_of s.gids),
     )

@@ -13,7 +13,7 @@ use Rattle.rpc_head.specs.declared.call.ProcId.{ProcId}
 use Rattle.rpc_head.specs.declared.message.Start.{Start}
 use Rattle.rpc_head.specs.HeadScan.{procedure_told, tells_success}
 use Rattle.rpc_head.specs.Messages.{call_layout, call_start, has_results, procedure_in, reply_layout, reply_start}
-use Rattle.rpc_head.specs.Names.{names}
+use Rattle.rpc_head.specs.Names.{head_names}
 use Rattle.rpc_head.specs.Shapes.{◌then◌, call_head, credential, message_start, message_types, reply_head, rpc_versions, verifier}
 use Rattle.rpc_head.specs.Starts.{start_items}
 
@@ -40,14 +40,14 @@ one_read name accepted body at z e =
     let n = bind_ok (word_at accepted BadEnum body at) (λ n. Ok (Word name n.0 ∷ [], n.1)) z e in
     (n.0, n.1, ok_is (Word name n.0.0 ∷ [], n.0.1) z n.2)
 
-types_narrowed : (fewer body : List ℕ) (s : Start) (at to : ℕ) → reading message_start body at ≡ Ok (start_items s, to) → is_listed fewer (word_of s.is_reply) ≡ true → reading (word names.xid then listed names.mtype fewer) body at ≡ Ok (start_items s, to)
+types_narrowed : (fewer body : List ℕ) (s : Start) (at to : ℕ) → reading message_start body at ≡ Ok (start_items s, to) → is_listed fewer (word_of s.is_reply) ≡ true → reading (word head_names.xid then listed head_names.mtype fewer) body at ≡ Ok (start_items s, to)
 unfolding message_start reading
 types_narrowed fewer body s at to e is =
-    let z = both_read (word names.xid) (listed names.mtype message_types) body at (start_items s, to) e in
-    let x = one_read names.xid is_any body at z.0 z.2 in
-    let y = one_read names.mtype (is_listed message_types) body z.0.1 z.1 z.3 in
-    let whole : (Word names.xid x.0.0 ∷ Word names.mtype y.0.0 ∷ [], y.0.1) ≡ (start_items s, to) =
-    ap (λ (v : List Item × ℕ). (Word names.xid x.0.0 ∷ v.0, v.1)) y.2 ∙ ap (λ (v : List Item × ℕ). (v.0 ++ z.1.0, z.1.1)) x.2 ∙ z.4 in
+    let z = both_read (word head_names.xid) (listed head_names.mtype message_types) body at (start_items s, to) e in
+    let x = one_read head_names.xid is_any body at z.0 z.2 in
+    let y = one_read head_names.mtype (is_listed message_types) body z.0.1 z.1 z.3 in
+    let whole : (Word head_names.xid x.0.0 ∷ Word head_names.mtype y.0.0 ∷ [], y.0.1) ≡ (start_items s, to) =
+    ap (λ (v : List Item × ℕ). (Word head_names.xid x.0.0 ∷ v.0, v.1)) y.2 ∙ ap (λ (v : List Item × ℕ). (v.0 ++ z.1.0, z.1.1)) x.2 ∙ z.4 in
     let mtype : y.0.0 ≡ word_of s.is_reply = cc (ap (λ (v : List Item × ℕ). v.0) whole) in
     let accepted : is_listed fewer y.0.0 ≡ true = subst (λ n. is_listed fewer n ≡ true) (sym mtype) is in
     let place : z.0.1 ≡ x.0.1 = sym (ap (λ (v : List Item × ℕ). v.1) x.2) in
@@ -85,16 +85,16 @@ pub procedure_read : (body : List ℕ) (xs more : List Item) (at to : ℕ) → r
 unfolding reading call_head
 procedure_read body xs more at to e =
     let last = credential then verifier in
-    let n = bind_ok (word_at (is_listed rpc_versions) RpcVersion body at) (λ n. reading (word names.prog then word names.vers then word names.proc then last) body n.1 >>= λ l. Ok (Word names.rpcvers n.0 ∷ l.0, l.1)) (xs, to) e in
-    let m = bind_ok (reading (word names.prog then word names.vers then word names.proc then last) body n.0.1) (λ l. Ok (Word names.rpcvers n.0.0 ∷ l.0, l.1)) (xs, to) n.2 in
-    let all = ok_is (Word names.rpcvers n.0.0 ∷ m.0.0, m.0.1) (xs, to) m.2 in
-    let prog = then_word names.prog (word names.vers then word names.proc then last) body n.0.1 m.0 m.1 in
-    let vers = then_word names.vers (word names.proc then last) body prog.2 prog.1 prog.3 in
-    let proc = then_word names.proc last body vers.2 vers.1 vers.3 in
-    let are : Word names.rpcvers n.0.0 ∷ Word names.prog prog.0 ∷ Word names.vers vers.0 ∷ Word names.proc proc.0 ∷ proc.1.0 ≡ xs =
-    ap (λ (l : List Item). Word names.rpcvers n.0.0 ∷ Word names.prog prog.0 ∷ Word names.vers vers.0 ∷ l) (sym proc.4)
-    ∙ ap (λ (l : List Item). Word names.rpcvers n.0.0 ∷ Word names.prog prog.0 ∷ l) (sym vers.4)
-    ∙ ap (λ (l : List Item). Word names.rpcvers n.0.0 ∷ l) (sym prog.4)
+    let n = bind_ok (word_at (is_listed rpc_versions) RpcVersion body at) (λ n. reading (word head_names.prog then word head_names.vers then word head_names.proc then last) body n.1 >>= λ l. Ok (Word head_names.rpcvers n.0 ∷ l.0, l.1)) (xs, to) e in
+    let m = bind_ok (reading (word head_names.prog then word head_names.vers then word head_names.proc then last) body n.0.1) (λ l. Ok (Word head_names.rpcvers n.0.0 ∷ l.0, l.1)) (xs, to) n.2 in
+    let all = ok_is (Word head_names.rpcvers n.0.0 ∷ m.0.0, m.0.1) (xs, to) m.2 in
+    let prog = then_word head_names.prog (word head_names.vers then word head_names.proc then last) body n.0.1 m.0 m.1 in
+    let vers = then_word head_names.vers (word head_names.proc then last) body prog.2 prog.1 prog.3 in
+    let proc = then_word head_names.proc last body vers.2 vers.1 vers.3 in
+    let are : Word head_names.rpcvers n.0.0 ∷ Word head_names.prog prog.0 ∷ Word head_names.vers vers.0 ∷ Word head_names.proc proc.0 ∷ proc.1.0 ≡ xs =
+    ap (λ (l : List Item). Word head_names.rpcvers n.0.0 ∷ Word head_names.prog prog.0 ∷ Word head_names.vers vers.0 ∷ l) (sym proc.4)
+    ∙ ap (λ (l : List Item). Word head_names.rpcvers n.0.0 ∷ Word head_names.prog prog.0 ∷ l) (sym vers.4)
+    ∙ ap (λ (l : List Item). Word head_names.rpcvers n.0.0 ∷ l) (sym prog.4)
     ∙ ap (λ (v : List Item × ℕ). v.0) all in
     subst (λ (l : List Item). procedure_told (l ++ more) ≡ procedure_told l) are refl
 

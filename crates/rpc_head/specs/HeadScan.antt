@@ -1,13 +1,12 @@
 -- Heads that are read and told at once.
-use Rattle.std.specs.Prelude.{◌≡◌, ℕ, Bool, ◌==◌, ◌&&◌, List, Ok}
+use Rattle.std.specs.Prelude.{◌≡◌, Bool, ◌==◌, ◌&&◌, List, Ok}
 use Rattle.xdr3.specs.Layout.{word_in}
 use Rattle.xdr3.specs.Item.{Item}
 use Rattle.xdr3.specs.Reading.{reading}
-use Rattle.xdr3.specs.Shape.{Shape}
 use Rattle.xdr3.specs.View.{MovesOn, View}
 use Rattle.xdr3.specs.Visit.{Adds}
 use Rattle.rpc_head.specs.declared.call.ProcId.{ProcId}
-use Rattle.rpc_head.specs.Shapes.{◌then◌, accept, call_head, credential, reply_head, verifier}
+use Rattle.rpc_head.specs.Shapes.{call_head, reply_head}
 
 -- the items of a call's head begin with rpcvers, prog, vers and proc (RFC 5531, section 9)
 abbrev pub procedure_told : List Item → ProcId
@@ -28,16 +27,4 @@ ScansCallHead stands id old new before after =
 unfoldable pub ScansReplyHead : {V : Type 0} → (V → List Item → Type 0) → Bool → View → View → V → V → Type 0
 ScansReplyHead stands success old new before after =
     (items : List Item) × (reading reply_head old.body old.at ≡ Ok (items, new.at)) × (tells_success items ≡ success) × MovesOn old new
-    × Adds stands before after items
-
--- ---- within the crate
-
--- the end of a call's head
-unfoldable pub credentials : Shape
-credentials = credential then verifier
-
--- the items of an accepted reply's head from the accept_stat on, which is this
-unfoldable pub ScansAccept : {V : Type 0} → (V → List Item → Type 0) → ℕ → View → View → V → V → Type 0
-ScansAccept stands stat old new before after =
-    (items : List Item) × (reading accept old.body old.at ≡ Ok (items, new.at)) × (word_in items 0 ≡ stat) × MovesOn old new
     × Adds stands before after items

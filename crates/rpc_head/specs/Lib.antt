@@ -9,3 +9,4 @@ pub mod Replies
 pub mod Messages
 pub mod Examples
 pub mod HeadScan
+pub mod machinery

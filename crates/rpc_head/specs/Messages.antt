@@ -1,18 +1,18 @@
 -- How whole messages are laid out (RFC 5531, section 9).
-use Rattle.std.specs.Prelude.{ℕ, Bool, ◌==◌, ◌&&◌, if◌then◌else◌, List, [], ◌∷◌}
+use Rattle.std.specs.Prelude.{Bool, ◌==◌, ◌&&◌, if◌then◌else◌, List, [], ◌∷◌}
 use Rattle.xdr3.specs.Item.{Item}
 use Rattle.xdr3.specs.Layout.{Layout, after, exactly, word_in}
 use Rattle.xdr3.specs.Shape.{Shape, listed, nothing, word}
 use Rattle.rpc_head.specs.declared.call.ProcId.{ProcId}
-use Rattle.rpc_head.specs.Names.{names}
+use Rattle.rpc_head.specs.Names.{head_names}
 use Rattle.rpc_head.specs.Shapes.{◌then◌, call_head, reply_head}
 
 -- an mtype is CALL (0) in a call and REPLY (1) in a reply (RFC 5531, section 9)
 unfoldable pub call_start : Shape
-call_start = word names.xid then listed names.mtype (0 ∷ [])
+call_start = word head_names.xid then listed head_names.mtype (0 ∷ [])
 
 unfoldable pub reply_start : Shape
-reply_start = word names.xid then listed names.mtype (1 ∷ [])
+reply_start = word head_names.xid then listed head_names.mtype (1 ∷ [])
 
 -- a call's items begin with xid, mtype, rpcvers, prog, vers and proc
 abbrev pub procedure_in : List Item → ProcId

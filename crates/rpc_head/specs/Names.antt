@@ -1,7 +1,7 @@
 -- The names of items, as the fields of RFC 5531 (section 9, appendix A). They stay folded in proofs, save where a walk says them.
 use Rattle.std.specs.Prelude.{ℕ, List, codes}
 
-pub record Names : Type 0 where
+pub record HeadNames : Type 0 where
   pub xid : List ℕ
   pub mtype : List ℕ
   pub rpcvers : List ℕ
@@ -26,8 +26,8 @@ pub record Names : Type 0 where
   pub reject_stat : List ℕ
   pub auth_stat : List ℕ
 
-unfoldable pub names : Names
-names = record {
+unfoldable pub head_names : HeadNames
+head_names = record {
   xid = codes "xid";
   mtype = codes "mtype";
   rpcvers = codes "rpcvers";

@@ -5,12 +5,12 @@ use Rattle.xdr3.specs.Item.{Item, Word}
 use Rattle.xdr3.specs.Shape.{Reads, Refuses}
 use Rattle.xdr3.specs.View.{View, word_of}
 use Rattle.rpc_head.specs.declared.message.Start.{Start}
-use Rattle.rpc_head.specs.Names.{names}
+use Rattle.rpc_head.specs.Names.{head_names}
 use Rattle.rpc_head.specs.Shapes.{message_start}
 
 -- the mtype is 1 in a reply, and 0 in a call
 abbrev pub start_items : Start → List Item
-start_items s = Word names.xid s.xid ∷ Word names.mtype (word_of s.is_reply) ∷ []
+start_items s = Word head_names.xid s.xid ∷ Word head_names.mtype (word_of s.is_reply) ∷ []
 
 -- The start's items stand between the old place and the new one. A stop is where and why the bytes from the old place on are
 -- refused.

@@ -48,7 +48,7 @@ impl Gids {
         })
     }
 
-    #[tactic(auto, using(xdr3::proofs::Walks::walks), unfolding(xdr3::specs::Visit::AreWithinLimit, crate::specs::Names::names))]
+    #[tactic(auto, using(xdr3::proofs::Walks::walks), unfolding(xdr3::specs::Visit::AreWithinLimit, crate::specs::Names::head_names))]
     fn walk<V: Visit>(&self, visitor: &mut V) -> Result<(), AllocError>
         ensures ok { OnOk result (Adds V.stands visitor.old visitor.new
             (count_items (groups_of self.now))) }
@@ -112,7 +112,7 @@ impl<'a> Walk for AuthSys<'a> {
 
     ghost items = { auth_sys_items };
 
-    #[tactic(auto, using(xdr3::proofs::Walks::steps), unfolding(crate::specs::Names::names))]
+    #[tactic(auto, using(xdr3::proofs::Walks::steps), unfolding(crate::specs::Names::head_names))]
     fn walk<V: Visit>(&self, visitor: &mut V) -> Result<(), AllocError> {
         visitor.word("cred_length", self.body_len())?;
         Parameters(*self).walk(visitor)?;
@@ -151,7 +151,7 @@ impl<'a> Walk for Parameters<'a> {
 
     ghost items = { λ p. parameter_items p.0 };
 
-    #[tactic(auto, using(xdr3::proofs::Walks::steps), unfolding(crate::specs::Names::names))]
+    #[tactic(auto, using(xdr3::proofs::Walks::steps), unfolding(crate::specs::Names::head_names))]
     fn walk<V: Visit>(&self, visitor: &mut V) -> Result<(), AllocError> {
         let all = [
             Field::Word("stamp", self.0.stamp),
@@ -196,7 +196,7 @@ impl<'a> Walk for Cred<'a> {
 
     ghost items = { credential_items };
 
-    #[tactic(auto, using(xdr3::proofs::Walks::steps), unfolding(crate::specs::Names::names))]
+    #[tactic(auto, using(xdr3::proofs::Walks::steps), unfolding(crate::specs::Names::head_names))]
     fn walk<V: Visit>(&self, visitor: &mut V) -> Result<(), AllocError> {
         match self {
             Cred::Plain(body) => {
@@ -238,7 +238,7 @@ impl<'a> Walk for Verf<'a> {
 
     ghost items = { verifier_items };
 
-    #[tactic(auto, unfolding(crate::specs::Names::names))]
+    #[tactic(auto, unfolding(crate::specs::Names::head_names))]
     fn walk<V: Visit>(&self, visitor: &mut V) -> Result<(), AllocError> {
         let all = [
             Field::Word("verf_flavor", 0),

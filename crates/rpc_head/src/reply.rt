@@ -43,7 +43,7 @@ impl Walk for Accept {
 
     ghost items = { accept_items };
 
-    #[tactic(auto, unfolding(crate::specs::Names::names))]
+    #[tactic(auto, unfolding(crate::specs::Names::head_names))]
     fn walk<V: Visit>(&self, visitor: &mut V) -> Result<(), AllocError> {
         match *self {
             Accept::Success => walk_fields(&[Field::Word("accept_stat", 0)], visitor),
@@ -95,7 +95,7 @@ impl Walk for Deny {
 
     ghost items = { deny_items };
 
-    #[tactic(auto, unfolding(crate::specs::Names::names))]
+    #[tactic(auto, unfolding(crate::specs::Names::head_names))]
     fn walk<V: Visit>(&self, visitor: &mut V) -> Result<(), AllocError> {
         match *self {
             Deny::RpcMismatch { low, high } => {
@@ -149,7 +149,7 @@ impl<'a> Walk for ReplyHead<'a> {
 
     ghost items = { reply_head_items };
 
-    #[tactic(auto, using(xdr3::proofs::Walks::steps), unfolding(crate::specs::Names::names))]
+    #[tactic(auto, using(xdr3::proofs::Walks::steps), unfolding(crate::specs::Names::head_names))]
     fn walk<V: Visit>(&self, visitor: &mut V) -> Result<(), AllocError> {
         match self {
             ReplyHead::Accepted(verf, accept) => {

@@ -1,10 +1,11 @@
 // Parts of heads that a visitor is told as they are read (RFC 5531, sections 8.2 and 9, appendix A).
 
 ghost use Rattle.std.specs.Prelude.{IfErr, IfOk, OnOk};
-ghost use Rattle.rpc_head.specs.HeadScan.{ScansAccept, ScansCallHead, ScansReplyHead, credentials};
+ghost use Rattle.rpc_head.specs.HeadScan.{ScansCallHead, ScansReplyHead};
+ghost use Rattle.rpc_head.specs.machinery.HeadScan.{ScansAccept, credentials};
 ghost use Rattle.rpc_head.specs.Shapes as shapes;
 ghost use Rattle.xdr3.specs.Scan.{Scans, ScansWord, Stops, StopsWord};
-ghost use Rattle.rpc_head.specs.Names.{names};
+ghost use Rattle.rpc_head.specs.Names.{head_names};
 ghost use Rattle.xdr3.specs.Item.{Text, Var};
 ghost use Rattle.xdr3.specs.Shape.{is_listed, opaque};
 
@@ -39,10 +40,10 @@ pub(crate) fn scan_listed_or<V: Visit>(
 // ---- items with long names: the prover follows a function's name, and not so many letters
 
 #[inline]
-#[tactic(auto, unfolding(crate::specs::Names::names))]
+#[tactic(auto, unfolding(crate::specs::Names::head_names))]
 fn scan_cred_flavor<V: Visit>(input: &mut Input, visitor: &mut V) -> Result<u32, GetError>
     ensures ok { IfOk result
-        (λ n. ScansWord V.stands names.cred_flavor
+        (λ n. ScansWord V.stands head_names.cred_flavor
         (is_listed shapes.credential_flavors) Reason.Flavor n input.old input.new visitor.old
         visitor.new) }
     ensures err { IfErr result
@@ -52,31 +53,34 @@ fn scan_cred_flavor<V: Visit>(input: &mut Input, visitor: &mut V) -> Result<u32,
 }
 
 #[inline]
-#[tactic(auto, unfolding(crate::specs::Names::names))]
+#[tactic(auto, unfolding(crate::specs::Names::head_names))]
 fn scan_cred_body<V: Visit>(input: &mut Input, visitor: &mut V) -> Result<(), GetError>
-    ensures ok { OnOk result (Scans V.stands (opaque Var names.cred_body 400) input.old input.new
+    ensures ok { OnOk result
+        (Scans V.stands (opaque Var head_names.cred_body 400) input.old input.new
         visitor.old visitor.new) }
-    ensures err { IfErr result (λ error. Stops (opaque Var names.cred_body 400) input.old error) }
+    ensures err { IfErr result
+        (λ error. Stops (opaque Var head_names.cred_body 400) input.old error) }
 {
     scan_var("cred_body", 400, input, visitor)
 }
 
 #[inline]
-#[tactic(auto, unfolding(crate::specs::Names::names))]
+#[tactic(auto, unfolding(crate::specs::Names::head_names))]
 fn scan_machinename<V: Visit>(input: &mut Input, visitor: &mut V) -> Result<(), GetError>
-    ensures ok { OnOk result (Scans V.stands (opaque Text names.machinename 255) input.old input.new
+    ensures ok { OnOk result
+        (Scans V.stands (opaque Text head_names.machinename 255) input.old input.new
         visitor.old visitor.new) }
     ensures err { IfErr result
-        (λ error. Stops (opaque Text names.machinename 255) input.old error) }
+        (λ error. Stops (opaque Text head_names.machinename 255) input.old error) }
 {
     scan_text("machinename", 255, input, visitor)
 }
 
 #[inline]
-#[tactic(auto, unfolding(crate::specs::Names::names))]
+#[tactic(auto, unfolding(crate::specs::Names::head_names))]
 fn scan_verf_flavor<V: Visit>(input: &mut Input, visitor: &mut V) -> Result<u32, GetError>
     ensures ok { IfOk result
-        (λ n. ScansWord V.stands names.verf_flavor
+        (λ n. ScansWord V.stands head_names.verf_flavor
         (is_listed shapes.verifier_flavors) Reason.Flavor n input.old input.new visitor.old
         visitor.new) }
     ensures err { IfErr result
@@ -86,20 +90,22 @@ fn scan_verf_flavor<V: Visit>(input: &mut Input, visitor: &mut V) -> Result<u32,
 }
 
 #[inline]
-#[tactic(auto, unfolding(crate::specs::Names::names))]
+#[tactic(auto, unfolding(crate::specs::Names::head_names))]
 fn scan_verf_body<V: Visit>(input: &mut Input, visitor: &mut V) -> Result<(), GetError>
-    ensures ok { OnOk result (Scans V.stands (opaque Var names.verf_body 400) input.old input.new
+    ensures ok { OnOk result
+        (Scans V.stands (opaque Var head_names.verf_body 400) input.old input.new
         visitor.old visitor.new) }
-    ensures err { IfErr result (λ error. Stops (opaque Var names.verf_body 400) input.old error) }
+    ensures err { IfErr result
+        (λ error. Stops (opaque Var head_names.verf_body 400) input.old error) }
 {
     scan_var("verf_body", 400, input, visitor)
 }
 
 #[inline]
-#[tactic(auto, unfolding(crate::specs::Names::names))]
+#[tactic(auto, unfolding(crate::specs::Names::head_names))]
 fn scan_accept_stat<V: Visit>(input: &mut Input, visitor: &mut V) -> Result<u32, GetError>
     ensures ok { IfOk result
-        (λ n. ScansWord V.stands names.accept_stat
+        (λ n. ScansWord V.stands head_names.accept_stat
         (is_listed shapes.accept_stats) Reason.BadEnum n input.old input.new visitor.old
         visitor.new) }
     ensures err { IfErr result
@@ -109,10 +115,10 @@ fn scan_accept_stat<V: Visit>(input: &mut Input, visitor: &mut V) -> Result<u32,
 }
 
 #[inline]
-#[tactic(auto, unfolding(crate::specs::Names::names))]
+#[tactic(auto, unfolding(crate::specs::Names::head_names))]
 fn scan_reject_stat<V: Visit>(input: &mut Input, visitor: &mut V) -> Result<u32, GetError>
     ensures ok { IfOk result
-        (λ n. ScansWord V.stands names.reject_stat
+        (λ n. ScansWord V.stands head_names.reject_stat
         (is_listed shapes.reject_stats) Reason.BadEnum n input.old input.new visitor.old
         visitor.new) }
     ensures err { IfErr result
@@ -122,9 +128,9 @@ fn scan_reject_stat<V: Visit>(input: &mut Input, visitor: &mut V) -> Result<u32,
 }
 
 #[inline]
-#[tactic(auto, unfolding(crate::specs::Names::names))]
+#[tactic(auto, unfolding(crate::specs::Names::head_names))]
 fn scan_auth_stat<V: Visit>(input: &mut Input, visitor: &mut V) -> Result<u32, GetError>
-    ensures ok { IfOk result (λ n. ScansWord V.stands names.auth_stat
+    ensures ok { IfOk result (λ n. ScansWord V.stands head_names.auth_stat
         (is_listed shapes.auth_stats) Reason.BadEnum n input.old input.new visitor.old
         visitor.new) }
     ensures err { IfErr result
@@ -135,9 +141,9 @@ fn scan_auth_stat<V: Visit>(input: &mut Input, visitor: &mut V) -> Result<u32, G
 }
 
 #[inline]
-#[tactic(auto, unfolding(crate::specs::Names::names))]
+#[tactic(auto, unfolding(crate::specs::Names::head_names))]
 fn scan_reply_stat<V: Visit>(input: &mut Input, visitor: &mut V) -> Result<u32, GetError>
-    ensures ok { IfOk result (λ n. ScansWord V.stands names.reply_stat
+    ensures ok { IfOk result (λ n. ScansWord V.stands head_names.reply_stat
         (is_listed shapes.reply_stats) Reason.BadEnum n input.old input.new visitor.old
         visitor.new) }
     ensures err { IfErr result
@@ -152,13 +158,13 @@ fn scan_reply_stat<V: Visit>(input: &mut Input, visitor: &mut V) -> Result<u32, 
 struct Group;
 
 impl Scan for Group {
-    ghost use Rattle.rpc_head.specs.Names.{names};
+    ghost use Rattle.rpc_head.specs.Names.{head_names};
     ghost use Rattle.xdr3.specs.Shape.{word};
 
-    ghost shape = { word names.group };
+    ghost shape = { word head_names.group };
 
     #[inline]
-    #[tactic(auto, using(xdr3::proofs::ScanLemmas::scans), unfolding(crate::specs::Names::names))]
+    #[tactic(auto, using(xdr3::proofs::ScanLemmas::scans), unfolding(crate::specs::Names::head_names))]
     fn scan<V: Visit>(input: &mut Input, visitor: &mut V) -> Result<(), GetError> {
         scan_word("group", input, visitor)?;
         Ok(())
@@ -167,7 +173,7 @@ impl Scan for Group {
 
 /// At most 16 groups (RFC 5531, appendix A).
 #[inline]
-#[tactic(auto, unfolding(crate::specs::Shapes::gids, crate::specs::Names::names))]
+#[tactic(auto, unfolding(crate::specs::Shapes::gids, crate::specs::Names::head_names))]
 fn scan_gids<V: Visit>(input: &mut Input, visitor: &mut V) -> Result<(), GetError>
     ensures ok { OnOk result
         (Scans V.stands shapes.gids input.old input.new visitor.old visitor.new) }
@@ -181,7 +187,7 @@ impl<'a> Scan for Parameters<'a> {
 
     ghost shape = { parameters };
 
-    #[tactic(auto, using(xdr3::proofs::ScanLemmas::scans), unfolding(crate::specs::Shapes::parameters, crate::specs::Names::names))]
+    #[tactic(auto, using(xdr3::proofs::ScanLemmas::scans), unfolding(crate::specs::Shapes::parameters, crate::specs::Names::head_names))]
     fn scan<V: Visit>(input: &mut Input, visitor: &mut V) -> Result<(), GetError>
         ensures ok { OnOk result
             (Scans V.stands parameters input.old input.new visitor.old visitor.new) }
@@ -200,7 +206,7 @@ impl<'a> Scan for AuthSys<'a> {
 
     ghost shape = { auth_sys };
 
-    #[tactic(auto, unfolding(crate::specs::Shapes::auth_sys, crate::specs::Names::names))]
+    #[tactic(auto, unfolding(crate::specs::Shapes::auth_sys, crate::specs::Names::head_names))]
     fn scan<V: Visit>(input: &mut Input, visitor: &mut V) -> Result<(), GetError>
         ensures ok { OnOk result
             (Scans V.stands auth_sys input.old input.new visitor.old visitor.new) }
@@ -215,7 +221,7 @@ impl<'a> Scan for Cred<'a> {
 
     ghost shape = { credential };
 
-    #[tactic(auto, using(xdr3::proofs::ScanLemmas::scans), unfolding(crate::specs::Shapes::credential, crate::specs::Names::names))]
+    #[tactic(auto, using(xdr3::proofs::ScanLemmas::scans), unfolding(crate::specs::Shapes::credential, crate::specs::Names::head_names))]
     fn scan<V: Visit>(input: &mut Input, visitor: &mut V) -> Result<(), GetError>
         ensures ok { OnOk result
             (Scans V.stands credential input.old input.new visitor.old visitor.new) }
@@ -250,7 +256,7 @@ impl Scan for Deny {
 
     ghost shape = { deny };
 
-    #[tactic(auto, using(xdr3::proofs::ScanLemmas::scans), unfolding(crate::specs::Shapes::deny, crate::specs::Names::names))]
+    #[tactic(auto, using(xdr3::proofs::ScanLemmas::scans), unfolding(crate::specs::Shapes::deny, crate::specs::Names::head_names))]
     fn scan<V: Visit>(input: &mut Input, visitor: &mut V) -> Result<(), GetError> {
         if scan_reject_stat(input, visitor)? == 0 {
             scan_word("low", input, visitor)?;
@@ -270,7 +276,7 @@ impl Scan for Deny {
 /// # Errors
 ///
 /// `Stop` with the place and the reason of the first fault, and `Memory` where the visitor ran out of it.
-#[tactic(auto, using(xdr3::proofs::ScanLemmas::scans, crate::proofs::HeadScanLemmas::tails), unfolding(crate::specs::Shapes::call_head, crate::specs::Names::names))]
+#[tactic(auto, using(xdr3::proofs::ScanLemmas::scans, crate::proofs::HeadScanLemmas::tails), unfolding(crate::specs::Shapes::call_head, crate::specs::Names::head_names))]
 pub fn scan_call_head<V: Visit>(input: &mut Input, visitor: &mut V) -> Result<ProcId, GetError>
     ensures ok { IfOk result
         (λ id. ScansCallHead V.stands id input.old input.new visitor.old visitor.new) }
@@ -289,7 +295,7 @@ pub fn scan_call_head<V: Visit>(input: &mut Input, visitor: &mut V) -> Result<Pr
 }
 
 #[inline]
-#[tactic(auto, using(xdr3::proofs::ScanLemmas::scans), unfolding(crate::specs::HeadScan::credentials))]
+#[tactic(auto, using(xdr3::proofs::ScanLemmas::scans), unfolding(crate::specs::machinery::HeadScan::credentials))]
 fn scan_credentials<V: Visit>(input: &mut Input, visitor: &mut V) -> Result<(), GetError>
     ensures ok { OnOk result
         (Scans V.stands credentials input.old input.new visitor.old visitor.new) }
@@ -323,7 +329,7 @@ pub fn scan_reply_head<V: Visit>(input: &mut Input, visitor: &mut V) -> Result<b
 }
 
 /// What became of an accepted call, and its accept_stat (RFC 5531, section 9).
-#[tactic(auto, using(xdr3::proofs::ScanLemmas::scans), unfolding(crate::specs::Shapes::accept, crate::specs::Names::names))]
+#[tactic(auto, using(xdr3::proofs::ScanLemmas::scans), unfolding(crate::specs::Shapes::accept, crate::specs::Names::head_names))]
 fn scan_accept<V: Visit>(input: &mut Input, visitor: &mut V) -> Result<u32, GetError>
     ensures ok { IfOk result
         (λ stat. ScansAccept V.stands stat input.old input.new visitor.old visitor.new) }

@@ -3,7 +3,7 @@ use Rattle.std.specs.Prelude.{List, [], ◌∷◌}
 use Rattle.xdr3.specs.Combined.{linked_items}
 use Rattle.xdr3.specs.Item.{Item, followed_by, Fixed, Handle, Hyper, Opaque, Text, Word}
 use Rattle.xdr3.specs.View.{word_of}
-use Rattle.nfs3_types.specs.Handle.{bytes_of}
+use Rattle.nfs3_types.specs.Handle.{handle_bytes}
 use Rattle.nfs3_types.specs.Items.{dir_op_items, handle_items, post_op_attr_items, post_op_fh_items, wcc_items}
 use Rattle.nfs3_types.specs.Names.{names}
 use Rattle.typed3.specs.declared.directories.LookupOk.{LookupOk}
@@ -46,7 +46,7 @@ link_wcc_items l =
 
 abbrev pub readdir_args_items : ReadDirArgs → List Item
 readdir_args_items r =
-    Opaque Handle names.fh (bytes_of r.handle) ∷ Hyper names.cookie r.cookie ∷ Fixed names.cookieverf r.cookieverf ∷ Word names.count r.count ∷ []
+    Opaque Handle names.fh (handle_bytes r.handle) ∷ Hyper names.cookie r.cookie ∷ Fixed names.cookieverf r.cookieverf ∷ Word names.count r.count ∷ []
 
 abbrev pub entry_items : Entry → List Item
 entry_items e =
@@ -61,7 +61,7 @@ readdir_ok_items r =
 
 abbrev pub readdirplus_args_items : ReadDirPlusArgs → List Item
 readdirplus_args_items r =
-    Opaque Handle names.fh (bytes_of r.handle) ∷ Hyper names.cookie r.cookie ∷ Fixed names.cookieverf r.cookieverf ∷ Word names.dircount r.dircount ∷ Word names.maxcount r.maxcount ∷ []
+    Opaque Handle names.fh (handle_bytes r.handle) ∷ Hyper names.cookie r.cookie ∷ Fixed names.cookieverf r.cookieverf ∷ Word names.dircount r.dircount ∷ Word names.maxcount r.maxcount ∷ []
 
 abbrev pub entry_plus_items : EntryPlus → List Item
 entry_plus_items e =

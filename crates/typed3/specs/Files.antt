@@ -2,7 +2,7 @@
 use Rattle.std.specs.Prelude.{List, [], ◌∷◌}
 use Rattle.xdr3.specs.Item.{Item, followed_by, Handle, Hyper, Opaque, Text, Var, Word, WriteVerf}
 use Rattle.xdr3.specs.View.{word_of}
-use Rattle.nfs3_types.specs.Handle.{bytes_of}
+use Rattle.nfs3_types.specs.Handle.{handle_bytes}
 use Rattle.nfs3_types.specs.Items.{guard_items, handle_items, post_op_attr_items, settable_items, wcc_items}
 use Rattle.nfs3_types.specs.Names.{names}
 use Rattle.nfs3_types.specs.Stable.{stable_number}
@@ -24,7 +24,7 @@ setattr_args_items s =
 
 abbrev pub access_args_items : AccessArgs → List Item
 access_args_items a =
-    Opaque Handle names.fh (bytes_of a.handle) ∷ Word names.access a.access ∷ []
+    Opaque Handle names.fh (handle_bytes a.handle) ∷ Word names.access a.access ∷ []
 
 abbrev pub access_ok_items : AccessOk → List Item
 access_ok_items a =
@@ -38,7 +38,7 @@ readlink_ok_items r =
 
 abbrev pub file_range_items : FileRange → List Item
 file_range_items f =
-    Opaque Handle names.fh (bytes_of f.handle) ∷ Hyper names.offset f.offset ∷ Word names.count f.count ∷ []
+    Opaque Handle names.fh (handle_bytes f.handle) ∷ Hyper names.offset f.offset ∷ Word names.count f.count ∷ []
 
 abbrev pub read_ok_items : ReadOk → List Item
 read_ok_items r =
@@ -47,7 +47,7 @@ read_ok_items r =
 
 abbrev pub write_args_items : WriteArgs → List Item
 write_args_items w =
-    Opaque Handle names.fh (bytes_of w.handle) ∷ Hyper names.offset w.offset ∷ Word names.count w.count ∷ Word names.stable (stable_number w.stable) ∷ Opaque Var names.«data» w.content.now ∷ []
+    Opaque Handle names.fh (handle_bytes w.handle) ∷ Hyper names.offset w.offset ∷ Word names.count w.count ∷ Word names.stable (stable_number w.stable) ∷ Opaque Var names.«data» w.content.now ∷ []
 
 abbrev pub write_ok_items : WriteOk → List Item
 write_ok_items w =

@@ -4,7 +4,7 @@ use Rattle.xdr3.specs.Item.{Item, Rest}
 use Rattle.nfs3_types.specs.Items.{attributes_items, dir_op_items, handle_items, post_op_attr_items, wcc_items}
 use Rattle.nfs3_types.specs.Mounts.{exports_items, mount_list_items}
 use Rattle.nfs3_types.specs.Names.{names}
-use Rattle.nfs3_types.specs.Results.{results_items as items_by_status}
+use Rattle.nfs3_types.specs.Results.{items_by_status}
 use Rattle.typed3.specs.Creation.{create_args_items, create_ok_items, mkdir_args_items, mknod_args_items, symlink_args_items}
 use Rattle.typed3.specs.Directories.{link_args_items, link_wcc_items, lookup_ok_items, readdir_args_items, readdir_ok_items, readdirplus_args_items, readdirplus_ok_items, rename_args_items, rename_wcc_items}
 use Rattle.typed3.specs.FileSystem.{fsinfo_ok_items, fsstat_ok_items, pathconf_ok_items}

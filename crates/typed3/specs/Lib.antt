@@ -8,3 +8,4 @@ pub mod Mounts
 pub mod Items
 pub mod Variants
 pub mod Messages
+pub mod machinery

@@ -1,17 +1,13 @@
 -- Whole messages as values: their items, and where they have results (RFC 5531, section 9).
-use Rattle.std.specs.Prelude.{◌≡◌, ℕ, Bool, true, false, List, [], Option, Some, None}
-use Rattle.xdr3.specs.declared.reason.GetError.{GetError}
-use Rattle.xdr3.specs.declared.reason.GetError.TheVariants as errors
-use Rattle.xdr3.specs.declared.reason.Stop.{Stop}
+use Rattle.std.specs.Prelude.{Bool, true, false, List, [], Option, Some, None}
 use Rattle.xdr3.specs.Item.{Item, followed_by}
-use Rattle.rpc_head.specs.declared.call.ProcId.{ProcId}
 use Rattle.rpc_head.specs.declared.reply.Accept.TheVariants.{Success, ProgUnavail, ProgMismatch, ProcUnavail, GarbageArgs, SystemErr}
 use Rattle.rpc_head.specs.declared.reply.ReplyHead.{ReplyHead}
 use Rattle.rpc_head.specs.declared.reply.ReplyHead.TheVariants.{Accepted, Denied}
 use Rattle.rpc_head.specs.Calls.{call_head_items}
 use Rattle.rpc_head.specs.Replies.{reply_head_items}
 use Rattle.rpc_head.specs.Starts.{start_items}
-use Rattle.capture3.specs.Bodies.{ReplyItems, IsCall, IsReply}
+use Rattle.capture3.specs.Bodies.{ReplyItems}
 use Rattle.typed3.specs.declared.message.CallMsg.{CallMsg}
 use Rattle.typed3.specs.declared.message.ReplyMsg.{ReplyMsg}
 use Rattle.typed3.specs.declared.results.Results.{Results}
@@ -42,13 +38,3 @@ is_success (Accepted verf ProcUnavail) = false
 is_success (Accepted verf GarbageArgs) = false
 is_success (Accepted verf SystemErr) = false
 is_success (Denied deny) = false
-
--- ---- within the crate
-
--- the body spells no call, unless memory ran out
-abbrev pub SpellsNoCall : GetError → List ℕ → Type 0
-SpellsNoCall error body = (stop : Stop) → error ≡ errors.Stop stop → (items : List Item) → IsCall body items → ⊥
-
--- the body spells no reply with the results of this procedure, unless memory ran out
-abbrev pub SpellsNoReply : GetError → ProcId → List ℕ → Type 0
-SpellsNoReply error id body = (stop : Stop) → error ≡ errors.Stop stop → (items : List Item) → IsReply body (record { id = id; items = items }) → ⊥

@@ -2,7 +2,7 @@
 
 ghost use Rattle.std.specs.Prelude.{◌≡◌, ◌≤◌, IfOk};
 ghost use Rattle.typed3.specs.Items.{args_items};
-ghost use Rattle.procs3.specs.Names.{mount_name, name_of, nfs_name};
+ghost use Rattle.procs3.specs.Names.{mount_name, name_of_procedure, nfs_name};
 ghost use Rattle.procs3.specs.Table.{arguments_of, mount_arguments, nfs_arguments};
 ghost use Rattle.typed3.specs.Variants.{args_name};
 ghost use Rattle.xdr3.specs.Gives.{Gives, IsRead};
@@ -89,7 +89,7 @@ impl<'a> Args<'a> {
     pub fn get(alloc: Global, id: ProcId, input: &mut Input<'a>) -> Result<Args<'a>, GetError>
         ensures read { Gives args_items result input.new.at
             (reading_layout (arguments_of id) input.old.body input.old.at) }
-        ensures variant { IfOk result (λ args. args_name args ≡ name_of id) }
+        ensures variant { IfOk result (λ args. args_name args ≡ name_of_procedure id) }
         ensures relations { IsRead (ReadsLayout (arguments_of id)) (RefusesLayout (arguments_of id))
             args_items input.old result input.new }
         ensures limit { IfOk result (λ args. AreWithinLimit (args_items args)) }
@@ -103,7 +103,7 @@ impl<'a> Args<'a> {
     fn of_procedure(alloc: Global, id: ProcId, input: &mut Input<'a>) -> Result<Args<'a>, GetError>
         ensures read { Gives args_items result input.new.at
             (reading_layout (arguments_of id) input.old.body input.old.at) }
-        ensures variant { IfOk result (λ args. args_name args ≡ name_of id) }
+        ensures variant { IfOk result (λ args. args_name args ≡ name_of_procedure id) }
         ensures moves { MovesOn input.old input.new }
     {
         input.at();

@@ -2,13 +2,14 @@
 
 ghost use Rattle.std.specs.Prelude.{◌≡◌, ◌≤◌, length, is_some, IfErr, IfOk, IfSome};
 ghost use Rattle.xdr3.specs.Visit.{body_limit};
-ghost use Rattle.procs3.specs.Names.{name_of};
+ghost use Rattle.procs3.specs.Names.{name_of_procedure};
 ghost use Rattle.xdr3.specs.Gives.{Gives};
 ghost use Rattle.xdr3.specs.Layout.{reading_layout};
 ghost use Rattle.xdr3.specs.View.{MovesOn};
 ghost use Rattle.capture3.specs.Bodies.{IsCall, IsReply};
-ghost use Rattle.capture3.specs.Messages.{results_after};
-ghost use Rattle.typed3.specs.Messages.{answered_items, call_items, is_success, items_after_head, SpellsNoCall, SpellsNoReply};
+ghost use Rattle.capture3.specs.machinery.Messages.{results_after};
+ghost use Rattle.typed3.specs.Messages.{answered_items, call_items, is_success, items_after_head};
+ghost use Rattle.typed3.specs.machinery.Messages.{SpellsNoCall, SpellsNoReply};
 ghost use Rattle.typed3.specs.Variants.{args_name, results_name};
 
 use crate::args::Args;
@@ -29,7 +30,7 @@ pub fn read_call<'a>(alloc: Global, call: CallRef<'a>) -> Result<CallMsg<'a>, Al
     ensures call { IfOk result (λ message. IsCall call.entry.body.now (call_items message)) }
     ensures procedure { IfOk result (λ message. message.head.id ≡ call.entry.id) }
     ensures variant { IfOk result
-        (λ message. args_name message.args ≡ name_of message.head.id) }
+        (λ message. args_name message.args ≡ name_of_procedure message.head.id) }
 {
     match call_in(alloc, call.body) {
         Ok(message) => Ok(message),
@@ -51,7 +52,7 @@ pub fn read_reply<'a>(alloc: Global, reply: ReplyRef<'a>) -> Result<ReplyMsg<'a>
     ensures success { IfOk result
         (λ message. is_some message.results ≡ is_success message.head) }
     ensures variant { IfOk result (λ message. IfSome message.results
-        (λ results. results_name results ≡ name_of message.id)) }
+        (λ results. results_name results ≡ name_of_procedure message.id)) }
 {
     match reply_in(alloc, reply.id, reply.body) {
         Ok(message) => Ok(message),
@@ -64,7 +65,7 @@ pub fn read_reply<'a>(alloc: Global, reply: ReplyRef<'a>) -> Result<ReplyMsg<'a>
 fn call_in<'a>(alloc: Global, body: &'a [u8]) -> Result<CallMsg<'a>, GetError>
     requires { length body.now ≤ body_limit }
     ensures call { IfOk result (λ call. IsCall body.now (call_items call)) }
-    ensures variant { IfOk result (λ call. args_name call.args ≡ name_of call.head.id) }
+    ensures variant { IfOk result (λ call. args_name call.args ≡ name_of_procedure call.head.id) }
     ensures err { IfErr result (λ error. SpellsNoCall error body.now) }
 {
     let mut input = Input::new(body);
@@ -89,7 +90,7 @@ fn reply_in<'a>(alloc: Global, id: ProcId, body: &'a [u8]) -> Result<ReplyMsg<'a
     ensures procedure { IfOk result (λ reply. reply.id ≡ id) }
     ensures success { IfOk result (λ reply. is_some reply.results ≡ is_success reply.head) }
     ensures variant { IfOk result (λ reply. IfSome reply.results
-        (λ results. results_name results ≡ name_of id)) }
+        (λ results. results_name results ≡ name_of_procedure id)) }
     ensures err { IfErr result (λ error. SpellsNoReply error id body.now) }
 {
     let mut input = Input::new(body);
@@ -120,7 +121,7 @@ fn results_in<'a>(
         (reading_layout (results_after (is_success head.now) id) input.old.body input.old.at) }
     ensures success { IfOk result (λ results. is_some results ≡ is_success head.now) }
     ensures variant { IfOk result
-        (λ results. IfSome results (λ results. results_name results ≡ name_of id)) }
+        (λ results. IfSome results (λ results. results_name results ≡ name_of_procedure id)) }
     ensures moves { MovesOn input.old input.new }
 {
     input.at();

@@ -2,7 +2,7 @@
 
 ghost use Rattle.std.specs.Prelude.{◌≡◌, ◌≤◌, IfOk};
 ghost use Rattle.typed3.specs.Items.{results_items};
-ghost use Rattle.procs3.specs.Names.{mount_name, name_of, nfs_name};
+ghost use Rattle.procs3.specs.Names.{mount_name, name_of_procedure, nfs_name};
 ghost use Rattle.procs3.specs.Table.{results_of, mount_results_of, nfs_results};
 ghost use Rattle.typed3.specs.Variants.{results_name};
 ghost use Rattle.xdr3.specs.Gives.{Gives, IsRead};
@@ -91,7 +91,7 @@ impl<'a> Results<'a> {
     pub fn get(alloc: Global, id: ProcId, input: &mut Input<'a>) -> Result<Results<'a>, GetError>
         ensures read { Gives results_items result input.new.at
             (reading_layout (results_of id) input.old.body input.old.at) }
-        ensures variant { IfOk result (λ results. results_name results ≡ name_of id) }
+        ensures variant { IfOk result (λ results. results_name results ≡ name_of_procedure id) }
         ensures relations { IsRead (ReadsLayout (results_of id)) (RefusesLayout (results_of id))
             results_items input.old result input.new }
         ensures limit { IfOk result (λ results. AreWithinLimit (results_items results)) }
@@ -109,7 +109,7 @@ impl<'a> Results<'a> {
     ) -> Result<Results<'a>, GetError>
         ensures read { Gives results_items result input.new.at
             (reading_layout (results_of id) input.old.body input.old.at) }
-        ensures variant { IfOk result (λ results. results_name results ≡ name_of id) }
+        ensures variant { IfOk result (λ results. results_name results ≡ name_of_procedure id) }
         ensures moves { MovesOn input.old input.new }
     {
         input.at();

@@ -10,7 +10,8 @@ use Rattle.xdr3.specs.Shape.{Shape, is_at_most, sized}
 use Rattle.xdr3.specs.View.{MovesOn, View, view_at}
 use Rattle.xdr3.proofs.Bytes.{guard_ok, guard_err}
 use Rattle.xdr3.proofs.Walks.{adds_joined}
-use Rattle.xdr3.specs.Scan.{Scans, ScansInside, ScansWord, Stops, StopsInside, StopsWord}
+use Rattle.xdr3.specs.Scan.{Scans, ScansWord, Stops, StopsWord}
+use Rattle.xdr3.specs.machinery.Scan.{ScansInside, StopsInside}
 use Rattle.xdr3.proofs.ScanLemmas.{moves_both}
 
 pub sized_scans : {V : Type 0} (stands : V → List Item → Type 0) (name : List ℕ) (s : Shape) (len : ℕ) (v0 v1 v2 window : View) (s0 s1 s2 : V)

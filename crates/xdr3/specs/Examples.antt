@@ -14,11 +14,11 @@ abbrev pub words : List ℕ → List ℕ
 words numbers = flat_map word_bytes numbers
 
 -- the items of a whole body, or its first fault
-abbrev pub verdict : Layout → List ℕ → Result (List Item) Stop
-verdict layout body = reading_layout layout body 0 >>= λ x. if x.1 == length body then Ok x.0 else refused x.1 Trailing
+abbrev pub reading_verdict : Layout → List ℕ → Result (List Item) Stop
+reading_verdict layout body = reading_layout layout body 0 >>= λ x. if x.1 == length body then Ok x.0 else refused x.1 Trailing
 
 abbrev pub IsRefused : Layout → List ℕ → ℕ → Reason → Type 0
-IsRefused layout body at reason = verdict layout body ≡ refused at reason
+IsRefused layout body at reason = reading_verdict layout body ≡ refused at reason
 
 -- each cut of the body to one of these lengths is short there
 abbrev pub CutsAreShort : Layout → List ℕ → ℕ → List ℕ → Type 0
@@ -46,8 +46,8 @@ file_items =
     ∷ Opaque Text (codes "owner") (codes "john") ∷ Opaque Var (codes "data") (codes "(quit)") ∷ []
 
 pub record File : Type 0 where
-  pub read : verdict file (file_bytes 0) ≡ Ok file_items
-  pub residual : verdict file (file_bytes 255) ≡ Ok file_items
+  pub read : reading_verdict file (file_bytes 0) ≡ Ok file_items
+  pub residual : reading_verdict file (file_bytes 255) ≡ Ok file_items
   pub spelled : zero_spelling file_items ≡ file_bytes 0
   pub no_length : CutsAreShort file (file_bytes 0) 0 (0 ∷ 1 ∷ 2 ∷ 3 ∷ [])
   pub no_name : CutsAreShort file (file_bytes 0) 4 (4 ∷ 12 ∷ 13 ∷ 15 ∷ [])
@@ -75,18 +75,18 @@ abbrev pub window : Layout
 window = after (sized (codes "length") (both (word (codes "first")) (word (codes "second")))) (λ items. rest (codes "rest"))
 
 pub record Parts : Type 0 where
-  pub two_strings : verdict strings (words (1 ∷ 1 ∷ []) ++ (codes "a" ++ (0 ∷ 0 ∷ 0 ∷ words (1 ∷ 0 ∷ 0 ∷ [])))) ≡ Ok (
+  pub two_strings : reading_verdict strings (words (1 ∷ 1 ∷ []) ++ (codes "a" ++ (0 ∷ 0 ∷ 0 ∷ words (1 ∷ 0 ∷ 0 ∷ [])))) ≡ Ok (
       Word (codes "next") 1 ∷ Opaque Text (codes "item") (codes "a") ∷ Word (codes "next") 1 ∷ Opaque Text (codes "item") [] ∷ Word (codes "next") 0 ∷ [])
   pub open_list : CutsAreShort strings (words (1 ∷ 0 ∷ 0 ∷ [])) 8 (8 ∷ 11 ∷ [])
   pub bad_link : IsRefused strings (words (1 ∷ 0 ∷ 2 ∷ [])) 8 BadBool
-  pub two_numbers : verdict numbers (words (2 ∷ 0 ∷ 5 ∷ 1 ∷ 0 ∷ [])) ≡ Ok (Word (codes "numbers") 2 ∷ Hyper (codes "number") 5 ∷ Hyper (codes "number") 4294967296 ∷ [])
+  pub two_numbers : reading_verdict numbers (words (2 ∷ 0 ∷ 5 ∷ 1 ∷ 0 ∷ [])) ≡ Ok (Word (codes "numbers") 2 ∷ Hyper (codes "number") 5 ∷ Hyper (codes "number") 4294967296 ∷ [])
   pub three_numbers : IsRefused numbers (words (3 ∷ [])) 0 TooLong
   pub one_number : CutsAreShort numbers (words (2 ∷ 0 ∷ 5 ∷ 0 ∷ [])) 12 (12 ∷ 16 ∷ [])
-  pub some : verdict choices (words (1 ∷ 7 ∷ 1 ∷ [])) ≡ Ok (Word (codes "some") 1 ∷ Word (codes "number") 7 ∷ Word (codes "truth") 1 ∷ [])
-  pub none : verdict choices (words (0 ∷ 0 ∷ [])) ≡ Ok (Word (codes "some") 0 ∷ Word (codes "truth") 0 ∷ [])
+  pub some : reading_verdict choices (words (1 ∷ 7 ∷ 1 ∷ [])) ≡ Ok (Word (codes "some") 1 ∷ Word (codes "number") 7 ∷ Word (codes "truth") 1 ∷ [])
+  pub none : reading_verdict choices (words (0 ∷ 0 ∷ [])) ≡ Ok (Word (codes "some") 0 ∷ Word (codes "truth") 0 ∷ [])
   pub bad_option : IsRefused choices (words (2 ∷ [])) 0 BadBool
   pub bad_truth : IsRefused choices (words (0 ∷ 2 ∷ [])) 4 BadBool
-  pub in_window : verdict window (words (8 ∷ 1 ∷ 2 ∷ []) ++ 9 ∷ []) ≡ Ok (Word (codes "length") 8 ∷ Word (codes "first") 1 ∷ Word (codes "second") 2 ∷ Rest (codes "rest") (9 ∷ []) ∷ [])
+  pub in_window : reading_verdict window (words (8 ∷ 1 ∷ 2 ∷ []) ++ 9 ∷ []) ≡ Ok (Word (codes "length") 8 ∷ Word (codes "first") 1 ∷ Word (codes "second") 2 ∷ Rest (codes "rest") (9 ∷ []) ∷ [])
   pub wide_window : IsRefused window (words (12 ∷ 1 ∷ 2 ∷ 3 ∷ [])) 12 AuthLength
   pub narrow_window : IsRefused window (words (4 ∷ 1 ∷ 2 ∷ [])) 8 AuthLength
   pub long_window : IsRefused window (words (401 ∷ [])) 0 TooLong

@@ -1,10 +1,10 @@
 -- What is read and told at once.
-use Rattle.std.specs.Prelude.{◌≡◌, ℕ, Bool, List, [], ◌∷◌, length, Ok}
+use Rattle.std.specs.Prelude.{◌≡◌, ℕ, Bool, List, [], ◌∷◌, Ok}
 use Rattle.xdr3.specs.declared.reason.GetError.{GetError}
 use Rattle.xdr3.specs.declared.reason.Reason.{Reason}
 use Rattle.xdr3.specs.Gives.{Fails}
 use Rattle.xdr3.specs.Item.{Item, Word}
-use Rattle.xdr3.specs.Reading.{from_window, reading, word_at}
+use Rattle.xdr3.specs.Reading.{reading, word_at}
 use Rattle.xdr3.specs.Layout.{Layout, reading_layout}
 use Rattle.xdr3.specs.Shape.{Shape}
 use Rattle.xdr3.specs.View.{MovesOn, View}
@@ -26,14 +26,6 @@ Stops shape old error = Fails error (reading shape old.body old.at)
 
 unfoldable pub StopsWord : (ℕ → Bool) → Reason → View → GetError → Type 0
 StopsWord accepted other old error = Fails error (word_at accepted other old.body old.at)
-
--- All that is left of a window is items of the shape, and a visitor was told them.
-unfoldable pub ScansInside : {V : Type 0} → (V → List Item → Type 0) → Shape → View → V → V → Type 0
-ScansInside stands shape window before after =
-    (items : List Item) × (from_window (length window.body) (reading shape window.body window.at) ≡ Ok (items, length window.body)) × Adds stands before after items
-
-unfoldable pub StopsInside : Shape → View → GetError → Type 0
-StopsInside shape window error = Fails error (from_window (length window.body) (reading shape window.body window.at))
 
 -- Items of the layout stand between two places of one body, and a visitor was told them.
 unfoldable pub ScansLayout : {V : Type 0} → (V → List Item → Type 0) → Layout → View → View → V → V → Type 0

@@ -4,7 +4,8 @@ ghost use Rattle.std.specs.Prelude.{◌≡◌, ◌<◌, IfErr, IfOk, OnOk};
 ghost use Rattle.std.specs.Int.{from_bool};
 ghost use Rattle.xdr3.specs.Item.{Handle, Text, Var};
 ghost use Rattle.xdr3.specs.Layout.{Layout, rest};
-ghost use Rattle.xdr3.specs.Scan.{Scans, ScansInside, ScansLayout, ScansWord, Stops, StopsInside, StopsWord};
+ghost use Rattle.xdr3.specs.Scan.{Scans, ScansLayout, ScansWord, Stops, StopsWord};
+ghost use Rattle.xdr3.specs.machinery.Scan.{ScansInside, StopsInside};
 ghost use Rattle.xdr3.specs.Shape.{Shape, counted, fixed, hyper, is_any, is_at_most, is_bool, is_listed, linked, opaque, optional, sized, write_verf};
 
 use crate::input::Input;
@@ -300,7 +301,7 @@ pub fn scan_sized<T: Scan, V: Visit>(
 }
 
 /// The shape in all that is left of a window.
-#[tactic(auto, unfolding(crate::specs::Scan::Scans, crate::specs::Scan::ScansInside, crate::specs::Scan::Stops, crate::specs::Scan::StopsInside))]
+#[tactic(auto, unfolding(crate::specs::Scan::Scans, crate::specs::machinery::Scan::ScansInside, crate::specs::Scan::Stops, crate::specs::machinery::Scan::StopsInside))]
 fn scan_inside<T: Scan, V: Visit>(window: &mut Input, visitor: &mut V) -> Result<(), GetError>
     ensures ok { OnOk result (ScansInside V.stands T.shape window.old visitor.old visitor.new) }
     ensures err { IfErr result (λ error. StopsInside T.shape window.old error) }

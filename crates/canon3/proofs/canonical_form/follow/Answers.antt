@@ -1,7 +1,7 @@
 use Rattle.std.proofs.Common.{[], ◌∷◌, ◌++◌, ap, subst, ◌∙◌}
 use Rattle.std.specs.Io.KnownBytes.{Appends}
-use Rattle.canon3.specs.MessageWriter.{values_of}
-use Rattle.canon3.specs.Spelling.{spelling_of}
+use Rattle.canon3.specs.machinery.MessageWriter.{values_of}
+use Rattle.canon3.specs.machinery.Spelling.{spelling_of}
 use Rattle.canon3.proofs.canonical_form.follow.Goals as goal
 
 pub returns-in-Ok-write_spelling-clause-follows : goal.returns-in-Ok-write_spelling-clause-follows

@@ -1,6 +1,7 @@
 use Rattle.std.proofs.Common.{[], ◌∷◌, ◌++◌, subst, sym}
 use Rattle.canon3.specs.declared.verdict.Which.TheVariants.{First}
-use Rattle.canon3.specs.Comparison.{CountsReadingOf, IsFound}
+use Rattle.canon3.specs.Comparison.{CountsReadingOf}
+use Rattle.canon3.specs.machinery.Comparison.{IsFound}
 use Rattle.canon3.proofs.ComparisonLemmas.{ended_decides, first_of, first_stops, given_on, parted_decides}
 use Rattle.canon3.proofs.comparison.conclude.Goals as goal
 

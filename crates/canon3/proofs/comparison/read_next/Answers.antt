@@ -1,5 +1,5 @@
 use Rattle.std.proofs.Common.{Ok, Err, [], ◌∷◌, ◌++◌, append_assoc, subst}
-use Rattle.canon3.specs.Comparison.{HasGiven}
+use Rattle.canon3.specs.machinery.Comparison.{HasGiven}
 use Rattle.canon3.proofs.ComparisonLemmas.{Hands, hands}
 use Rattle.canon3.proofs.comparison.read_next.Goals as goal
 

@@ -1,7 +1,8 @@
 use Rattle.std.proofs.Common.{◌≡◌, List, ℕ, None}
-use Rattle.capture3.specs.Entries.{entries_left, failure_of}
+use Rattle.capture3.specs.Entries.{failure_of}
+use Rattle.capture3.specs.machinery.Entries.{entries_left}
 use Rattle.capture3.specs.Entry.{Entry}
-use Rattle.canon3.specs.Comparison.{HasGivenOn}
+use Rattle.canon3.specs.machinery.Comparison.{HasGivenOn}
 use Rattle.canon3.proofs.comparison.read_out.Given as goal
 
 abbrev pub invariant-loop : goal.invariant-loop

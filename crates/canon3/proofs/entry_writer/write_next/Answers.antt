@@ -1,8 +1,8 @@
 use Rattle.std.proofs.Common.{Ok, [], ◌∷◌, ◌++◌, length, arith, subst, sym, ◌<◌, ◌^◌}
 use Rattle.std.proofs.KnownBytes.{Consumes-trans}
 use Rattle.xdr3.specs.Visit.{Adds}
-use Rattle.capture3.specs.Entries.{HandsOut}
-use Rattle.canon3.specs.EntryWriter.{HasWritten}
+use Rattle.capture3.specs.Handing.{HandsOut}
+use Rattle.canon3.specs.machinery.EntryWriter.{HasWritten}
 use Rattle.canon3.proofs.EntryWriterLemmas.{met_stops, written_goes_on}
 use Rattle.canon3.proofs.Reaching.{first_reached}
 use Rattle.canon3.proofs.entry_writer.write_next.Goals as goal

@@ -1,10 +1,10 @@
 use Rattle.std.proofs.Common.{◌≡◌, length}
-use Rattle.canon3.specs.SinkWrites.{HasTaken}
+use Rattle.canon3.specs.machinery.SinkWrites.{TookUpTo}
 use Rattle.canon3.proofs.whole_writes.write_all.Given as goal
 
 abbrev pub invariant-loop-rest : goal.invariant-loop-rest
 invariant-loop-rest g l = record {
-  taken : HasTaken (g.W.Sink.written l.fn.sink) (g.W.Sink.written l.sink) l.bytes l.rest;
+  taken : TookUpTo (g.W.Sink.written l.fn.sink) (g.W.Sink.written l.sink) l.bytes l.rest;
   count : g.W.Sink.failures l.sink ≡ g.W.Sink.failures l.fn.sink;
 }
 

@@ -1,8 +1,8 @@
-use Rattle.capture3.proofs.Sizes.{clean_size, typed_size}
+use Rattle.capture3.proofs.Sizes.{capture_size, clean_size}
 use Rattle.capture3.proofs.laws.longest.Goals as goal
 
-pub returns-clause-typed : goal.returns-clause-typed
-returns-clause-typed c file entries typed = typed_size file entries typed
+pub returns-clause-captures : goal.returns-clause-captures
+returns-clause-captures c version file connections h = capture_size version file connections h
 
 pub returns-clause-clean : goal.returns-clause-clean
-returns-clause-clean c file are clean = clean_size file are clean
+returns-clause-clean c bytes are clean = clean_size bytes are clean

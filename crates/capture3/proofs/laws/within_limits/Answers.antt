@@ -1,4 +1,5 @@
-use Rattle.capture3.proofs.Limits.{typed_within, reached_within}
+use Rattle.capture3.proofs.Behind.{reached_within}
+use Rattle.capture3.proofs.Limits.{typed_within}
 use Rattle.capture3.proofs.laws.within_limits.Goals as goal
 
 pub returns-clause-typed : goal.returns-clause-typed

@@ -1,7 +1,7 @@
 use Rattle.std.proofs.Common.{◌≡◌, ◌≤◌, ◌-◌, length}
 use Rattle.capture3.specs.Chunks.{max_bytes}
 use Rattle.packing3.specs.Packed.{full_size}
-use Rattle.packing3.specs.Streaming.{HasFull, GrowsLittle}
+use Rattle.packing3.specs.machinery.Streaming.{HasFull, GrowsLittle}
 use Rattle.packing3.proofs.stream.write_stream.Given as goal
 
 abbrev pub invariant-loop-count : goal.invariant-loop-count

@@ -3,7 +3,7 @@ use Rattle.std.proofs.lemmas.Result.{err_from_is_err_and}
 use Rattle.xdr3.proofs.FlatLemmas.{flat_scans, flat_stops}
 use Rattle.nfs3_types.specs.Names.{names}
 use Rattle.nfs3_types.specs.Shapes.{time}
-use Rattle.procs3.specs.ShapeTails.{fsinfo_numbers}
+use Rattle.procs3.specs.machinery.ShapeTails.{fsinfo_numbers}
 use Rattle.procs3.proofs.scan.scan_fsinfo_numbers.Goals as goal
 
 pub returns-clause-ok : goal.returns-clause-ok

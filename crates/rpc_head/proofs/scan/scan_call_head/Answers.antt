@@ -1,9 +1,9 @@
-use Rattle.rpc_head.specs.Names.{names}
+use Rattle.rpc_head.specs.Names.{head_names}
 use Rattle.rpc_head.proofs.HeadScanLemmas.{call_head_scanned}
 use Rattle.rpc_head.proofs.scan.scan_call_head.Goals as goal
 
 pub returns-clause-ok : goal.returns-clause-ok
-unfolding names
+unfolding head_names
 returns-clause-ok g c =
     call_head_scanned g.V.Visit.stands c.in_ok-scan_listed_or.field-0 c.in_ok-prog.prog c.in_ok-vers.vers c.in_ok-proc_no.proc_no
     c.args.input.now c.scan_listed_or.new.input c.scan_word.new.input c.scan_word-2.new.input c.scan_word-3.new.input c.scan_credentials.new.input

@@ -1,5 +1,5 @@
 use Rattle.std.proofs.Common.{ap, ◌∙◌, min}
-use Rattle.canon3.specs.MessageWriter.{values_of}
+use Rattle.canon3.specs.machinery.MessageWriter.{values_of}
 use Rattle.canon3.specs.Rank.{number_limit}
 use Rattle.canon3.proofs.HandleTableLemmas.{distinct_held}
 use Rattle.canon3.proofs.Opening.{nothing_held}

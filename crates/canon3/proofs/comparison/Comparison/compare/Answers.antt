@@ -1,7 +1,8 @@
 use Rattle.std.proofs.Common.{◌∙◌, ap₂, ap, subst, sym, [], ◌∷◌, ◌++◌}
-use Rattle.canon3.specs.MessageWriter.{values_of}
-use Rattle.canon3.specs.Spelling.{spelling_of}
-use Rattle.canon3.specs.Progress.{HasPassed, place_from}
+use Rattle.canon3.specs.machinery.MessageWriter.{values_of}
+use Rattle.canon3.specs.machinery.Spelling.{spelling_of}
+use Rattle.canon3.specs.Progress.{HasPassed}
+use Rattle.canon3.specs.machinery.Progress.{place_from}
 use Rattle.canon3.proofs.ComparisonLemmas.{agree_on, parts_here}
 use Rattle.canon3.proofs.ProgressLemmas.{behind_more, side_same}
 use Rattle.canon3.proofs.comparison.Comparison.compare.Goals as goal

@@ -1,5 +1,5 @@
 use Rattle.std.proofs.Common.{Ok, subst}
-use Rattle.canon3.specs.Comparison.{StepsOn}
+use Rattle.canon3.specs.machinery.Comparison.{StepsOn}
 use Rattle.canon3.proofs.comparison.Comparison.find.Goals as goal
 
 pub returns-in-Ok-Some-clause-found : goal.returns-in-Ok-Some-clause-found

@@ -1,7 +1,8 @@
 use Rattle.std.proofs.Common.{◌≡◌, ◌≤◌, ◌+◌, List, ℕ, None}
-use Rattle.capture3.specs.Entries.{entries_left, failure_of}
-use Rattle.capture3.specs.Position.{most_entries}
-use Rattle.canon3.specs.Comparison.{IsUnderWay}
+use Rattle.capture3.specs.Entries.{failure_of}
+use Rattle.capture3.specs.machinery.Entries.{entries_left}
+use Rattle.capture3.specs.Laws.{most_entries}
+use Rattle.canon3.specs.machinery.Comparison.{IsComparing}
 use Rattle.canon3.specs.Progress.{steps_of}
 use Rattle.canon3.proofs.comparison.Comparison.find.Given as goal
 
@@ -10,7 +11,7 @@ invariant-loop-finding g l = record {
   going_first : failure_of l.first ≡ None;
   going_second : failure_of l.second ≡ None;
   room : steps_of l.self.progress + entries_left l.first ≤ most_entries;
-  under_way : (file other : List ℕ) → IsUnderWay g.A.Source.left g.B.Source.left file other l.fn.first l.fn.second l.fn.self → IsUnderWay g.A.Source.left g.B.Source.left file other l.first l.second l.self;
+  under_way : (file other : List ℕ) → IsComparing g.A.Source.left g.B.Source.left file other l.fn.first l.fn.second l.fn.self → IsComparing g.A.Source.left g.B.Source.left file other l.first l.second l.self;
   read_first : g.A.Source.failures l.first.source.now ≡ g.A.Source.failures l.fn.first.source.now;
   read_second : g.B.Source.failures l.second.source.now ≡ g.B.Source.failures l.fn.second.source.now;
   same_first : l.first.source.ghost_name ≡ l.fn.first.source.ghost_name;

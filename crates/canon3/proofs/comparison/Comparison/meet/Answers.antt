@@ -1,7 +1,7 @@
 use Rattle.std.proofs.Common.{Ok, Err, subst, sym}
 use Rattle.capture3.specs.Entry.{items_of}
-use Rattle.canon3.specs.Comparison.{Compares, Meets}
-use Rattle.canon3.specs.MessageWriter.{Stands}
+use Rattle.canon3.specs.machinery.Comparison.{Compares, Meets}
+use Rattle.canon3.specs.machinery.MessageWriter.{WriterStands}
 use Rattle.canon3.proofs.ComparisonLemmas.{Hands, hands, not_ended, refused_meets, told_second, with_second}
 use Rattle.canon3.proofs.comparison.Comparison.meet.Goals as goal
 
@@ -12,7 +12,7 @@ returns-in-Ok-None-compare-clause-meets g c file other a b e of first few so_far
     let new = c.next.new.self in
     let was = c.args.self.now.second in
     let now = c.next.new.visitor in
-    let (f, is, second, other_few, adds, given) = subst (λ next. Hands left (Stands {S = g.row.S.Denot} {H = g.row.S-Hasher.Denot}) other old new was now b (Ok next)) c.in-Ok-Some.field-0-is (hands left (Stands {S = g.row.S.Denot} {H = g.row.S-Hasher.Denot}) other old new was now b h (Ok c.in-Ok-Some.field-0) (c.in-Ok-Some.ensures.answers h.given b h.stands)) in
+    let (f, is, second, other_few, adds, given) = subst (λ next. Hands left (WriterStands {S = g.row.S.Denot} {H = g.row.S-Hasher.Denot}) other old new was now b (Ok next)) c.in-Ok-Some.field-0-is (hands left (WriterStands {S = g.row.S.Denot} {H = g.row.S-Hasher.Denot}) other old new was now b h (Ok c.in-Ok-Some.field-0) (c.in-Ok-Some.ensures.answers h.given b h.stands)) in
     let both = told_second c.args.self.now a b now (items_of e) (items_of f) adds so_far in
     record { f = f; given = given; compared = subst (λ place. Compares c.compare.new.self a b e f place) c.in-Ok-None-compare.field-0-is (c.in-Ok-None-compare.ensures.compares a b e f of is first second few other_few both) }
 
@@ -23,7 +23,7 @@ returns-in-Ok-Some-compare-clause-meets g c file other a b e of first few so_far
     let new = c.next.new.self in
     let was = c.args.self.now.second in
     let now = c.next.new.visitor in
-    let (f, is, second, other_few, adds, given) = subst (λ next. Hands left (Stands {S = g.row.S.Denot} {H = g.row.S-Hasher.Denot}) other old new was now b (Ok next)) c.in-Ok-Some.field-0-is (hands left (Stands {S = g.row.S.Denot} {H = g.row.S-Hasher.Denot}) other old new was now b h (Ok c.in-Ok-Some.field-0) (c.in-Ok-Some.ensures.answers h.given b h.stands)) in
+    let (f, is, second, other_few, adds, given) = subst (λ next. Hands left (WriterStands {S = g.row.S.Denot} {H = g.row.S-Hasher.Denot}) other old new was now b (Ok next)) c.in-Ok-Some.field-0-is (hands left (WriterStands {S = g.row.S.Denot} {H = g.row.S-Hasher.Denot}) other old new was now b h (Ok c.in-Ok-Some.field-0) (c.in-Ok-Some.ensures.answers h.given b h.stands)) in
     let both = told_second c.args.self.now a b now (items_of e) (items_of f) adds so_far in
     record { f = f; given = given; parts = subst (λ place. Compares c.compare.new.self a b e f place) c.in-Ok-Some-compare.field-0-is (c.in-Ok-Some-compare.ensures.compares a b e f of is first second few other_few both) }
 
@@ -34,7 +34,7 @@ returns-in-Ok-None-clause-meets g c file other a b e of first few so_far h =
     let new = c.next.new.self in
     let was = c.args.self.now.second in
     let now = c.next.new.visitor in
-    let (typed, given) = subst (λ next. Hands left (Stands {S = g.row.S.Denot} {H = g.row.S-Hasher.Denot}) other old new was now b (Ok next)) c.in-Ok-None.field-0-is (hands left (Stands {S = g.row.S.Denot} {H = g.row.S-Hasher.Denot}) other old new was now b h (Ok c.in-Ok-None.field-0) (c.in-Ok-None.ensures.answers h.given b h.stands)) in
+    let (typed, given) = subst (λ next. Hands left (WriterStands {S = g.row.S.Denot} {H = g.row.S-Hasher.Denot}) other old new was now b (Ok next)) c.in-Ok-None.field-0-is (hands left (WriterStands {S = g.row.S.Denot} {H = g.row.S-Hasher.Denot}) other old new was now b h (Ok c.in-Ok-None.field-0) (c.in-Ok-None.ensures.answers h.given b h.stands)) in
     not_ended left file other new c.args.self.now a b e first so_far.agree typed
 
 pub returns-in-Err-clause-meets : goal.returns-in-Err-clause-meets
@@ -42,4 +42,4 @@ returns-in-Err-clause-meets g c file other a b e of first few so_far h =
     let left = g.B.Source.left in
     let new = c.next.new.self in
     subst (λ r. Meets left file other new (with_second c.args.self.now c.next.new.visitor) a b e r) (sym c.refused.ensures)
-    (refused_meets left file other new (with_second c.args.self.now c.next.new.visitor) a b e c.in-Err.error (hands left (Stands {S = g.row.S.Denot} {H = g.row.S-Hasher.Denot}) other c.args.second.now new c.args.self.now.second c.next.new.visitor b h (Err c.in-Err.error) (c.in-Err.ensures.answers h.given b h.stands)))
+    (refused_meets left file other new (with_second c.args.self.now c.next.new.visitor) a b e c.in-Err.error (hands left (WriterStands {S = g.row.S.Denot} {H = g.row.S-Hasher.Denot}) other c.args.second.now new c.args.self.now.second c.next.new.visitor b h (Err c.in-Err.error) (c.in-Err.ensures.answers h.given b h.stands)))

@@ -1,7 +1,7 @@
 use Rattle.std.proofs.Common.{◌≡◌, [], ◌∷◌}
 use Rattle.xdr3.specs.Item.{Handle, Opaque}
 use Rattle.xdr3.specs.Visit.{Adds}
-use Rattle.canon3.specs.MessageWriter.{Stands}
+use Rattle.canon3.specs.machinery.MessageWriter.{WriterStands}
 use Rattle.canon3.proofs.HandleTableLemmas.{still_ok}
 use Rattle.canon3.proofs.Visiting.{adds_empty_handle, is_none, keeps_writer, settled, still_err}
 use Rattle.canon3.proofs.message_writer.MessageWriterVisit.handle.Goals as goal
@@ -16,4 +16,4 @@ returns-then-is_empty-clause-err g c = still_err c.handle.result (keeps_writer c
 
 pub returns-clause-ok : goal.returns-clause-ok
 returns-clause-ok g c =
-    settled (λ n. Adds (Stands {S = g.row.S.Denot} {H = g.row.S-Hasher.Denot}) c.args.self.now n (Opaque Handle c.args.name.now c.args.bytes.now ∷ [])) c.write_handle-written.result c.settle.result c.write_handle-written.new.self c.settle.new.self c.settle.ensures.result c.settle.ensures.ok c.write_handle-written.ensures.ok
+    settled (λ n. Adds (WriterStands {S = g.row.S.Denot} {H = g.row.S-Hasher.Denot}) c.args.self.now n (Opaque Handle c.args.name.now c.args.bytes.now ∷ [])) c.write_handle-written.result c.settle.result c.write_handle-written.new.self c.settle.new.self c.settle.ensures.result c.settle.ensures.ok c.write_handle-written.ensures.ok

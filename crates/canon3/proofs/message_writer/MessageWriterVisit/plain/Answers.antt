@@ -1,6 +1,6 @@
 use Rattle.xdr3.specs.Plain.{run_items}
 use Rattle.xdr3.specs.Visit.{Adds}
-use Rattle.canon3.specs.MessageWriter.{Stands}
+use Rattle.canon3.specs.machinery.MessageWriter.{WriterStands}
 use Rattle.canon3.proofs.HandleTableLemmas.{still_ok}
 use Rattle.canon3.proofs.Visiting.{adds_run, behind_xid, settled}
 use Rattle.canon3.proofs.message_writer.MessageWriterVisit.plain.Goals as goal
@@ -12,5 +12,5 @@ returns-in-Goes g c = record {
 
 pub returns-in-Begins : goal.returns-in-Begins
 returns-in-Begins g c = record {
-  ok = settled (λ n. Adds (Stands {S = g.row.S.Denot} {H = g.row.S-Hasher.Denot}) c.args.self.now n (run_items c.args.fields.now c.args.bytes.now)) c.write_first-written.result c.settle.result c.write_first-written.new.self c.settle.new.self c.settle.ensures.result c.settle.ensures.ok c.write_first-written.ensures.ok;
+  ok = settled (λ n. Adds (WriterStands {S = g.row.S.Denot} {H = g.row.S-Hasher.Denot}) c.args.self.now n (run_items c.args.fields.now c.args.bytes.now)) c.write_first-written.result c.settle.result c.write_first-written.new.self c.settle.new.self c.settle.ensures.result c.settle.ensures.ok c.write_first-written.ensures.ok;
 }

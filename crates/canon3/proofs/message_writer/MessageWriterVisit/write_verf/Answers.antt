@@ -1,10 +1,10 @@
 use Rattle.std.proofs.Common.{[], ◌∷◌}
 use Rattle.xdr3.specs.Item.{WriteVerf}
 use Rattle.xdr3.specs.Visit.{Adds}
-use Rattle.canon3.specs.MessageWriter.{Stands}
+use Rattle.canon3.specs.machinery.MessageWriter.{WriterStands}
 use Rattle.canon3.proofs.Visiting.{settled}
 use Rattle.canon3.proofs.message_writer.MessageWriterVisit.write_verf.Goals as goal
 
 pub returns-clause-ok : goal.returns-clause-ok
 returns-clause-ok g c =
-    settled (λ n. Adds (Stands {S = g.row.S.Denot} {H = g.row.S-Hasher.Denot}) c.args.self.now n (WriteVerf c.args.name.now c.args.bytes.now ∷ [])) c.write_verifier-written.result c.settle.result c.write_verifier-written.new.self c.settle.new.self c.settle.ensures.result c.settle.ensures.ok c.write_verifier-written.ensures.ok
+    settled (λ n. Adds (WriterStands {S = g.row.S.Denot} {H = g.row.S-Hasher.Denot}) c.args.self.now n (WriteVerf c.args.name.now c.args.bytes.now ∷ [])) c.write_verifier-written.result c.settle.result c.write_verifier-written.new.self c.settle.new.self c.settle.ensures.result c.settle.ensures.ok c.write_verifier-written.ensures.ok

@@ -1,15 +1,16 @@
 use Rattle.std.proofs.Common.{◌≡◌, ◌≤◌, ◌+◌, List, ℕ, None, Option}
-use Rattle.capture3.specs.Entries.{entries_left, failure_of}
-use Rattle.capture3.specs.Position.{most_entries}
+use Rattle.capture3.specs.Entries.{failure_of}
+use Rattle.capture3.specs.machinery.Entries.{entries_left}
+use Rattle.capture3.specs.Laws.{most_entries}
 use Rattle.canon3.specs.Passed.{passed_steps}
-use Rattle.canon3.specs.Tally.{IsUnderWay}
+use Rattle.canon3.specs.machinery.Tally.{IsTallying}
 use Rattle.canon3.proofs.summary.Tally.add_all.Given as goal
 
 abbrev pub invariant-loop : goal.invariant-loop
 invariant-loop g l = record {
   going : failure_of l.entries ≡ None;
   room : passed_steps l.self.passed + entries_left l.entries ≤ most_entries;
-  under_way : (first : Option (List ℕ)) → IsUnderWay g.R.Source.left first l.fn.entries l.fn.self → IsUnderWay g.R.Source.left first l.entries l.self;
+  under_way : (first : Option (List ℕ)) → IsTallying g.R.Source.left first l.fn.entries l.fn.self → IsTallying g.R.Source.left first l.entries l.self;
   read : g.R.Source.failures l.entries.source.now ≡ g.R.Source.failures l.fn.entries.source.now;
   same_reference : l.entries.source.ghost_name ≡ l.fn.entries.source.ghost_name;
 }

@@ -3,8 +3,8 @@ use Rattle.std.proofs.KnownBytes.{Consumes-trans}
 use Rattle.xdr3.specs.Item.{Item}
 use Rattle.xdr3.specs.Visit.{Adds}
 use Rattle.canon3.specs.HandleTable.{Gathers}
-use Rattle.canon3.specs.Summary.{all_items}
-use Rattle.capture3.specs.Entries.{HandsOut}
+use Rattle.canon3.specs.machinery.Summary.{all_items}
+use Rattle.capture3.specs.Handing.{HandsOut}
 use Rattle.canon3.proofs.SummaryLemmas.{items_behind}
 use Rattle.canon3.proofs.summary.Tally.add_next.Goals as goal
 

@@ -4,7 +4,7 @@ use Rattle.xdr3.specs.Item.{Handle, Opaque}
 use Rattle.xdr3.specs.Visit.{Adds, Keeps}
 use Rattle.canon3.proofs.HandleTableLemmas.{still_ok}
 use Rattle.canon3.proofs.Visiting.{settled}
-use Rattle.listing3.specs.LineWriter.{Stands}
+use Rattle.listing3.specs.machinery.LineWriter.{LineStands}
 use Rattle.listing3.specs.Listing.{opening}
 use Rattle.listing3.proofs.LineLemmas.{adds_both, keeps_same, keeps_text, settled_err}
 use Rattle.listing3.proofs.line_writer.LineWriter.add_handle.Goals as goal
@@ -16,7 +16,7 @@ returns-in-Ok-clause-ok g c =
     let table = c.handle-gathered.new.self.numbers in
     let name = c.args.name.now in
     let bytes = c.args.bytes.now in
-    settled (λ t. Adds (Stands {S = g.row.S.Denot} {H = g.row.S-Hasher.Denot}) w (record { handles = record { numbers = table }; xid = w.xid; items = t; head = w.head }) (Opaque Handle name bytes ∷ []))
+    settled (λ t. Adds (LineStands {S = g.row.S.Denot} {H = g.row.S-Hasher.Denot}) w (record { handles = record { numbers = table }; xid = w.xid; items = t; head = w.head }) (Opaque Handle name bytes ∷ []))
     c.handle-gathered.result c.settle.result c.append_hex.new.self c.settle.new.self c.settle.ensures.result c.settle.ensures.ok
     (still_ok c.handle-gathered.result (adds_both w c.append_hex.new.self table name bytes c.in-Ok.ensures.ok) c.handle-gathered.ensures.ok)
 

@@ -3,7 +3,7 @@ use Rattle.std.specs.List.{flat_map}
 use Rattle.xdr3.specs.Shape.{word}
 use Rattle.xdr3.proofs.Counted.{TimesSoFar}
 use Rattle.rpc_head.specs.Groups.{group_items}
-use Rattle.rpc_head.specs.Names.{names}
+use Rattle.rpc_head.specs.Names.{head_names}
 use Rattle.rpc_head.proofs.credential.Gids.get.Given as goal
 
 abbrev pub invariant-loop-i : goal.invariant-loop-i
@@ -13,5 +13,5 @@ invariant-loop-i l = record {
   within : l.input.at ≤ length l.input.body;
   whole : length l.words ≡ 16;
   few : l.count ≤ 16;
-  so_far : TimesSoFar (word names.group) (flat_map group_items (take l.i l.words)) l.count l.i l.fn.input.body l.initial.input.at l.input.at;
+  so_far : TimesSoFar (word head_names.group) (flat_map group_items (take l.i l.words)) l.count l.i l.fn.input.body l.initial.input.at l.input.at;
 }

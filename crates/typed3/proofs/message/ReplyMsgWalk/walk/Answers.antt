@@ -3,7 +3,7 @@ use Rattle.std.proofs.lemmas.List.{append-nil}
 use Rattle.xdr3.proofs.Walks.{steps_add}
 use Rattle.xdr3.specs.Item.{Item}
 use Rattle.xdr3.specs.Visit.{Adds}
-use Rattle.rpc_head.specs.Names.{names}
+use Rattle.rpc_head.specs.Names.{head_names}
 use Rattle.rpc_head.specs.Replies.{reply_head_items}
 use Rattle.typed3.proofs.message.ReplyMsgWalk.walk.Goals as goal
 
@@ -12,7 +12,7 @@ unfolding Adds
 adds_nothing stands v = λ before h. subst (stands v) (sym (append-nil before)) h
 
 pub returns-in_default-clause-ok : goal.returns-in_default-clause-ok
-unfolding names
+unfolding head_names
 returns-in_default-clause-ok g c =
     rw c.in_default.is
     (steps_add g.V.Visit.stands c.args.visitor.now c.walk_fields.new.visitor c.walk.new.visitor _ _ c.in_ok-walk_fields.ensures.ok

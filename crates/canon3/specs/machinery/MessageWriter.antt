@@ -1,0 +1,73 @@
+-- A writer of messages with numbers in place of file handles, write verifiers and xids.
+use Rattle.std.specs.Prelude.{◌≡◌, ◌≢◌, ℕ, ◌<◌, ◌^◌, List, [], ◌∷◌, ◌++◌, length, bytes_eq, nat_eq}
+use Rattle.xdr3.specs.Item.{Item, Word, Rest, zero_spelling}
+use Rattle.capture3.specs.Entry.{Entry}
+use Rattle.canon3.specs.declared.message_writer.MessageWriter.{MessageWriter}
+use Rattle.canon3.specs.declared.message_writer.Stage.{Stage}
+use Rattle.canon3.specs.declared.message_writer.Stage.TheVariants.{Begins, Goes, Failed}
+use Rattle.canon3.specs.CanonicalStream.{message_after}
+use Rattle.canon3.specs.machinery.CanonicalStream.{open_xids}
+use Rattle.canon3.specs.HandleTable.{HoldsHandles}
+use Rattle.canon3.specs.Rank.{HoldsDistinct}
+use Rattle.canon3.specs.Values.{handles, handles_in, verifiers, verifiers_in}
+
+-- no more of each than a table has numbers for
+abbrev pub AreFew : (hs vs : List (List ℕ)) → Type 0
+AreFew hs vs = (length hs < 2 ^ 32) × (length vs < 2 ^ 32)
+
+-- what was there before a message: the handles, the write verifiers, and the xids of the open connection's calls
+pub record Before : Type 0 where
+  pub handles : List (List ℕ)
+  pub verifiers : List (List ℕ)
+  pub xids : List ℕ
+
+-- the values of these entries
+abbrev pub values_of : List Entry → Before
+values_of entries = record { handles = handles entries; verifiers = verifiers entries; xids = open_xids [] entries }
+
+-- the tables hold these
+pub record HoldsBefore {S H : Type 0} (n : MessageWriter S H) (before : Before) : Type 0 where
+  pub handles : HoldsHandles n.handles before.handles
+  pub verifiers : HoldsDistinct bytes_eq n.verfs before.verifiers
+  pub xids : HoldsDistinct nat_eq n.xids before.xids
+
+-- ---- within a message
+
+-- the bytes are those of the message, where xs are the xids with its own
+abbrev pub IsWritten : List ℕ → Before → (xs : List ℕ) → List Item → Type 0
+IsWritten bytes before xs items =
+    AreFew (before.handles ++ handles_in items) (before.verifiers ++ verifiers_in items) → length xs < 2 ^ 32 → bytes ≡ zero_spelling (message_after before.handles before.verifiers xs items)
+
+-- the message up to here, which begins with its xid; nothing is said where it begins with another item
+abbrev pub IsSpelled : Stage → (table bytes : List ℕ) → Before → List Item → Type 0
+IsSpelled stage table bytes before [] = (stage ≡ Begins) × HoldsDistinct nat_eq table before.xids × (bytes ≡ [])
+IsSpelled stage table bytes before (Word name x ∷ items) = (stage ≡ Goes) × HoldsDistinct nat_eq table (before.xids ++ x ∷ []) × IsWritten bytes before (before.xids ++ x ∷ []) (Word name x ∷ items)
+IsSpelled stage table bytes before _ = Unit {0}
+
+pub record IsWithinMessage {S H : Type 0} (n : MessageWriter S H) (before : Before) (items : List Item) : Type 0 where
+  pub handles : HoldsHandles n.handles (before.handles ++ handles_in items)
+  pub verifiers : HoldsDistinct bytes_eq n.verfs (before.verifiers ++ verifiers_in items)
+  pub spelled : IsSpelled n.stage n.xids n.writer before items
+
+-- A visitor stands for lists of items alone. So items in front of the message's own tell what was there before it.
+abbrev pub in_front_of : List (List ℕ) → List Item → List Item
+in_front_of [] items = Word [] 0 ∷ items
+in_front_of (x ∷ xs) items = Rest [] x ∷ in_front_of xs items
+
+abbrev pub behind : Before → List Item → List Item
+behind before items = Rest [] before.xids ∷ in_front_of before.handles (in_front_of before.verifiers items)
+
+-- a message under way, and what was there before it
+pub record HasMessageUnderWay {S H : Type 0} (n : MessageWriter S H) (all : List Item) : Type 0 where
+  pub before : Before
+  pub items : List Item
+  pub are : all ≡ behind before items
+  pub under_way : IsWithinMessage n before items
+
+-- it has not failed
+abbrev pub IsGoing : {S H : Type 0} → MessageWriter S H → Type 0
+IsGoing n = n.stage ≢ Failed
+
+-- nothing is said of one that has failed
+abbrev pub WriterStands : {S H : Type 0} → MessageWriter S H → List Item → Type 0
+WriterStands n all = IsGoing n → HasMessageUnderWay n all

@@ -1,0 +1,28 @@
+-- What an entry is written as in the canonical form.
+use Rattle.std.specs.Prelude.{◌≡◌, ℕ, List, [], ◌∷◌, ◌++◌}
+use Rattle.std.specs.List.{flat_map}
+use Rattle.xdr3.specs.Item.{word_bytes}
+use Rattle.capture3.specs.Entry.{Entry}
+use Rattle.canon3.specs.declared.message_writer.MessageWriter.{MessageWriter}
+use Rattle.canon3.specs.declared.spelling.Spelling.{Spelling}
+use Rattle.canon3.specs.declared.spelling.Spelling.TheVariants.{Zero, One, Message}
+use Rattle.canon3.specs.Bytes.{chunk_bytes, entry_bytes, record_bytes}
+use Rattle.canon3.specs.CanonicalStream.{entries_after}
+use Rattle.canon3.specs.machinery.CanonicalStream.{open_xids}
+use Rattle.canon3.specs.machinery.MessageWriter.{HoldsBefore, values_of}
+use Rattle.canon3.specs.Values.{handles, verifiers}
+
+-- the word 0, the word 1, or a message with this body
+abbrev pub spelling_of : Spelling → List ℕ → List ℕ
+spelling_of Zero body = word_bytes 0
+spelling_of One body = word_bytes 1
+spelling_of Message body = chunk_bytes (record_bytes body)
+
+-- the bytes of entries in the canonical form, where they come after others
+abbrev pub bytes_behind : (entries more : List Entry) → List ℕ
+bytes_behind entries more = flat_map entry_bytes (entries_after (handles entries) (verifiers entries) (open_xids [] entries) more)
+
+-- The values are held, and the entry's bytes in the canonical form are told.
+pub record HasSpelled {S H : Type 0} (n : MessageWriter S H) (form : Spelling) (entries : List Entry) (one : Entry) : Type 0 where
+  pub holds : HoldsBefore n (values_of (entries ++ one ∷ []))
+  pub spelled : spelling_of form n.writer ≡ bytes_behind entries (one ∷ [])

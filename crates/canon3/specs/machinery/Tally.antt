@@ -1,0 +1,55 @@
+-- What is tallied of a capture's entries along a reader.
+use Rattle.std.specs.Prelude.{ℕ, Bool, true, false, Option, List, Result, Ok, Err}
+use Rattle.std.specs.Io.KnownBytes.{Consumes, IsAtEnd}
+use Rattle.std.specs.declared.hash.BuildHasher as BuildHasher
+use Rattle.std.specs.declared.hash.Hasher as Hasher
+use Rattle.capture3.specs.declared.reader.entries.Entries.{Entries}
+use Rattle.capture3.specs.declared.fault.Error.{Error}
+use Rattle.capture3.specs.Entries.{IsMetBy}
+use Rattle.capture3.specs.machinery.Entries.{StandsFor}
+use Rattle.capture3.specs.Entry.{Entry}
+use Rattle.capture3.specs.Typed.{Typed}
+use Rattle.canon3.specs.declared.summary.Tally.{Tally}
+use Rattle.canon3.specs.HandleTable.{Gathers}
+use Rattle.canon3.specs.Passed.{ArePassed}
+use Rattle.canon3.specs.machinery.Summary.{all_items}
+
+-- these entries came, and their handles were gathered
+pub record Tallies {S H : Type 0} (tally : Tally S H) (entries : List Entry) : Type 0 where
+  pub passed : ArePassed tally.passed entries
+  pub handles : Gathers tally.handles.numbers (all_items entries)
+
+-- the bytes met an error
+pub record HasFailed {R S H : Type 0} {builds : BuildHasher.Ghosts S H} {hashes : Hasher.Ghosts H} (left : R → Option (List ℕ)) (first : Option (List ℕ)) (reader : Entries R S H builds hashes) (error : Error) : Type 0 where
+  pub given : List ℕ
+  pub handed : List Entry
+  pub consumed : Consumes first (left reader.source.now) given
+  pub met : IsMetBy error (left reader.source.now) given handed
+
+-- a reader that hands out entries, from when so much was left first, and what is tallied of them
+module _ {R S H : Type 0} {builds : BuildHasher.Ghosts S H} {hashes : Hasher.Ghosts H} (left : R → Option (List ℕ)) (first : Option (List ℕ)) where
+  -- what it handed out is in the tally
+  pub record IsTallying (reader : Entries R S H builds hashes) (tally : Tally S H) : Type 0 where
+    pub given : List ℕ
+    pub handed : List Entry
+    pub consumed : Consumes first (left reader.source.now) given
+    pub stands : StandsFor left reader given handed
+    pub tallied : Tallies tally handed
+
+  -- all bytes were a capture's, and all its entries are in the tally
+  pub record HasTalliedAll (reader : Entries R S H builds hashes) (tally : Tally S H) : Type 0 where
+    pub given : List ℕ
+    pub handed : List Entry
+    pub consumed : Consumes first (left reader.source.now) given
+    pub ended : IsAtEnd (left reader.source.now)
+    pub typed : Typed given handed
+    pub tallied : Tallies tally handed
+
+  abbrev pub TalliesOn : Entries R S H builds hashes → Tally S H → Result Bool Error → Type 0
+  TalliesOn reader tally (Ok true) = IsTallying reader tally
+  TalliesOn reader tally (Ok false) = HasTalliedAll reader tally
+  TalliesOn reader tally (Err error) = HasFailed left first reader error
+
+  abbrev pub TalliesToTheEnd : {X : Type 0} → Entries R S H builds hashes → Tally S H → Result X Error → Type 0
+  TalliesToTheEnd reader tally (Ok x) = HasTalliedAll reader tally
+  TalliesToTheEnd reader tally (Err error) = HasFailed left first reader error

@@ -1,6 +1,0 @@
-use Rattle.std.proofs.Common.{◌≡◌, drop}
-use Rattle.capture3.specs.Calls.{found}
-use Rattle.capture3.proofs.calls.CallList.find.Given as goal
-
-abbrev pub invariant-loop-call : goal.invariant-loop-call
-invariant-loop-call l = found l.self l.xid ≡ found (drop l.call-index l.self) l.xid

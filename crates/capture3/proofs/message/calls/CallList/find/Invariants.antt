@@ -1,0 +1,6 @@
+use Rattle.std.proofs.Common.{◌≡◌, drop}
+use Rattle.capture3.specs.machinery.Calls.{found}
+use Rattle.capture3.proofs.message.calls.CallList.find.Given as goal
+
+abbrev pub invariant-loop-call : goal.invariant-loop-call
+invariant-loop-call l = found l.self l.xid ≡ found (drop l.call-index l.self) l.xid

@@ -1,0 +1,22 @@
+use Rattle.std.proofs.Common.{◌≡◌, ◌≤◌, ◌+◌, ◌-◌, List, ℕ}
+use Rattle.capture3.specs.declared.reader.entries.Stage.TheVariants.{Reading}
+use Rattle.capture3.specs.Entries.{block_size}
+use Rattle.capture3.specs.machinery.Entries.{entries_left, HasRead, StandsFor}
+use Rattle.capture3.specs.Entry.{Entry}
+use Rattle.capture3.specs.Capture.{Two}
+use Rattle.capture3.specs.Laws.{most_bytes}
+use Rattle.capture3.proofs.reader.entries.Entries.read_on.Given as goal
+
+abbrev pub invariant-loop-self : goal.invariant-loop-self
+invariant-loop-self g l = record {
+  reading : l.self.stage ≡ Reading;
+  has_read : (given : List ℕ) (handed : List Entry) → StandsFor g.R.Source.left l.initial.self given handed → HasRead g.R.Source.left l.initial.self l.self given handed;
+  untold : l.visitor ≡ l.initial.visitor;
+  fewer : entries_left l.self ≤ entries_left l.initial.self;
+  read : g.R.Source.failures l.self.source.now ≡ g.R.Source.failures l.initial.self.source.now;
+  same_block : block_size l.self ≡ block_size l.initial.self;
+  same_reference : l.self.source.ghost_name ≡ l.initial.self.source.ghost_name;
+}
+
+abbrev pub decreases-loop-self : goal.decreases-loop-self
+decreases-loop-self g l = most_bytes Two + 2 - l.self.judged

@@ -1,0 +1,26 @@
+use Rattle.std.proofs.Common.{ap, subst, sym, ◌∙◌, List, ℕ}
+use Rattle.capture3.specs.Bodies.{IsCall}
+use Rattle.capture3.specs.Judging.{judge_call}
+use Rattle.capture3.proofs.Captures.{table_added, table_agrees}
+use Rattle.capture3.proofs.MessageScanLemmas.{call_agrees}
+use Rattle.capture3.proofs.reader.judging.Capture.call.Goals as goal
+
+pub returns-then-branch-clause-ok : goal.returns-then-branch-clause-ok
+returns-then-branch-clause-ok g c calls table =
+    let scanned = c.in-Ok.ensures.ok in
+    let agree = table_agrees (g.C.KnownCalls.calls c.args.self.now.calls) calls c.in-Ok.call.xid c.in-Ok.call.id c.in_ok-admit.field-0 table c.in_ok-admit.ensures.agrees c.if-branch.true in
+    record {
+      items = scanned.items;
+      judged = ap (judge_call calls) (sym c.body.ensures.body) ∙ call_agrees g.V.Visit.stands calls _ c.in-Ok.call _ _ scanned agree;
+      is_call = subst (λ (body : List ℕ). IsCall body scanned.items) c.body.ensures.body scanned.is_call;
+      id_is = sym scanned.procedure_is;
+      added =
+          rw (c.in_ok-admit.ensures.added c.if-branch.true)
+          (table_added (g.C.KnownCalls.calls c.args.self.now.calls) calls scanned.items c.in-Ok.call.xid c.in-Ok.call.id scanned.xid_is scanned.procedure_is table);
+      adds = scanned.adds;
+    }
+
+pub returns-then-branch-clause-spells : goal.returns-then-branch-clause-spells
+returns-then-branch-clause-spells g c =
+    let scanned = c.in-Ok.ensures.ok in
+    ∣ (scanned.items, subst (λ (body : List ℕ). IsCall body scanned.items) c.body.ensures.body scanned.is_call, sym scanned.procedure_is) ∣₁

@@ -1,0 +1,19 @@
+use Rattle.std.proofs.Common.{◌≤◌, ◌+◌, ◌-◌, length, take, vec_len}
+use Rattle.record_mark.specs.Taking.{released}
+use Rattle.capture3.specs.machinery.Container.{IsReady, IsStored, room_in}
+use Rattle.capture3.specs.machinery.Position.{IsSoundPosition, most_things}
+use Rattle.capture3.proofs.Parsed.{Keeps}
+use Rattle.capture3.proofs.reader.whole.parse.Given as goal
+
+abbrev pub invariant-loop-taken : goal.invariant-loop-taken
+invariant-loop-taken l = record {
+  within : l.taken ≤ length l.bytes;
+  sound : IsSoundPosition l.capture.container.position;
+  stored : IsStored l.capture.container;
+  ready : IsReady l.capture.container.cursor (released l.capture.container.joiner);
+  room : vec_len l.entries + room_in l.capture.container ≤ most_things;
+  machine : Keeps l.capture.container l.capture.calls (take l.taken l.bytes) l.entries.items;
+}
+
+abbrev pub decreases-loop-taken : goal.decreases-loop-taken
+decreases-loop-taken l = (room_in l.capture.container) + (length l.bytes - l.taken)

@@ -1,0 +1,13 @@
+-- What clauses inside the crate and proofs name, and no reader of a public clause has to believe.
+pub mod Calls
+pub mod Container
+pub mod Entries
+pub mod Judges
+pub mod MessageScan
+pub mod Messages
+pub mod Position
+pub mod Recalled
+pub mod Resumed
+pub mod Siding
+pub mod Spelled
+pub mod Unpacking

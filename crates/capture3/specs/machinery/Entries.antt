@@ -1,0 +1,83 @@
+-- The histories for which a reader of entries stands: what its source gave it, and what it handed out.
+use Rattle.std.specs.Prelude.{◌≡◌, ℕ, ◌+◌, ◌≤◌, Option, Some, None, Result, Ok, Err, List, [], ◌∷◌, ◌++◌, length, slice_range}
+use Rattle.std.specs.Io.KnownBytes.{Consumes, IsAtEnd}
+use Rattle.xdr3.specs.Item.{AreBytes, Item}
+use Rattle.xdr3.specs.Visit.{Adds}
+use Rattle.std.specs.declared.hash.BuildHasher as BuildHasher
+use Rattle.std.specs.declared.hash.Hasher as Hasher
+use Rattle.capture3.specs.declared.reader.entries.Entries.{Entries}
+use Rattle.capture3.specs.declared.reader.entries.Stage.{Stage}
+use Rattle.capture3.specs.declared.reader.entries.Stage.TheVariants.{Reading, Over, Failed}
+use Rattle.capture3.specs.declared.reader.entry.Kind.{Kind}
+use Rattle.capture3.specs.declared.fault.Error.{Error}
+use Rattle.capture3.specs.declared.container.Container.{Container}
+use Rattle.capture3.specs.Capture.{Two, max_connections}
+use Rattle.capture3.specs.machinery.Container.{room_in}
+use Rattle.capture3.specs.Entry.{Entry, items_of}
+use Rattle.capture3.specs.machinery.Judges.{HasCome, IsHeld}
+use Rattle.capture3.specs.Kept.{IsOfKind}
+use Rattle.capture3.specs.Laws.{begins, most_bytes}
+use Rattle.capture3.specs.Laws.{most_entries}
+use Rattle.capture3.specs.Typed.{Typed}
+use Rattle.capture3.specs.Entries.{IsMetBy, block_size}
+
+-- how many entries there can be from here on
+abbrev pub entries_left_in : Stage → Container → ℕ
+entries_left_in Reading container = room_in container + 1
+entries_left_in Over container = 0
+entries_left_in (Failed error) container = 0
+
+module _ {R S H : Type 0} {builds : BuildHasher.Ghosts S H} {hashes : Hasher.Ghosts H} where
+  abbrev pub entries_left : Entries R S H builds hashes → ℕ
+  entries_left entries = entries_left_in entries.stage entries.capture.container
+
+  -- the record of this entry stands, if it was the last
+  abbrev pub HoldsRecordOf : Entries R S H builds hashes → Entry → Type 0
+  HoldsRecordOf entries entry = (kind : Kind) → entries.last ≡ Some kind → IsHeld kind entries.capture.container.joiner entry
+
+  abbrev pub HoldsLast : Entries R S H builds hashes → List Entry → Type 0
+  HoldsLast entries handed = (front : List Entry) (entry : Entry) → handed ≡ front ++ entry ∷ [] → HoldsRecordOf entries entry
+
+  -- the bytes of the block that are not judged yet
+  abbrev pub unjudged : Entries R S H builds hashes → List ℕ
+  unjudged entries = slice_range entries.block.items entries.start entries.end
+
+  -- the machine for a capture file stands after the bytes judged, and has emitted what was handed out
+  pub record IsReading (entries : Entries R S H builds hashes) (given : List ℕ) (handed : List Entry) : Type 0 where
+    pub judged : List ℕ
+    pub split : given ≡ judged ++ unjudged entries
+    pub counted : entries.judged ≡ length judged
+    pub machine : HasCome entries.capture.container entries.capture.calls judged handed
+
+  abbrev pub StandsIn : Stage → Option (List ℕ) → Entries R S H builds hashes → List ℕ → List Entry → Type 0
+  StandsIn Reading left entries given handed = IsReading entries given handed
+  StandsIn Over left entries given handed = Typed given handed × IsAtEnd left
+  StandsIn (Failed error) left entries given handed = IsMetBy error left given handed
+
+  -- The source gave these bytes since the reader was new, at most a block more than the longest capture has, and the reader handed out these
+  -- entries.
+  pub record StandsFor (left : R → Option (List ℕ)) (entries : Entries R S H builds hashes) (given : List ℕ) (handed : List Entry) : Type 0 where
+    pub bytes : AreBytes given
+    pub few : length handed + entries_left entries ≤ most_entries
+    pub connections : begins handed ≤ max_connections
+    pub most : length given ≤ most_bytes Two + block_size entries
+    pub holds : HoldsLast entries handed
+    pub here : StandsIn entries.stage (left entries.source.now) entries given handed
+
+  -- the source gave more bytes
+  pub record HasRead (left : R → Option (List ℕ)) (old new : Entries R S H builds hashes) (given : List ℕ) (handed : List Entry) : Type 0 where
+    pub more : List ℕ
+    pub consumed : Consumes (left old.source.now) (left new.source.now) more
+    pub stands : StandsFor left new (given ++ more) handed
+
+  -- an entry is handed out and told; or it goes on, or has failed
+  abbrev pub HandsOutOrGoesOn : {V : Type 0} → (R → Option (List ℕ)) → (V → List Item → Type 0) → Entries R S H builds hashes → (was now : V) → List ℕ → List Entry → Result (Option Kind) Error → Type 0
+  HandsOutOrGoesOn left stands new was now given handed (Ok (Some kind)) =
+      (entry : Entry) × IsOfKind kind entry × Adds stands was now (items_of entry) × StandsFor left new given (handed ++ entry ∷ [])
+  HandsOutOrGoesOn left stands new was now given handed (Ok None) = StandsFor left new given handed
+  HandsOutOrGoesOn left stands new was now given handed (Err error) = StandsFor left new given handed
+
+  pub record Turns {V : Type 0} (left : R → Option (List ℕ)) (stands : V → List Item → Type 0) (old new : Entries R S H builds hashes) (was now : V) (given : List ℕ) (handed : List Entry) (result : Result (Option Kind) Error) : Type 0 where
+    pub more : List ℕ
+    pub consumed : Consumes (left old.source.now) (left new.source.now) more
+    pub goes_on : HandsOutOrGoesOn left stands new was now (given ++ more) handed result

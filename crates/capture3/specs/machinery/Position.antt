@@ -1,0 +1,207 @@
+-- The limits that a position keeps, and what each of its steps does.
+use Rattle.std.specs.Prelude.{◌≡◌, ◌≢◌, ◌≤◌, ◌<◌, ℕ, ◌+◌, ◌-◌, ◌*◌, Option, Some, None, Result, Ok, Err, List, [], ◌++◌, length, take, drop}
+use Rattle.record_mark.specs.Machine.{Next, Ends, Run, Runs, Stops, after, landed}
+use Rattle.record_mark.specs.Joining.{Joining, Between}
+use Rattle.record_mark.specs.Taking.{joined_body}
+use Rattle.capture3.specs.machinery.Unpacking.{Unpacking, Unpacked, Opened, Has, HasStreams, Refuses, left_of_magic, awaiting_chunk, unpack_next}
+use Rattle.capture3.specs.machinery.Unpacking as unpacking
+use Rattle.capture3.specs.declared.container.position.TheConstants.{MAGIC}
+use Rattle.capture3.specs.declared.fault.Error.{Error}
+use Rattle.capture3.specs.declared.fault.Error.TheVariants.{Refused}
+use Rattle.capture3.specs.declared.fault.Side.{Side}
+use Rattle.capture3.specs.declared.fault.Side.TheVariants as sides
+use Rattle.capture3.specs.declared.container.position.Event.{Event}
+use Rattle.capture3.specs.declared.container.position.Event.TheVariants.{Record, Streams}
+use Rattle.capture3.specs.declared.container.position.Version as declared
+use Rattle.capture3.specs.declared.container.position.Version.TheVariants as versions
+use Rattle.capture3.specs.Capture.{Version, One, Two}
+use Rattle.capture3.specs.Mixing.{SideWord, awaiting_side}
+use Rattle.capture3.specs.Mixing as mixing
+use Rattle.capture3.specs.SidedChunks as sided
+use Rattle.capture3.specs.SidedChunks.{size}
+use Rattle.capture3.specs.declared.container.position.Position.{Position}
+use Rattle.capture3.specs.declared.container.position.Taken.{Taken}
+use Rattle.capture3.specs.declared.container.position.Spot.{Spot}
+use Rattle.record_mark.specs.Word.{IsWord}
+use Rattle.capture3.specs.declared.container.word_part.WordPart.{WordPart}
+use Rattle.capture3.specs.declared.container.word_part.Word.{Word}
+use Rattle.capture3.specs.declared.container.word_part.Word.TheVariants.{Part, Whole}
+use Rattle.capture3.specs.declared.container.position.Spot.TheVariants.{Magic, Digit, Mark, Length, Chunk, Ended}
+use Rattle.capture3.specs.declared.container.position.Spot.TheVariants as spots
+
+-- the word 1 of a connection, and after the client stream its word 0
+abbrev pub words_before : Side → ℕ
+words_before sides.Client = 0
+words_before sides.Server = 4
+
+-- How many bytes there are at most: twelve for each connection's words, and nine for each stream byte, in chunks of one byte.
+abbrev pub span : ℕ → ℕ → ℕ
+span connections total = 12 * connections + 9 * total
+
+-- how far a position can stand, by the part that is open, its byte, and its counts
+abbrev pub IsSoundSpot : Spot → ℕ → ℕ → ℕ → ℕ → Type 0
+IsSoundSpot Magic at total connections records = at < 7
+IsSoundSpot Digit at total connections records = at ≡ 7
+IsSoundSpot (Mark part) at total connections records = (part.count < 4) × (at ≤ 8 + span connections total)
+IsSoundSpot (Length side part) at total connections records = (part.count < 4) × (at ≤ words_before side + span connections total)
+IsSoundSpot (Chunk side left) at total connections records = (0 < left) × (left ≤ at) × (at ≤ words_before side + span connections total) × (records + left ≤ total)
+IsSoundSpot (spots.Side part) at total connections records = (part.count < 4) × (at ≤ span connections total)
+IsSoundSpot (spots.SideLength side part) at total connections records = (part.count < 4) × (at ≤ 4 + span connections total)
+IsSoundSpot (spots.SideChunk side left) at total connections records = (0 < left) × (at ≤ span connections total)
+IsSoundSpot Ended at total connections records = at ≤ 12 + span connections total
+
+-- the counts are within the limits, and the position stands no further than they allow
+pub record IsSoundPosition (p : Position) : Type 0 where
+  pub small : p.total ≤ 1073741824
+  pub few : p.connections ≤ 65535
+  pub counted : p.records ≤ p.total
+  pub here : IsSoundSpot p.spot p.at p.total p.connections p.records
+
+-- the bytes of a word so far
+abbrev pub bytes_so_far : WordPart → List ℕ
+bytes_so_far part = take part.count part.bytes
+
+-- the version, as the definitions of a capture have it
+abbrev pub version_of : declared.Version → Version
+version_of versions.One = One
+version_of versions.Two = Two
+
+-- the part that is open, as the machine has it
+abbrev pub opened_at : Version → sided.Streams → Spot → ℕ → Opened
+opened_at version streams Magic at = left_of_magic (drop at MAGIC)
+opened_at version streams Digit at = unpacking.Digit
+opened_at version streams (Mark part) at = unpacking.Mark version (bytes_so_far part)
+opened_at version streams (Length side part) at = unpacking.Length side (bytes_so_far part)
+opened_at version streams (Chunk side left) at = awaiting_chunk side left
+opened_at version streams (spots.Side part) at = unpacking.Mixed streams (SideWord (bytes_so_far part))
+opened_at version streams (spots.SideLength side part) at = unpacking.Mixed streams (mixing.SideLength side (bytes_so_far part))
+opened_at version streams (spots.SideChunk side left) at = unpacking.Mixed streams (awaiting_side side left)
+opened_at version streams Ended at = unpacking.Ended version
+
+-- What came of a word: the bytes taken belong to it, and it is whole, or they are all that there were.
+abbrev pub TakesWord : WordPart → List ℕ → ℕ → Word → Type 0
+TakesWord before bytes count (Part part) = (bytes_so_far part ≡ bytes_so_far before ++ take count bytes) × (count ≡ length bytes)
+TakesWord before bytes count (Whole n) = IsWord (bytes_so_far before ++ take count bytes) n
+
+-- the position, the streams and the open record, as the machine has them
+abbrev pub unpacking_at : Position → sided.Streams → Joining → Unpacking
+unpacking_at p streams joining =
+    record { at = p.at; total = p.total; connections = p.connections; records = p.records; opened = opened_at (version_of p.version) streams p.spot p.at; joining = joining }
+
+-- some of the bytes lead the machine to the fault
+abbrev pub ShowsFault : Unpacking → List ℕ → Error → Type 0
+ShowsFault from bytes (Refused fault) = (n : ℕ) × (n ≤ length bytes) × (after unpack_next (Runs from) (take n bytes) ≡ Stops (Refuses fault))
+ShowsFault from bytes _ = ⊥
+
+-- the bytes so far of the body of a record that is open, or none between records
+abbrev pub IsOpenBody : Option ℕ → Joining → Type 0
+IsOpenBody None joining = joining ≡ Between
+IsOpenBody (Some n) joining = (joining ≢ Between) × (n ≡ length (joined_body joining))
+
+-- where the machine is with the last byte taken: it goes on, or something is whole
+abbrev pub landed_at : Option Event → sided.Streams → Unpacking → Run Unpacking Unpacked
+landed_at None streams u = Runs u
+landed_at (Some Streams) streams u = Stops (HasStreams streams u)
+landed_at (Some event) streams u = Stops (Has event [] u)
+
+-- What a whole word leads the machine to: there, or to the fault. The open record stays.
+abbrev pub Lands : Next Unpacking Unpacked → sided.Streams → Joining → Result Taken Error → Type 0
+Lands next streams joining (Ok taken) = landed next ≡ landed_at taken.event streams (unpacking_at taken.position streams joining)
+Lands next streams joining (Err (Refused fault)) = next ≡ Ends (Refuses fault)
+Lands next streams joining (Err _) = ⊥
+
+-- The bytes taken lead the machine there, or some of the bytes lead it to the fault. The open record stays.
+abbrev pub Moves : Unpacking → List ℕ → sided.Streams → Joining → Result Taken Error → Type 0
+Moves from bytes streams joining (Ok taken) = after unpack_next (Runs from) (take taken.count bytes) ≡ landed_at taken.event streams (unpacking_at taken.position streams joining)
+Moves from bytes streams joining (Err error) = ShowsFault from bytes error
+
+-- no stream byte is kept
+abbrev pub AreEmpty : sided.Streams → Type 0
+AreEmpty streams = streams ≡ sided.gathered []
+
+-- a connection word, at its first byte
+abbrev pub IsBeforeMark : Spot → Type 0
+IsBeforeMark (Mark part) = part.count ≡ 0
+IsBeforeMark spot = ⊥
+
+-- a side word, at its first byte
+abbrev pub IsBeforeSides : Spot → Type 0
+IsBeforeSides (spots.Side part) = part.count ≡ 0
+IsBeforeSides spot = ⊥
+
+-- a length word of this stream, at its first byte
+abbrev pub IsBeforeStream : Side → Spot → Type 0
+IsBeforeStream side spot = (part : WordPart) × (part.count ≡ 0) × (spot ≡ Length side part)
+
+-- the length word after a side word, at its first byte
+abbrev pub IsBeforeSideLength : Side → Spot → Type 0
+IsBeforeSideLength side spot = (part : WordPart) × (part.count ≡ 0) × (spot ≡ spots.SideLength side part)
+
+-- these counts
+abbrev pub HasCounts : (total connections records : ℕ) → Position → Type 0
+HasCounts total connections records p = (p.total ≡ total) × (p.connections ≡ connections) × (p.records ≡ records)
+
+-- How many things can become whole within the limits, from here on. Kept streams are not counted as judged.
+abbrev pub room_here : Spot → sided.Streams → ℕ
+room_here Magic streams = 0
+room_here Digit streams = 0
+room_here (Mark part) streams = 0
+room_here (Length sides.Client part) streams = 2
+room_here (Length sides.Server part) streams = 1
+room_here (Chunk sides.Client left) streams = 2 + left
+room_here (Chunk sides.Server left) streams = 1 + left
+room_here (spots.Side part) streams = 2 + size streams
+room_here (spots.SideLength side part) streams = 2 + size streams
+room_here (spots.SideChunk side left) streams = 2 + (size streams + left)
+room_here Ended streams = 0
+
+-- the same with what the counts allow
+abbrev pub room_of : Position → sided.Streams → ℕ
+room_of p streams = 4 * (65535 - p.connections) + (1073741824 - p.total) + room_here p.spot streams
+
+-- The most that can become whole: 65,535 connections with a begin, a turn and a close each, and a record for each stream byte.
+abbrev pub most_things : ℕ
+most_things = 1074003964
+
+-- What becomes whole with streams that are gathered: their records, a turn and a close.
+abbrev pub cost_of : Option Event → sided.Streams → ℕ
+cost_of None streams = 0
+cost_of (Some Streams) streams = 2 + size streams
+cost_of (Some event) streams = 1
+
+-- some bytes of these were taken
+pub record TakesSome (before : Position) (bytes : List ℕ) (taken : Taken) : Type 0 where
+  pub some : 0 < taken.count
+  pub within : taken.count ≤ length bytes
+  pub sound : IsSoundPosition taken.position
+
+-- it is no record
+abbrev pub IsOfContainer : Option Event → Type 0
+IsOfContainer (Some (Record side)) = ⊥
+IsOfContainer _ = Unit {0}
+
+-- what the streams hold, where no record of them is judged
+abbrev pub StoredAt : Spot → ℕ → sided.Streams → Type 0
+StoredAt (spots.Side part) total streams = size streams ≤ total
+StoredAt (spots.SideLength side part) total streams = size streams ≤ total
+StoredAt (spots.SideChunk side left) total streams = size streams + left ≤ total
+StoredAt _ total streams = AreEmpty streams
+
+-- the same after what was taken; with the side word 0 the streams are whole, and no record of them is judged
+abbrev pub StoredWith : Option Event → Position → sided.Streams → Type 0
+StoredWith (Some Streams) position streams = (size streams ≤ position.total) × (position.records ≡ 0) × (version_of position.version ≡ Two) × IsBeforeMark position.spot
+StoredWith _ position streams = StoredAt position.spot position.total streams
+
+-- ---- what bytes that are taken come to, whatever streams are kept here
+
+-- what became whole took its room
+abbrev pub TakesRoom : Position → Taken → Type 0
+TakesRoom before taken = (streams : sided.Streams) → StoredAt before.spot before.total streams → room_of taken.position streams + cost_of taken.event streams ≤ room_of before streams
+
+-- the streams belong to where the bytes end
+abbrev pub KeepsStreams : Position → Taken → Type 0
+KeepsStreams before taken = (streams : sided.Streams) → StoredAt before.spot before.total streams → StoredWith taken.event taken.position streams
+
+-- the machine goes there, or to the fault
+abbrev pub MovesFrom : Position → Joining → List ℕ → Result Taken Error → Type 0
+MovesFrom before joining bytes result = (streams : sided.Streams) → StoredAt before.spot before.total streams → Moves (unpacking_at before streams joining) bytes streams joining result

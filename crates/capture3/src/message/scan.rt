@@ -1,0 +1,98 @@
+// Whole messages that a visitor is told as they are read.
+
+ghost use Rattle.std.specs.Prelude.{◌≡◌, ◌≤◌, List, length, IfErr, IfOk, OnOk};
+ghost use Rattle.rpc_head.specs.Starts.{start_items};
+ghost use Rattle.xdr3.specs.Item.{Item};
+ghost use Rattle.xdr3.specs.Scan.{ScansLayout, StopsLayout};
+ghost use Rattle.xdr3.specs.Visit.{Adds, body_limit};
+ghost use Rattle.capture3.specs.Judging as spec;
+ghost use Rattle.capture3.specs.machinery.MessageScan.{ScansCall, ScansReply, StopsMessage};
+ghost use Rattle.capture3.specs.machinery.Messages.{IsTableOf, results_after};
+
+use crate::message::calls::{KnownCalls, NumberedCall};
+use crate::message::stop;
+use procs3::{scan_arguments, scan_results};
+use rpc_head::{ProcId, Start, scan_call_head, scan_reply_head, start};
+use std::alloc::AllocError;
+use xdr3::{GetError, Input, Reason, Visit};
+
+/// Reads a body of the client stream, and tells its items to the visitor. It answers the call's xid and
+/// procedure, which may be at odds with the calls of its connection that came before it. After an error
+/// what the visitor holds is open.
+pub(crate) fn scan_call<V: Visit>(body: &[u8], visitor: &mut V) -> Result<NumberedCall, GetError>
+    requires { length body.now ≤ body_limit }
+    ensures ok { IfOk result
+        (λ call. ScansCall V.stands body.now call visitor.old visitor.new) }
+    ensures err { (before : List (List Item))
+        → IfErr result (λ error. StopsMessage error (spec.judge_call before body.now)) }
+{
+    let mut input = Input::new(body);
+    let start = start(&mut input)?;
+    if start.is_reply {
+        return Err(stop(4, Reason::WrongSide));
+    }
+    tell_start(start, visitor)?;
+    let id = scan_call_head(&mut input, visitor)?;
+    scan_arguments(id, &mut input, visitor)?;
+    input.end()?;
+    Ok(NumberedCall { xid: start.xid, id })
+}
+
+/// Reads a body of the server stream, after all calls of its connection, and tells its items to the
+/// visitor. It answers the procedure of its call. After an error what the visitor holds is open.
+pub(crate) fn scan_reply<C: KnownCalls, V: Visit>(
+    calls: &mut C,
+    body: &[u8],
+    visitor: &mut V,
+) -> Result<ProcId, GetError>
+    requires { length body.now ≤ body_limit }
+    ensures ok { IfOk result
+        (λ id. ScansReply V.stands (C.calls calls.old) body.now id visitor.old visitor.new) }
+    ensures stay { C.calls calls.new ≡ C.calls calls.old }
+    ensures err { (before : List (List Item)) → IsTableOf (C.calls calls.old) before
+        → IfErr result (λ error. StopsMessage error (spec.judge_reply before body.now)) }
+{
+    let mut input = Input::new(body);
+    let start = start(&mut input)?;
+    if !start.is_reply {
+        return Err(stop(4, Reason::WrongSide));
+    }
+    let Some(id) = calls.procedure_of(start.xid) else {
+        return Err(stop(0, Reason::NoCall));
+    };
+    tell_start(start, visitor)?;
+    let success = scan_reply_head(&mut input, visitor)?;
+    scan_results_after(success, id, &mut input, visitor)?;
+    input.end()?;
+    Ok(id)
+}
+
+/// Tells the xid and the mtype.
+#[inline]
+#[tactic(auto, using(xdr3::proofs::Walks::adds_joined), unfolding(rpc_head::specs::Names::head_names))]
+fn tell_start<V: Visit>(start: Start, visitor: &mut V) -> Result<(), AllocError>
+    ensures { OnOk result (Adds V.stands visitor.old visitor.new (start_items start)) }
+{
+    visitor.word("xid", start.xid)?;
+    visitor.word("mtype", start.is_reply as u32)
+}
+
+/// The results after a reply's head: none but after an accepted success.
+#[tactic(auto, using(xdr3::proofs::ScanLemmas::layouts, xdr3::proofs::ScanLemmas::nothing_scans))]
+fn scan_results_after<V: Visit>(
+    success: bool,
+    id: ProcId,
+    input: &mut Input,
+    visitor: &mut V,
+) -> Result<(), GetError>
+    ensures ok { OnOk result
+        (ScansLayout V.stands
+        (results_after success id) input.old input.new visitor.old visitor.new) }
+    ensures err { IfErr result (λ error. StopsLayout (results_after success id) input.old error) }
+{
+    input.at();
+    if success {
+        scan_results(id, input, visitor)?;
+    }
+    Ok(())
+}

@@ -1,0 +1,7 @@
+// What reads a capture: its entries one by one, or all at once.
+
+pub(crate) mod entries;
+pub(crate) mod entry;
+pub(crate) mod hashers;
+pub(crate) mod judging;
+pub(crate) mod whole;

@@ -1,0 +1,379 @@
+// The entries of a capture, read one by one.
+
+ghost use Rattle.std.specs.Prelude.{◌≡◌, ◌≢◌, ◌≤◌, ◌<◌, ◌+◌, ◌++◌, ◌∷◌, ℕ, List, [], length, vec_len, IsTrue, IsFalse, IsSome, IfErr, IfOk, IfSome, OnErr, OnOk, Err, Ok, None, Some};
+ghost use Rattle.std.specs.Io.KnownBytes.{IsAtEnd, ReadConsumes};
+ghost use Rattle.record_mark.specs.Taking.{released};
+ghost use Rattle.capture3.specs.declared.reader.entries.Stage.TheVariants as stages;
+ghost use Rattle.capture3.specs.declared.fault.Error.{Error};
+ghost use Rattle.capture3.specs.declared.fault.Error.TheVariants as errors;
+ghost use Rattle.xdr3.specs.Item.{AreBytes};
+ghost use Rattle.capture3.specs.Device.{Counts};
+ghost use Rattle.capture3.specs.Entry as spec;
+ghost use Rattle.capture3.specs.Capture.{Two};
+ghost use Rattle.capture3.specs.machinery.Container.{IsReady, IsStored};
+ghost use Rattle.capture3.specs.machinery.Judges.{SpellsLast};
+ghost use Rattle.capture3.specs.Laws.{most_bytes};
+ghost use Rattle.capture3.specs.machinery.Position.{IsSoundPosition};
+
+use crate::container::position::file_fault;
+use crate::device::DeviceFailed;
+use crate::device::source::Source;
+use crate::fault::Error;
+use crate::message::calls::HashedCalls;
+use crate::reader::entry::{EntryRef, Kind};
+use crate::reader::judging::Capture;
+use std::alloc::{AllocError, Global};
+use std::hash::BuildHasher;
+use xdr3::{Reason, Visit};
+
+/// How many bytes a read asks for.
+const BLOCK: usize = 65_536;
+
+/// One byte more than the longest capture has. That one has version 2: its magic, 65,535 connections of a
+/// word 1 and a side word 0, the last word 0, and 1,073,741,824 stream bytes in chunks of one byte after
+/// eight of side and length.
+const MOST_JUDGED: u64 = 9_664_200_709;
+
+/// What a reader answers from now on.
+#[derive(Clone, Copy)]
+enum Stage {
+    /// The entries that are left.
+    Reading,
+    /// None, after the end.
+    Over,
+    /// This error, for good.
+    Failed(Error),
+}
+
+/// Reads the entries of a capture one by one. It holds one block of the source's bytes, one record, and
+/// the calls of the open connection; of a capture of version 2 also the streams of that connection, up to
+/// its end.
+#[derive(Drop)]
+pub struct Entries<'r, R, S: BuildHasher + Drop> {
+    source: &'r mut R,
+    // The bytes from `start` to `end` are not judged yet.
+    block: Vec<u8>,
+    start: usize,
+    end: usize,
+    // How many bytes were judged.
+    judged: u64,
+    capture: Capture<HashedCalls<S>>,
+    // What the entry is that was handed out last, whose record stands.
+    last: Option<Kind>,
+    stage: Stage,
+    ghost ordered: { start ≤ end },
+    ghost within: { end ≤ vec_len block },
+    ghost roomy: { 0 < vec_len block },
+    ghost sound: { stage ≡ stages.Reading → ∥ IsSoundPosition capture.container.position ∥₁ },
+    ghost stored: { stage ≡ stages.Reading → ∥ IsStored capture.container ∥₁ },
+    ghost ready: { stage ≡ stages.Reading
+        → ∥ IsReady capture.container.cursor (released capture.container.joiner) ∥₁ },
+    ghost spells: { ∥ SpellsLast last capture.container.joiner ∥₁ },
+    ghost never_writes: { stage ≢ stages.Failed errors.Write },
+    ghost unlent: { (error : Error) → stage ≡ stages.Failed error → last ≡ None },
+}
+
+impl<'r, R: Source, S: BuildHasher + Drop> Entries<'r, R, S> {
+    ghost use Rattle.capture3.specs.Kept.{IsLent, kind_lent};
+    ghost use Rattle.capture3.specs.Entries.{block_size, CountsReading, failure_of, IsOver, last_of};
+    ghost use Rattle.capture3.specs.Handing.{HandsOutGiven};
+    ghost use Rattle.capture3.specs.machinery.Entries.{entries_left, HandsOutOrGoesOn, HasRead, StandsFor, Turns};
+
+    /// A reader through a block that has room, which reads nothing yet. The hasher is for the calls of a
+    /// connection by their xids, and plays no part in the answers.
+    pub fn through(alloc: Global, hasher: S, source: &'r mut R, block: Vec<u8>) -> Entries<'r, R, S>
+        requires { 0 < vec_len block }
+        ensures stands { StandsFor R.left result [] [] }
+        ensures unread { result.source.now ≡ source.old }
+        ensures going { failure_of result ≡ None }
+        ensures unlent { last_of result ≡ None }
+        ensures block { block_size result ≡ vec_len block }
+        ensures same_reference { result.source.ghost_name ≡ source.entry.ghost_name }
+    {
+        Entries {
+            source,
+            block,
+            start: 0,
+            end: 0,
+            judged: 0,
+            capture: Capture::new(alloc, HashedCalls::new(alloc, hasher)),
+            last: None,
+            stage: Stage::Reading,
+        }
+    }
+
+    /// The source, as the reads left it.
+    pub fn into_source(self) -> &'r mut R
+        ensures value { result.now ≡ self.entry.source.now }
+        ensures same_reference { result.ghost_name ≡ self.entry.source.ghost_name }
+    {
+        let Entries { source, .. } = self;
+        source
+    }
+
+    /// The next entry. A visitor is told the items of a message while it is read: an entry that is no
+    /// message has none. None comes after the end, and again, and nothing is read.
+    ///
+    /// # Errors
+    ///
+    /// `Refused` with the first fault of a capture that is not well formed, `Read` where a read failed, and
+    /// `Memory` where it ran out, by the visitor too; never `Write`. What the visitor holds is open.
+    /// The same error is answered from then on, and nothing is read.
+    pub fn next<V: Visit>(&mut self, visitor: &mut V) -> Result<Option<Kind>, Error>
+        ensures answers { (given : List ℕ) (handed : List spec.Entry)
+            → StandsFor R.left self.old given handed
+            → HandsOutGiven R.left V.stands self.old self.new visitor.old visitor.new given handed
+            result }
+        ensures end { result ≡ Ok (Some Kind.End) → IsOver self.new }
+        ensures over { IsOver self.old → (result ≡ Ok None) × (self.new ≡ self.old) }
+        ensures untold { IfOk result (λ next. next ≡ None → visitor.new ≡ visitor.old) }
+        ensures last { IfOk result (λ next. IsSome next → last_of self.new ≡ next) }
+        ensures fewer { IfOk result (λ next. IsSome next
+            → entries_left self.new < entries_left self.old) }
+        ensures going { OnOk result (failure_of self.new ≡ None) }
+        ensures failed { IfErr result (λ error. failure_of self.new ≡ Some error) }
+        ensures unlent { OnErr result (last_of self.new ≡ None) }
+        ensures again { (error : Error) → failure_of self.old ≡ Some error → result ≡ Err error }
+        ensures unread { (error : Error) → failure_of self.old ≡ Some error
+            → self.new.source.now ≡ self.old.source.now }
+        ensures read { failure_of self.old ≡ None
+            → CountsReading (R.failures self.old.source.now)
+            (R.failures self.new.source.now) result }
+        ensures write { IfErr result (λ error. error ≢ Error.Write) }
+        ensures same_block { block_size self.new ≡ block_size self.old }
+        ensures same_reference { self.new.source.ghost_name ≡ self.old.source.ghost_name }
+    {
+        match self.stage {
+            Stage::Reading => self.read_on(visitor),
+            Stage::Over => Ok(None),
+            Stage::Failed(error) => Err(error),
+        }
+    }
+
+    /// The entry that `next` handed out last, lent until the next call, and none before the first and after
+    /// an error.
+    pub fn entry(&self) -> Option<EntryRef<'_>>
+        ensures kind { kind_lent result ≡ last_of self.now }
+        ensures lent { (given : List ℕ) (handed : List spec.Entry) (entry : spec.Entry)
+            → StandsFor R.left self.now given (handed ++ entry ∷ [])
+            → IfSome result (λ lent. IsLent lent entry) }
+    {
+        match self.last {
+            Some(kind) => Some(self.capture.lend(kind)),
+            None => None,
+        }
+    }
+
+    /// The next entry of a capture whose end was not handed out.
+    fn read_on<V: Visit>(&mut self, visitor: &mut V) -> Result<Option<Kind>, Error>
+        requires reading { self.old.stage ≡ Stage.Reading }
+        ensures turns { (given : List ℕ) (handed : List spec.Entry)
+            → StandsFor R.left self.old given handed
+            → Turns R.left V.stands self.old self.new visitor.old visitor.new given handed result }
+        ensures end { result ≡ Ok (Some Kind.End) → IsOver self.new }
+        ensures last { IfOk result (λ next. IsSome next → last_of self.new ≡ next) }
+        ensures fewer { OnOk result (entries_left self.new < entries_left self.old) }
+        ensures some { IfOk result (λ next. IsSome next) }
+        ensures going { OnOk result (failure_of self.new ≡ None) }
+        ensures failed { IfErr result (λ error. self.new.stage ≡ Stage.Failed error) }
+        ensures unlent { OnErr result (last_of self.new ≡ None) }
+        ensures read { CountsReading (R.failures self.old.source.now)
+            (R.failures self.new.source.now) result }
+        ensures same_block { block_size self.new ≡ block_size self.old }
+        ensures same_reference { self.new.source.ghost_name ≡ self.old.source.ghost_name }
+    {
+        while self.judged <= MOST_JUDGED {
+            match self.turn(visitor) {
+                Ok(None) => {}
+                Ok(Some(kind)) => return Ok(Some(kind)),
+                Err(error) => return Err(error),
+            }
+        }
+        let error = file_fault(self.judged, Reason::AfterEnd);
+        self.last = None;
+        self.stage = Stage::Failed(error);
+        Err(error)
+    }
+
+    /// One read at most, and one piece judged: the entry that is whole with it, if one is. Where streams that
+    /// were kept are judged, nothing is read.
+    fn turn<V: Visit>(&mut self, visitor: &mut V) -> Result<Option<Kind>, Error>
+        requires reading { self.old.stage ≡ Stage.Reading }
+        requires bounded { self.old.judged ≤ most_bytes Two + 1 }
+        ensures turns { (given : List ℕ) (handed : List spec.Entry)
+            → StandsFor R.left self.old given handed
+            → Turns R.left V.stands self.old self.new visitor.old visitor.new given handed result }
+        ensures end { result ≡ Ok (Some Kind.End) → IsOver self.new }
+        ensures last { IfOk result (λ next. IsSome next → last_of self.new ≡ next) }
+        ensures fewer { IfOk result (λ next. IsSome next
+            → entries_left self.new < entries_left self.old) }
+        ensures on { IfOk result (λ next. next ≡ None → self.old.judged < self.new.judged) }
+        ensures untold { IfOk result (λ next. next ≡ None → visitor.new ≡ visitor.old) }
+        ensures no_more { IfOk result
+            (λ next. next ≡ None → entries_left self.new ≤ entries_left self.old) }
+        ensures reading { IfOk result (λ next. next ≡ None → self.new.stage ≡ Stage.Reading) }
+        ensures going { OnOk result (failure_of self.new ≡ None) }
+        ensures failed { IfErr result (λ error. self.new.stage ≡ Stage.Failed error) }
+        ensures unlent { OnErr result (last_of self.new ≡ None) }
+        ensures read { CountsReading (R.failures self.old.source.now)
+            (R.failures self.new.source.now) result }
+        ensures same_block { block_size self.new ≡ block_size self.old }
+        ensures same_reference { self.new.source.ghost_name ≡ self.old.source.ghost_name }
+    {
+        if self.is_used_up() {
+            match self.refill() {
+                Ok(true) => {}
+                Ok(false) => {
+                    return match self.finish() {
+                        Ok(()) => Ok(Some(Kind::End)),
+                        Err(error) => Err(error),
+                    };
+                }
+                Err(error) => return Err(error),
+            }
+        }
+        self.judge(visitor)
+    }
+
+    /// Tells that all bytes at hand are judged, and no streams that were kept are.
+    fn is_used_up(&self) -> bool
+        ensures judged { IsTrue result → self.now.start ≡ self.now.end }
+        ensures unopened { IsTrue result → self.now.capture.container.cursor ≡ None }
+        ensures left { IsFalse result → self.now.capture.container.cursor ≡ None
+            → self.now.start < self.now.end }
+    {
+        self.start == self.end && !self.capture.is_recalling()
+    }
+
+    /// Reads the next block. False stands for the end of the bytes.
+    fn refill(&mut self) -> Result<bool, Error>
+        requires reading { self.old.stage ≡ Stage.Reading }
+        requires bounded { self.old.judged ≤ most_bytes Two + 1 }
+        requires judged { self.old.start ≡ self.old.end }
+        requires unopened { self.old.capture.container.cursor ≡ None }
+        ensures has_read { (given : List ℕ) (handed : List spec.Entry)
+            → StandsFor R.left self.old given handed
+            → HasRead R.left self.old self.new given handed }
+        ensures some { IfOk result (λ more. IsTrue more → self.new.start < self.new.end) }
+        ensures none { IfOk result (λ more. IsFalse more → self.new.start ≡ self.new.end) }
+        ensures end { IfOk result (λ more. IsFalse more → IsAtEnd (R.left self.new.source.now)) }
+        ensures same_capture { self.new.capture ≡ self.old.capture }
+        ensures same_count { self.new.judged ≡ self.old.judged }
+        ensures reading { OnOk result (self.new.stage ≡ Stage.Reading) }
+        ensures failed { IfErr result (λ error. self.new.stage ≡ Stage.Failed error) }
+        ensures unlent { OnErr result (last_of self.new ≡ None) }
+        ensures read { CountsReading (R.failures self.old.source.now)
+            (R.failures self.new.source.now) result }
+        ensures same_block { block_size self.new ≡ block_size self.old }
+        ensures same_reference { self.new.source.ghost_name ≡ self.old.source.ghost_name }
+    {
+        self.start = 0;
+        self.end = 0;
+        match read_block(self.source, &mut self.block) {
+            Ok(count) => {
+                self.end = count;
+                Ok(count > 0)
+            }
+            Err(_) => {
+                self.last = None;
+                self.stage = Stage::Failed(Error::Read);
+                Err(Error::Read)
+            }
+        }
+    }
+
+    /// Judges what is to be judged, up to the next entry: streams that were kept, or the rest of the block.
+    fn judge<V: Visit>(&mut self, visitor: &mut V) -> Result<Option<Kind>, Error>
+        requires reading { self.old.stage ≡ Stage.Reading }
+        requires bounded { self.old.judged ≤ most_bytes Two + 1 }
+        requires some { self.old.capture.container.cursor ≡ None → self.old.start < self.old.end }
+        ensures goes_on { (given : List ℕ) (handed : List spec.Entry)
+            → StandsFor R.left self.old given handed
+            → HandsOutOrGoesOn R.left V.stands self.new visitor.old visitor.new given handed
+            result }
+        ensures not_end { result ≢ Ok (Some Kind.End) }
+        ensures untold { IfOk result (λ next. next ≡ None → visitor.new ≡ visitor.old) }
+        ensures last { IfOk result (λ next. IsSome next → last_of self.new ≡ next) }
+        ensures fewer { IfOk result (λ next. IsSome next
+            → entries_left self.new < entries_left self.old) }
+        ensures no_more { IfOk result
+            (λ next. next ≡ None → entries_left self.new ≤ entries_left self.old) }
+        ensures on { IfOk result (λ next. next ≡ None → self.old.judged < self.new.judged) }
+        ensures reading { OnOk result (self.new.stage ≡ Stage.Reading) }
+        ensures failed { IfErr result (λ error. self.new.stage ≡ Stage.Failed error) }
+        ensures unlent { OnErr result (last_of self.new ≡ None) }
+        ensures never_reads { IfErr result (λ error. error ≢ Error.Read) }
+        ensures unread { self.new.source.now ≡ self.old.source.now }
+        ensures same_block { block_size self.new ≡ block_size self.old }
+        ensures same_reference { self.new.source.ghost_name ≡ self.old.source.ghost_name }
+    {
+        let piece = &self.block[self.start..self.end];
+        match self.capture.next(piece, visitor) {
+            Ok((count, kind)) => {
+                self.start += count;
+                self.judged += count as u64;
+                self.last = kind;
+                Ok(kind)
+            }
+            Err(error) => {
+                self.last = None;
+                self.stage = Stage::Failed(error);
+                Err(error)
+            }
+        }
+    }
+
+    /// The capture's end, where no byte is left.
+    fn finish(&mut self) -> Result<(), Error>
+        requires reading { self.old.stage ≡ Stage.Reading }
+        requires judged { self.old.start ≡ self.old.end }
+        requires unopened { self.old.capture.container.cursor ≡ None }
+        requires end { IsAtEnd (R.left self.old.source.now) }
+        ensures ok { (given : List ℕ) (handed : List spec.Entry)
+            → StandsFor R.left self.old given handed
+            → OnOk result (StandsFor R.left self.new given (handed ++ spec.End ∷ [])) }
+        ensures err { (given : List ℕ) (handed : List spec.Entry)
+            → StandsFor R.left self.old given handed
+            → OnErr result (StandsFor R.left self.new given handed) }
+        ensures last { OnOk result (last_of self.new ≡ Some Kind.End) }
+        ensures over { OnOk result (self.new.stage ≡ Stage.Over) }
+        ensures failed { IfErr result (λ error. self.new.stage ≡ Stage.Failed error) }
+        ensures unlent { OnErr result (last_of self.new ≡ None) }
+        ensures never_reads { IfErr result (λ error. error ≢ Error.Read) }
+        ensures unread { self.new.source.now ≡ self.old.source.now }
+        ensures same_block { block_size self.new ≡ block_size self.old }
+        ensures same_reference { self.new.source.ghost_name ≡ self.old.source.ghost_name }
+    {
+        match self.capture.end(self.judged) {
+            Ok(()) => {
+                self.last = Some(Kind::End);
+                self.stage = Stage::Over;
+                Ok(())
+            }
+            Err(error) => {
+                self.last = None;
+                self.stage = Stage::Failed(error);
+                Err(error)
+            }
+        }
+    }
+}
+
+/// A block of 65,536 bytes to read through.
+pub fn new_block(alloc: Global) -> Result<Vec<u8>, AllocError>
+    ensures size { IfOk result (λ block. vec_len block ≡ BLOCK) }
+    ensures room { IfOk result (λ block. 0 < vec_len block) }
+{
+    vec![in alloc; 0; BLOCK]
+}
+
+/// Reads into the front of a block.
+fn read_block<R: Source>(source: &mut R, block: &mut [u8]) -> Result<usize, DeviceFailed>
+    requires room { 0 < length block.old }
+    ensures within { IfOk result (λ n. n ≤ length block.new) }
+    ensures bytes { ReadConsumes (R.left source.old) (R.left source.new) result block.new }
+    ensures count { Counts (R.failures source.old) (R.failures source.new) result }
+    ensures fit { AreBytes block.new }
+{
+    source.read_some(block)
+}

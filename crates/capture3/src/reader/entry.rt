@@ -1,0 +1,217 @@
+// The entries of a capture.
+
+ghost use Rattle.std.specs.Prelude.{◌≡◌, ◌≤◌, List, length, IfOk, OnOk};
+ghost use Rattle.record_mark.specs.RecordMark.{max_body};
+ghost use Rattle.xdr3.specs.Item.{Item};
+ghost use Rattle.capture3.specs.Bodies.{IsCall, IsReply, xid_in};
+ghost use Rattle.capture3.specs.MessageScan.{TellsCall, TellsReply};
+ghost use Rattle.capture3.specs.machinery.Spelled.{SpellsCall, SpellsReply};
+
+use crate::message::calls::NumberedCall;
+use crate::message::scan::{scan_call, scan_reply};
+use rpc_head::{ProcId, start};
+use std::alloc::{AllocError, Global};
+use xdr3::{GetError, Input, Visit};
+
+/// What an entry is, and a message's procedure: of a reply that of its call.
+#[derive(Clone, Copy, Debug, PartialEq, Eq)]
+pub enum Kind {
+    Begin,
+    Call(ProcId),
+    Turn,
+    Reply(ProcId),
+    Close,
+    End,
+}
+
+/// A call whose record stands: its procedure, and the body that spells it.
+#[derive(Clone, Copy)]
+pub struct CallRef<'a> {
+    pub id: ProcId,
+    pub body: &'a [u8],
+    pub ghost short: { length body.now ≤ max_body },
+    pub ghost spells: { ∥ SpellsCall id body.now ∥₁ },
+}
+
+/// A reply whose record stands: the procedure of its call, and the body that spells it.
+#[derive(Clone, Copy)]
+pub struct ReplyRef<'a> {
+    pub id: ProcId,
+    pub body: &'a [u8],
+    pub ghost short: { length body.now ≤ max_body },
+    pub ghost spells: { ∥ SpellsReply id body.now ∥₁ },
+}
+
+/// An entry that borrows from the record that stands.
+#[derive(Clone, Copy)]
+pub enum EntryRef<'a> {
+    Begin,
+    Call(CallRef<'a>),
+    Turn,
+    Reply(ReplyRef<'a>),
+    Close,
+    End,
+}
+
+/// A call that outlives its record: its procedure, and the body that spells it.
+#[derive(Drop)]
+pub struct KeptCall {
+    pub id: ProcId,
+    pub body: Vec<u8>,
+    pub ghost short: { length body.items ≤ max_body },
+    pub ghost spells: { ∥ SpellsCall id body.items ∥₁ },
+}
+
+/// A reply that outlives its record: the procedure of its call, and the body that spells it.
+#[derive(Drop)]
+pub struct KeptReply {
+    pub id: ProcId,
+    pub body: Vec<u8>,
+    pub ghost short: { length body.items ≤ max_body },
+    pub ghost spells: { ∥ SpellsReply id body.items ∥₁ },
+}
+
+/// What a capture consists of: for each connection `Begin`, its calls, `Turn`, its replies and `Close`,
+/// and then `End`.
+#[derive(Drop)]
+pub enum Entry {
+    Begin,
+    Call(KeptCall),
+    Turn,
+    Reply(KeptReply),
+    Close,
+    End,
+}
+
+impl<'a> CallRef<'a> {
+    /// The xid (RFC 5531, section 9).
+    pub fn xid(&self) -> u32
+        ensures { (items : List Item) → IsCall self.now.body.now items → result ≡ xid_in items }
+    {
+        let Ok(start) = start(&mut Input::new(self.body)) else {
+            unreachable!()
+        };
+        start.xid
+    }
+
+    /// The call, with a body of its own.
+    pub fn keep(&self, alloc: Global) -> Result<KeptCall, AllocError>
+        ensures id { IfOk result (λ kept. kept.id ≡ self.now.id) }
+        ensures body { IfOk result (λ kept. kept.body.items ≡ self.now.body.now) }
+    {
+        let body = Vec::from_slice(alloc, self.body)?;
+        Ok(KeptCall { id: self.id, body })
+    }
+
+    /// Tells a visitor the items of the call, in one pass over its body. It fails only where memory ran
+    /// out, and then what the visitor holds is open.
+    pub fn scan<V: Visit>(&self, visitor: &mut V) -> Result<(), AllocError>
+        ensures { OnOk result (TellsCall V.stands self.now.body.now visitor.old visitor.new) }
+    {
+        match scan_call(self.body, visitor) {
+            Ok(_) => Ok(()),
+            Err(GetError::Memory) => Err(AllocError),
+            Err(GetError::Stop(_)) => unreachable!(),
+        }
+    }
+}
+
+impl<'a> ReplyRef<'a> {
+    /// The xid (RFC 5531, section 9).
+    pub fn xid(&self) -> u32
+        ensures { (items : List Item) → IsReply self.now.body.now
+            (record { id = self.now.id; items = items }) → result ≡ xid_in items }
+    {
+        let Ok(start) = start(&mut Input::new(self.body)) else {
+            unreachable!()
+        };
+        start.xid
+    }
+
+    /// The reply, with a body of its own.
+    pub fn keep(&self, alloc: Global) -> Result<KeptReply, AllocError>
+        ensures id { IfOk result (λ kept. kept.id ≡ self.now.id) }
+        ensures body { IfOk result (λ kept. kept.body.items ≡ self.now.body.now) }
+    {
+        let body = Vec::from_slice(alloc, self.body)?;
+        Ok(KeptReply { id: self.id, body })
+    }
+
+    /// Tells a visitor the items of the reply, in one pass over its body. It fails only where memory ran
+    /// out, and then what the visitor holds is open.
+    pub fn scan<V: Visit>(&self, visitor: &mut V) -> Result<(), AllocError>
+        ensures { OnOk result
+            (TellsReply V.stands self.now.body.now self.now.id visitor.old visitor.new) }
+    {
+        match scan_reply(&mut Some(self.answered()), self.body, visitor) {
+            Ok(_) => Ok(()),
+            Err(GetError::Memory) => Err(AllocError),
+            Err(GetError::Stop(_)) => unreachable!(),
+        }
+    }
+
+    /// The call that it answers.
+    fn answered(&self) -> NumberedCall
+        ensures id { result.id ≡ self.now.id }
+        ensures xid { (items : List Item) → IsReply self.now.body.now
+            (record { id = self.now.id; items = items }) → result.xid ≡ xid_in items }
+    {
+        NumberedCall {
+            xid: self.xid(),
+            id: self.id,
+        }
+    }
+}
+
+impl KeptCall {
+    /// The call, as one whose record stands.
+    pub fn lend(&self) -> CallRef<'_>
+        ensures id { result.id ≡ self.now.id }
+        ensures body { result.body.now ≡ self.now.body.items }
+    {
+        CallRef {
+            id: self.id,
+            body: &self.body,
+        }
+    }
+}
+
+impl KeptReply {
+    /// The reply, as one whose record stands.
+    pub fn lend(&self) -> ReplyRef<'_>
+        ensures id { result.id ≡ self.now.id }
+        ensures body { result.body.now ≡ self.now.body.items }
+    {
+        ReplyRef {
+            id: self.id,
+            body: &self.body,
+        }
+    }
+}
+
+impl<'a> EntryRef<'a> {
+    ghost use Rattle.capture3.specs.Entry as spec;
+    ghost use Rattle.capture3.specs.Kept.{IsCopy, IsKept, IsLent};
+
+    /// The entry, with a body of its own.
+    pub fn keep(&self, alloc: Global) -> Result<Entry, AllocError>
+        ensures copy { IfOk result (IsCopy self.now) }
+        ensures kept { (entry : spec.Entry) → IsLent self.now entry
+            → IfOk result (λ kept. IsKept kept entry) }
+    {
+        match self {
+            EntryRef::Begin => Ok(Entry::Begin),
+            EntryRef::Call(call) => {
+                let kept = call.keep(alloc)?;
+                Ok(Entry::Call(kept))
+            }
+            EntryRef::Turn => Ok(Entry::Turn),
+            EntryRef::Reply(reply) => {
+                let kept = reply.keep(alloc)?;
+                Ok(Entry::Reply(kept))
+            }
+            EntryRef::Close => Ok(Entry::Close),
+            EntryRef::End => Ok(Entry::End),
+        }
+    }
+}

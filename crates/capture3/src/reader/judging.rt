@@ -1,0 +1,253 @@
+// A capture whose records are judged as they come.
+
+ghost use Rattle.std.specs.Prelude.{is_some, ◌≡◌, ◌≢◌, ◌≤◌, ◌<◌, ◌+◌, ◌++◌, ℕ, List, [], length, take, IfErr, IfOk, OnOk, None, Some};
+ghost use Rattle.record_mark.specs.Taking.{IsRunning, IsWhole, body_of, released, unbegun};
+ghost use Rattle.xdr3.specs.Item.{Item};
+ghost use Rattle.capture3.specs.machinery.Container.{IsReady, IsStored, Leaves, room_in};
+ghost use Rattle.capture3.specs.Entry as spec;
+ghost use Rattle.capture3.specs.machinery.Judges.{entry_cost, error_at, FailsAt, GoesTo, HasCome, IsHeld, IsOfBytes, MeetsEvent, RefusesBody, SpellsKind, SpellsLast, JudgesCall, JudgesReply};
+ghost use Rattle.capture3.specs.Kept.{IsLent, kind_of};
+ghost use Rattle.capture3.specs.machinery.Spelled.{SpellsCall, SpellsReply};
+ghost use Rattle.capture3.specs.Judging.{judge_call, judge_reply};
+ghost use Rattle.capture3.specs.machinery.Messages.{IsTableOf};
+ghost use Rattle.capture3.specs.machinery.Position.{IsSoundPosition, most_things};
+
+use crate::container::Container;
+use crate::container::position::{Event, Spot};
+use crate::fault::{Error, Place, Side};
+use crate::message::calls::CallTable;
+use crate::message::scan::{scan_call, scan_reply};
+use crate::message::stop;
+use crate::reader::entry::{CallRef, EntryRef, Kind, ReplyRef};
+use rpc_head::ProcId;
+use std::alloc::Global;
+use xdr3::{GetError, Reason, Visit};
+
+/// A container, and the calls of its open connection.
+#[derive(Drop)]
+pub(crate) struct Capture<C: Drop> {
+    pub(crate) container: Container,
+    pub(crate) calls: C,
+}
+
+impl<C: CallTable + Drop> Capture<C> {
+    pub(crate) fn new(alloc: Global, calls: C) -> Capture<C>
+        requires none { C.calls calls ≡ [] }
+        ensures sound { IsSoundPosition result.container.position }
+        ensures stored { IsStored result.container }
+        ensures ready { IsReady result.container.cursor (released result.container.joiner) }
+        ensures room { room_in result.container ≤ most_things }
+        ensures machine { HasCome result.container (C.calls result.calls) [] [] }
+    {
+        Capture {
+            container: Container::new(alloc),
+            calls,
+        }
+    }
+
+    /// Takes bytes of `piece` up to the next entry, or all of them, and says how many: none where an entry
+    /// of streams that were kept is next. A visitor is told the items of a message, whose record stands
+    /// until the next call. After an error what it holds is open.
+    pub(crate) fn next<V: Visit>(
+        &mut self,
+        piece: &[u8],
+        visitor: &mut V,
+    ) -> Result<(usize, Option<Kind>), Error>
+        requires sound { IsSoundPosition self.old.container.position }
+        requires stored { IsStored self.old.container }
+        requires ready { IsReady self.old.container.cursor (released self.old.container.joiner) }
+        ensures within { IfOk result (λ r. r.0 ≤ length piece.now) }
+        ensures some { IfOk result (λ r. 0 < length piece.now → r.1 ≡ None → 0 < r.0) }
+        ensures more { IfOk result (λ r. r.1 ≡ None → r.0 ≡ length piece.now) }
+        ensures untold { IfOk result (λ r. r.1 ≡ None → visitor.new ≡ visitor.old) }
+        ensures not_end { IfOk result (λ r. r.1 ≢ Some Kind.End) }
+        ensures spells { IfOk result (λ r. ∥ SpellsLast r.1 self.new.container.joiner ∥₁) }
+        ensures sound { OnOk result (IsSoundPosition self.new.container.position) }
+        ensures stored { OnOk result (IsStored self.new.container) }
+        ensures ready { OnOk result
+            (IsReady self.new.container.cursor (released self.new.container.joiner)) }
+        ensures room { IfOk result
+            (λ r. room_in self.new.container + entry_cost r.1 ≤ room_in self.old.container) }
+        ensures recalling { self.old.container.cursor ≢ None → IfOk result
+            (λ r. (r.0 ≡ 0) × (r.1 ≢ None)) }
+        ensures machine { (bytes : List ℕ) (entries : List spec.Entry)
+            → HasCome self.old.container (C.calls self.old.calls) bytes entries
+            → IfOk result
+            (λ r. GoesTo V.stands visitor.old visitor.new r.1 self.new.container
+            (C.calls self.new.calls) (bytes ++ take r.0 piece.now) entries) }
+        ensures fault { (bytes : List ℕ) (entries : List spec.Entry)
+            → HasCome self.old.container (C.calls self.old.calls) bytes entries
+            → IfErr result (FailsAt (bytes ++ piece.now) entries) }
+        ensures device { IfErr result IsOfBytes }
+    {
+        self.container.release();
+        match self.container.next(piece) {
+            Ok((count, Some(event))) => match self.entry(event, visitor) {
+                Ok(kind) => Ok((count, Some(kind))),
+                Err(error) => Err(error),
+            },
+            Ok((count, None)) => Ok((count, None)),
+            Err(error) => Err(error),
+        }
+    }
+
+    /// Tells that `next` answers an entry and takes no byte for it, or a fault: streams that were kept are
+    /// judged.
+    pub(crate) fn is_recalling(&self) -> bool
+        ensures { result ≡ is_some self.now.container.cursor }
+    {
+        self.container.cursor.is_some()
+    }
+
+    /// The entry of this kind that `next` came to.
+    pub(crate) fn lend(&self, kind: Kind) -> EntryRef<'_>
+        requires spells { ∥ SpellsKind kind self.now.container.joiner ∥₁ }
+        ensures kind { kind_of result ≡ kind }
+        ensures lent { (entry : spec.Entry) → IsHeld kind self.now.container.joiner entry
+            → IsLent result entry }
+    {
+        match kind {
+            Kind::Begin => EntryRef::Begin,
+            Kind::Call(id) => EntryRef::Call(CallRef {
+                id,
+                body: self.container.body(),
+            }),
+            Kind::Turn => EntryRef::Turn,
+            Kind::Reply(id) => EntryRef::Reply(ReplyRef {
+                id,
+                body: self.container.body(),
+            }),
+            Kind::Close => EntryRef::Close,
+            Kind::End => EntryRef::End,
+        }
+    }
+
+    /// Tests that the file may end here, after so many bytes.
+    pub(crate) fn end(&self, size: u64) -> Result<(), Error>
+        ensures ok { OnOk result (self.now.container.position.spot ≡ Spot.Ended) }
+        ensures err { IfErr result (λ error. (self.now.container.position.spot ≢ Spot.Ended)
+            × (error ≡ Error.Refused (record
+            { place = Place.File size; reason = Reason.CaptureCut }))) }
+    {
+        self.container.end(size)
+    }
+
+    /// The entry that is whole.
+    fn entry<V: Visit>(&mut self, event: Event, visitor: &mut V) -> Result<Kind, Error>
+        requires leaves { Leaves (Some event) self.old.container.joiner }
+        requires opened { event ≢ Event.Streams }
+        ensures container { self.new.container ≡ self.old.container }
+        ensures not_end { IfOk result (λ kind. kind ≢ Kind.End) }
+        ensures spells { IfOk result (λ kind. SpellsKind kind self.new.container.joiner) }
+        ensures machine { (bytes : List ℕ) (entries : List spec.Entry)
+            → MeetsEvent self.old.container (C.calls self.old.calls) event bytes entries
+            → IfOk result
+            (λ kind. GoesTo V.stands visitor.old visitor.new (Some kind) self.new.container
+            (C.calls self.new.calls) bytes entries) }
+        ensures fault { (bytes : List ℕ) (entries : List spec.Entry)
+            → MeetsEvent self.old.container (C.calls self.old.calls) event bytes entries
+            → IfErr result (FailsAt bytes entries) }
+        ensures device { IfErr result IsOfBytes }
+    {
+        match event {
+            Event::Begin => {
+                self.calls.clear();
+                Ok(Kind::Begin)
+            }
+            Event::Record(side) => self.message(side, visitor),
+            Event::Turn => Ok(Kind::Turn),
+            Event::Close => Ok(Kind::Close),
+            Event::Streams => unreachable!(),
+        }
+    }
+
+    /// The message that is whole.
+    fn message<V: Visit>(&mut self, side: Side, visitor: &mut V) -> Result<Kind, Error>
+        requires { IsWhole self.old.container.joiner }
+        ensures container { self.new.container ≡ self.old.container }
+        ensures not_end { IfOk result (λ kind. kind ≢ Kind.End) }
+        ensures spells { IfOk result (λ kind. SpellsKind kind self.new.container.joiner) }
+        ensures machine { (bytes : List ℕ) (entries : List spec.Entry)
+            → MeetsEvent self.old.container (C.calls self.old.calls) (Event.Record side) bytes
+            entries
+            → IfOk result
+            (λ kind. GoesTo V.stands visitor.old visitor.new (Some kind) self.new.container
+            (C.calls self.new.calls) bytes entries) }
+        ensures fault { (bytes : List ℕ) (entries : List spec.Entry)
+            → MeetsEvent self.old.container (C.calls self.old.calls) (Event.Record side) bytes
+            entries
+            → IfErr result (FailsAt bytes entries) }
+        ensures device { IfErr result IsOfBytes }
+    {
+        match side {
+            Side::Client => match self.call(visitor) {
+                Ok(id) => Ok(Kind::Call(id)),
+                Err(error) => Err(error),
+            },
+            Side::Server => match self.reply(visitor) {
+                Ok(id) => Ok(Kind::Reply(id)),
+                Err(error) => Err(error),
+            },
+        }
+    }
+
+    /// The procedure of the call that is whole, which joins the calls of its connection.
+    fn call<V: Visit>(&mut self, visitor: &mut V) -> Result<ProcId, Error>
+        requires { IsWhole self.old.container.joiner }
+        ensures container { self.new.container ≡ self.old.container }
+        ensures spells { IfOk result
+            (λ id. ∥ SpellsCall id (body_of self.old.container.joiner) ∥₁) }
+        ensures ok { (calls : List (List Item)) → IsTableOf (C.calls self.old.calls) calls
+            → IfOk result
+            (JudgesCall V.stands visitor.old visitor.new calls
+            (body_of self.old.container.joiner) (C.calls self.new.calls)) }
+        ensures err { (calls : List (List Item)) → IsTableOf (C.calls self.old.calls) calls
+            → IfErr result
+            (RefusesBody self.old.container.position Side.Client
+            (judge_call calls (body_of self.old.container.joiner))) }
+        ensures device { IfErr result IsOfBytes }
+    {
+        let call = match scan_call(self.container.body(), visitor) {
+            Ok(call) => call,
+            Err(error) => return Err(self.record_error(Side::Client, error)),
+        };
+        if self.calls.admit(call.xid, call.id)? {
+            Ok(call.id)
+        } else {
+            Err(self.record_error(Side::Client, stop(0, Reason::XidConflict)))
+        }
+    }
+
+    /// The procedure of the reply that is whole.
+    fn reply<V: Visit>(&mut self, visitor: &mut V) -> Result<ProcId, Error>
+        requires { IsWhole self.old.container.joiner }
+        ensures container { self.new.container ≡ self.old.container }
+        ensures calls { C.calls self.new.calls ≡ C.calls self.old.calls }
+        ensures spells { IfOk result
+            (λ id. ∥ SpellsReply id (body_of self.old.container.joiner) ∥₁) }
+        ensures ok { (calls : List (List Item)) → IsTableOf (C.calls self.old.calls) calls
+            → IfOk result
+            (JudgesReply V.stands visitor.old visitor.new calls
+            (body_of self.old.container.joiner)) }
+        ensures err { (calls : List (List Item)) → IsTableOf (C.calls self.old.calls) calls
+            → IfErr result
+            (RefusesBody self.old.container.position Side.Server
+            (judge_reply calls (body_of self.old.container.joiner))) }
+        ensures device { IfErr result IsOfBytes }
+    {
+        match scan_reply(&mut self.calls, self.container.body(), visitor) {
+            Ok(id) => Ok(id),
+            Err(error) => Err(self.record_error(Side::Server, error)),
+        }
+    }
+
+    fn record_error(&self, side: Side, error: GetError) -> Error
+        ensures error { result ≡ error_at self.now.container.position side error }
+        ensures device { IsOfBytes result }
+    {
+        match error {
+            GetError::Stop(stop) => self.container.record_fault(side, stop.at, stop.reason),
+            GetError::Memory => Error::Memory,
+        }
+    }
+}

@@ -1,0 +1,61 @@
+// A whole capture in memory.
+
+ghost use Rattle.std.specs.Prelude.{◌≡◌, ◌≢◌, ◌≤◌, ℕ, List, IfErr, IfOk, vec_len};
+ghost use Rattle.capture3.specs.declared.fault.Fault.{Fault};
+ghost use Rattle.capture3.specs.Capture.{max_connections};
+ghost use Rattle.capture3.specs.Chunks.{max_bytes};
+ghost use Rattle.capture3.specs.Entry as spec;
+ghost use Rattle.capture3.specs.FirstFault.{FirstFault};
+ghost use Rattle.capture3.specs.Kept.{AreKept, begun};
+ghost use Rattle.capture3.specs.Laws.{spelled};
+ghost use Rattle.capture3.specs.Laws.{most_entries};
+ghost use Rattle.capture3.specs.Typed.{Typed};
+
+use crate::fault::Error;
+use crate::message::calls::CallList;
+use crate::message::silent::Silent;
+use crate::reader::entry::Entry;
+use crate::reader::judging::Capture;
+use std::alloc::Global;
+
+/// The entries of a capture, or its first fault.
+///
+/// # Errors
+///
+/// `Refused` with the first fault of a capture that is not well formed, and `Memory` where none was to be
+/// had; never `Read` or `Write`.
+pub fn parse(alloc: Global, bytes: &[u8]) -> Result<Vec<Entry>, Error>
+    ensures entries { IfOk result
+        (λ kept. (entries : List spec.Entry) × Typed bytes.now entries
+        × AreKept kept.items entries) }
+    ensures fault { IfErr result (λ error. (fault : Fault) → error ≡ Error.Refused fault
+        → FirstFault bytes.now fault) }
+    ensures read { IfErr result (λ error. error ≢ Error.Read) }
+    ensures write { IfErr result (λ error. error ≢ Error.Write) }
+    ensures connections { IfOk result (λ kept. begun kept.items ≤ max_connections) }
+    ensures spelled { IfOk result
+        (λ _. (entries : List spec.Entry) → Typed bytes.now entries → spelled entries ≤ max_bytes) }
+    ensures few { IfOk result (λ kept. vec_len kept ≤ most_entries) }
+{
+    let mut capture = Capture::new(alloc, CallList::new(alloc));
+    let mut entries = Vec::new(alloc);
+    let mut taken = 0;
+    while taken < bytes.len() || capture.is_recalling() {
+        match capture.next(&bytes[taken..], &mut Silent) {
+            Ok((count, Some(kind))) => {
+                taken += count;
+                let entry = capture.lend(kind).keep(alloc)?;
+                entries.push(entry)?;
+            }
+            Ok((count, None)) => taken += count,
+            Err(error) => return Err(error),
+        }
+    }
+    match capture.end(bytes.len() as u64) {
+        Ok(()) => {
+            entries.push(Entry::End)?;
+            Ok(entries)
+        }
+        Err(error) => Err(error),
+    }
+}

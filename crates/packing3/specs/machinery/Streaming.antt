@@ -1,0 +1,105 @@
+-- What the functions within the crate write: a chunk, a stream, a connection.
+use Rattle.std.specs.Prelude.{◌≡◌, ℕ, ◌+◌, ◌*◌, ◌<◌, ◌≤◌, List, [], ◌∷◌, ◌++◌, length, Option, ⊤}
+use Rattle.std.specs.Io.KnownBytes.{Appends, Consumes, IsAtEnd}
+use Rattle.std.specs.List.{concat, flat_map}
+use Rattle.capture3.specs.declared.fault.Error.{Error}
+use Rattle.capture3.specs.SidedChunks.{Streams, size}
+use Rattle.canon3.specs.Bytes.{chunk_bytes}
+use Rattle.packing3.specs.declared.stream.Extent.{Extent}
+use Rattle.packing3.specs.Packed.{IsPackedConnection, IsPackedStream, full_size}
+use Rattle.packing3.specs.Stopped.{Tells}
+
+-- fewer bytes than this were consumed
+abbrev pub ConsumesFewer : (old new : Option (List ℕ)) → ℕ → Type 0
+ConsumesFewer old new n = (bytes : List ℕ) × Consumes old new bytes × (length bytes < n)
+
+-- each chunk is full
+abbrev pub AreFull : List (List ℕ) → Type 0
+AreFull [] = ⊤
+AreFull (chunk ∷ more) = (length chunk ≡ full_size) × AreFull more
+
+-- the last chunk: none, or some bytes
+abbrev pub last_chunk : List ℕ → List (List ℕ)
+last_chunk [] = []
+last_chunk (b ∷ bytes) = (b ∷ bytes) ∷ []
+
+-- these bytes are written, which carry so many stream bytes
+pub record Grows (extent after : Extent) (bytes : List ℕ) (streamed : ℕ) : Type 0 where
+  pub at : after.at ≡ extent.at + length bytes
+  pub streamed_is : after.streamed ≡ extent.streamed + streamed
+
+-- Besides `room` bytes no more than five are written for each stream byte: a chunk has four more than it carries, and carries at least one.
+abbrev pub GrowsLittle : (room : ℕ) (extent after : Extent) → Type 0
+GrowsLittle room extent after = after.at + 5 * extent.streamed ≤ extent.at + room + 5 * after.streamed
+
+-- A chunk of the next n bytes of the source is written: of fewer than fill it only where no more are left, and no chunk where there are none.
+pub record HasChunk (old_left left old written : Option (List ℕ)) (extent after : Extent) (n : ℕ) : Type 0 where
+  pub chunk : List ℕ
+  pub consumed : Consumes old_left left chunk
+  pub many : length chunk ≡ n
+  pub within : n ≤ full_size
+  pub ended : n < full_size → IsAtEnd left
+  pub appended : Appends old written (flat_map chunk_bytes (last_chunk chunk))
+  pub grows : Grows extent after (flat_map chunk_bytes (last_chunk chunk)) n
+
+-- full chunks of the source's next bytes are written
+pub record HasFull (old_left left old written : Option (List ℕ)) (extent after : Extent) : Type 0 where
+  pub full : List (List ℕ)
+  pub each : AreFull full
+  pub consumed : Consumes old_left left (concat full)
+  pub appended : Appends old written (flat_map chunk_bytes full)
+  pub grows : Grows extent after (flat_map chunk_bytes full) (length (concat full))
+
+-- the source's bytes are written to their end, as a stream
+pub record HasStream (old_left left old written : Option (List ℕ)) (extent after : Extent) : Type 0 where
+  pub stream : List ℕ
+  pub bytes : List ℕ
+  pub consumed : Consumes old_left left stream
+  pub ended : IsAtEnd left
+  pub packed : IsPackedStream bytes stream
+  pub appended : Appends old written bytes
+  pub grows : Grows extent after bytes (length stream)
+
+-- A front of these bytes is written, and an error came. They begin at this byte of the file.
+pub record IsStopped (old written : Option (List ℕ)) (bytes : List ℕ) (at total : ℕ) (error : Error) : Type 0 where
+  pub front : List ℕ
+  pub next : List ℕ
+  pub split : bytes ≡ front ++ next
+  pub appended : Appends old written front
+  pub told : Tells error (at + length front) next total
+
+-- a front is written of the chunk of what was read
+pub record StopsInChunk (old_left left old written : Option (List ℕ)) (extent : Extent) (error : Error) : Type 0 where
+  pub chunk : List ℕ
+  pub consumed : Consumes old_left left chunk
+  pub within : length chunk ≤ full_size
+  pub stopped : IsStopped old written (flat_map chunk_bytes (last_chunk chunk)) extent.at (extent.streamed + length chunk) error
+
+-- a front is written of the stream of what was read
+pub record StopsInStream (old_left left old written : Option (List ℕ)) (extent : Extent) (error : Error) : Type 0 where
+  pub stream : List ℕ
+  pub bytes : List ℕ
+  pub consumed : Consumes old_left left stream
+  pub packed : IsPackedStream bytes stream
+  pub stopped : IsStopped old written bytes extent.at (extent.streamed + length stream) error
+
+-- the word 1 and both sources' bytes to their ends are written, as a connection
+pub record HasConnection (old_client client old_server server old written : Option (List ℕ)) (extent after : Extent) : Type 0 where
+  pub streams : Streams
+  pub bytes : List ℕ
+  pub from_client : Consumes old_client client streams.client
+  pub from_server : Consumes old_server server streams.server
+  pub client_ended : IsAtEnd client
+  pub server_ended : IsAtEnd server
+  pub packed : IsPackedConnection bytes streams
+  pub appended : Appends old written bytes
+  pub grows : Grows extent after bytes (size streams)
+
+-- a front is written of the connection of what was read
+pub record StopsInConnection (old_client client old_server server old written : Option (List ℕ)) (extent : Extent) (error : Error) : Type 0 where
+  pub streams : Streams
+  pub bytes : List ℕ
+  pub from_client : Consumes old_client client streams.client
+  pub from_server : Consumes old_server server streams.server
+  pub packed : IsPackedConnection bytes streams
+  pub stopped : IsStopped old written bytes extent.at (extent.streamed + size streams) error
