@@ -9,8 +9,8 @@ from messages import (
     ACCES, AUTH_NONE, BADHANDLE, BADTYPE, BAD_COOKIE, CHR, DATA_SYNC, DIR, DQUOT, EXCLUSIVE, EXIST, FIFO, FILE_SYNC,
     GUARDED, INVAL, IO, JUKEBOX, LNK, MAGIC, MLINK, MOUNT, MOUNT_PROCEDURES, NFS, NFSACL, NFS_PROCEDURES, NOENT, NOSPC,
     NOTEMPTY, NOT_SYNC, NOW, REG, ROFS, SET_TO_SERVER_TIME, SOCK, STALE, TOOSMALL, UNCHECKED, UNSTABLE, XDEV, array,
-    auth_sys, call, capture, dirop, entries, entry, entryplus, exports, failed, fattr, fh, guard, how, hyper, made,
-    mountlist, nfstime, ok, opaque, post_op_attr, sattr, set_to_client_time, success, wcc, word)
+    auth_sys, call, capture, dirop, entries, entry, entryplus, exports, failed, fattr, fh, guard, how, hyper,
+    in_turn, interleaved, made, mountlist, nfstime, ok, opaque, post_op_attr, sattr, set_to_client_time, success, wcc, word)
 
 HERE = pathlib.Path(__file__).parent
 
@@ -175,7 +175,7 @@ def every_procedure():
     calls.append(call(0x1f3affff, NFSACL, 3, 1, arguments, credential=credential))
     replies.append(success(0x1f3affff, results))
     again = conversation(NFS, NFS_PROCEDURES, [NFS_EXCHANGES[0], NFS_EXCHANGES[-2]], 0x1f3a0001, credential)
-    return capture(mount, (calls, replies), again)
+    return mount, (calls, replies), again
 
 
 FILES = {
@@ -183,7 +183,8 @@ FILES = {
     'getattr.nfs3cap': capture(GETATTR),
     'two_connections.nfs3cap': capture(NULL, GETATTR),
     'auth_sys.nfs3cap': capture(([call(1, NFS, 3, 0, credential=auth_sys(1, b'client', 0, 0, []))], [success(1)])),
-    'every_procedure.nfs3cap': every_procedure(),
+    'every_procedure.nfs3cap': capture(*every_procedure()),
+    'interleaved.nfs3cap': interleaved(*(in_turn(*connection) for connection in every_procedure())),
     'bad_file_byte.nfs3cap': MAGIC + word(2),
     'bad_file_length.nfs3cap': capture(NULL)[:100],
     'bad_client_record.nfs3cap': capture(([call(7, NFS, 3, 1, HANDLE, mtype=2)], [])),

@@ -208,3 +208,20 @@ def capture(*connections):
     """A capture of connections, each a pair of its calls' bodies and its replies' bodies."""
     parts = (word(1) + stream(calls) + stream(replies) for calls, replies in connections)
     return MAGIC + b''.join(parts) + word(0)
+
+
+# --- Captures of version 2 ---
+
+MAGIC_2 = b'NFS3CAP2'
+CLIENT, SERVER = word(1), word(2)
+
+
+def interleaved(*connections):
+    """A capture of version 2 of connections, each a list of sides and bodies in the order in which they were sent: a chunk for each."""
+    parts = (word(1) + b''.join(side + record(body) for side, body in chunks) + word(0) for chunks in connections)
+    return MAGIC_2 + b''.join(parts) + word(0)
+
+
+def in_turn(calls, replies):
+    """Each call, and then its reply."""
+    return [message for pair in zip(calls, replies) for message in zip((CLIENT, SERVER), pair)]

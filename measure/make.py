@@ -5,25 +5,29 @@
     make.py long OUT            a raw call with the longest body that a record may have
     make.py mixed MEGABYTES OUT what a file server sees: attributes, names, folders, and data of 32 to 64 KiB
     make.py small MEGABYTES OUT GETATTR, LOOKUP and ACCESS alone
+    make.py interleaved MEGABYTES OUT
+                                the messages of `mixed` in version 2, each a chunk, in the order in which they are sent
     make.py xids OUT            one connection of 1,000,000 NULL calls with different xids, and their replies
 
 All are well formed, and the same at each run. Messages are written as they are made, so memory stays small.
 """
 import argparse
 import collections
+import itertools
 import pathlib
 import random
 import sys
 
 sys.path.insert(0, str(pathlib.Path(__file__).resolve().parent.parent / 'examples'))
 from messages import (  # noqa: E402
-    DIR, MAGIC, NFS, NFSACL, NFS_PROCEDURES, REG, UNSTABLE, auth_sys, call, dirop, entries, entry, entryplus, fattr, fh,
+    CLIENT, DIR, MAGIC, MAGIC_2, NFS, NFSACL, NFS_PROCEDURES, REG, SERVER, UNSTABLE, auth_sys, call, dirop, entries, entry, entryplus, fattr, fh,
     hyper, ok, opaque, post_op_attr, record, success, wcc, word)
 
 LONGEST_BODY = 16_777_216
 CALLS = 2_000               # in a connection
 FILES = 10_000
 FOLDERS = 100               # the first of the files
+LATEST = 16                 # how many calls later a reply may come
 MOST_MEGABYTES = 1_000      # a capture's streams may have 1,073,741,824 bytes
 
 KIB = 1_024
@@ -129,26 +133,42 @@ def exchanges(chance, mix, room):
 
 
 def reordered(chance, items):
-    """The items, each at most some places from its own: a server answers what is done first."""
-    places = [i + chance.uniform(0, 16) for i in range(len(items))]
+    """The items, each less than `LATEST` places from its own: a server answers what is done first."""
+    places = [i + chance.uniform(0, LATEST) for i in range(len(items))]
     return [items[i] for i in sorted(range(len(items)), key=places.__getitem__)]
 
 
-def write_connections(out, mix, megabytes):
+def conversations(mix, megabytes):
+    """Of each connection the calls and the replies, as chunks, which are made as they are asked for."""
     chance = random.Random(1)
     server = Server(chance)
     room = megabytes * 1_000_000
-    out.write(MAGIC)
     while room > 0:
         taken, used = exchanges(chance, mix, room)
         room -= used
+        calls = (record(call(exchange.xid, NFS, 3, NFS_PROCEDURES.index(exchange.procedure), server.arguments(exchange),
+                             credential=CREDENTIAL)) for exchange in taken)
+        yield calls, (record(success(exchange.xid, server.results(exchange))) for exchange in reordered(chance, taken))
+
+
+def write_connections(out, mix, megabytes):
+    out.write(MAGIC)
+    for calls, replies in conversations(mix, megabytes):
         out.write(word(1))
-        for exchange in taken:
-            number = NFS_PROCEDURES.index(exchange.procedure)
-            out.write(record(call(exchange.xid, NFS, 3, number, server.arguments(exchange), credential=CREDENTIAL)))
+        out.writelines(calls)
         out.write(word(0))
-        for exchange in reordered(chance, taken):
-            out.write(record(success(exchange.xid, server.results(exchange))))
+        out.writelines(replies)
+        out.write(word(0))
+    out.write(word(0))
+
+
+def write_interleaved(out, mix, megabytes):
+    """Each reply stands after its call."""
+    out.write(MAGIC_2)
+    for calls, replies in conversations(mix, megabytes):
+        out.write(word(1))
+        for sent in itertools.zip_longest(calls, itertools.chain([None] * LATEST, replies)):
+            out.writelines(side + message for side, message in zip((CLIENT, SERVER), sent) if message)
         out.write(word(0))
     out.write(word(0))
 
@@ -190,9 +210,9 @@ def megabytes(text):
 def main():
     parser = argparse.ArgumentParser(description=__doc__, formatter_class=argparse.RawDescriptionHelpFormatter)
     kinds = parser.add_subparsers(dest='kind', required=True)
-    for kind in ('readdir', 'long', 'mixed', 'small', 'xids'):
+    for kind in ('readdir', 'long', 'mixed', 'small', 'xids', 'interleaved'):
         arguments = kinds.add_parser(kind)
-        if kind in ('mixed', 'small'):
+        if kind in ('mixed', 'small', 'interleaved'):
             arguments.add_argument('megabytes', type=megabytes)
         arguments.add_argument('out')
     chosen = parser.parse_args()
@@ -208,6 +228,8 @@ def main():
                 write_connections(out, SMALL, chosen.megabytes)
             case 'xids':
                 write_xids(out)
+            case 'interleaved':
+                write_interleaved(out, MIXED, chosen.megabytes)
 
 
 if __name__ == '__main__':

@@ -17,8 +17,9 @@ import tempfile
 import tracing
 from captures import Runs
 from running import try_all, words_of
+from texts import fragment, mixed
 from tracing import Fault
-from traffic import NFSACL, Names, Traffic, call, messages
+from traffic import NFS, NFSACL, Names, Traffic, call, in_version_2, messages, streams_of, success
 
 EXAMPLES = pathlib.Path(__file__).resolve().parent.parent / 'examples'
 AS_IT_WAS = b'as it was'
@@ -31,8 +32,9 @@ OTHER_LINES = ['check absent', 'same a absent', 'canon a ./a', 'canon a new', 'p
                'pack out a', 'check', 'shou a', '--help']
 # Examples, and how many bytes of each the system gives at once where reads are to fail.
 GIVEN_AT_ONCE = {'getattr': 3, 'two_connections': 7, 'bad_bool': 1, 'bad_server_record': 5, 'bad_file_length': 9,
-                 'every_procedure': 997}
+                 'every_procedure': 997, 'interleaved': 101}
 WRITTEN_AT_ONCE = 499
+MIXED = messages.interleaved(messages.in_turn([call(1, NFS, 3, 0)], [success(1)]))
 
 
 class Place(Runs):
@@ -67,6 +69,12 @@ def drawn(seed):
     """A random capture."""
     traffic = Traffic(seed, Names.drawn(random.Random(seed)))
     return messages.capture(*traffic.connections)
+
+
+def drawn_mixed(seed):
+    """A random capture of version 2."""
+    chance = random.Random(seed)
+    return in_version_2(chance, streams_of(chance, Traffic(seed, Names.drawn(chance)).connections))
 
 
 # --- Memory ---
@@ -170,14 +178,18 @@ def syncs(line, place):
 
 # --- How often is read ---
 
-def of_size(size):
-    """A capture of so many bytes, at least 100."""
-    empty = len(messages.capture(([call(1, NFSACL, 3, 1)], [])))
-    return messages.capture(([call(1, NFSACL, 3, 1, bytes(size - empty))], []))
+def of_version_1(rest):
+    return messages.capture(([call(1, NFSACL, 3, 1, rest)], []))
 
 
-def number_of_reads(place):
+def of_version_2(rest):
+    return mixed([[('>', fragment(call(1, NFSACL, 3, 1, rest)))]])
+
+
+def number_of_reads(make, place):
     """One for each 65,536 bytes, and one that finds the end; none after the first fault."""
+    def of_size(size):
+        return make(bytes(size - len(make(b''))))
     for size in (100, BLOCK - 1, BLOCK, BLOCK + 1, 5 * BLOCK, 1_000_000):
         most = -(-size // BLOCK) + 1
         place.put(of_size(size))
@@ -200,6 +212,7 @@ def tries():
     examples = {name: example(name) for name in GIVEN_AT_ONCE}
     captures = {name: examples[name] for name in ('getattr', 'bad_server_record', 'every_procedure')}
     captures.update({'drawn%d' % seed: drawn(seed) for seed in (1, 169)})  # The second has more than a block.
+    captures.update({'interleaved': examples['interleaved'], 'drawn_mixed169': drawn_mixed(169)})
     for name, capture in captures.items():
         for line in COMMANDS:
             yield 'growths: %s of %s' % (line, name), growths, line, capture
@@ -209,9 +222,12 @@ def tries():
         for line in COMMANDS:
             yield 'reads: %s of %s' % (line, name), reads, line, examples[name], piece
             yield 'writes: %s of %s' % (line, name), writes, line, examples[name]
+    for line in COMMANDS:
+        yield 'reads: %s of version 2 byte by byte' % line, reads, line, MIXED, 1
     for line in ('canon a out', 'canon a new', 'pack out a a', 'pack new a a'):
         yield 'syncs: ' + line, syncs, line
-    yield 'number of reads', number_of_reads
+    for make in (of_version_1, of_version_2):
+        yield 'number of reads: ' + make.__name__, number_of_reads, make
 
 
 def tried(program, test, *given):

@@ -12,12 +12,14 @@ import functools
 import os
 import pathlib
 import random
+import re
 import shutil
 import subprocess
 import sys
 import tempfile
 
-from traffic import Names, Traffic, in_pieces, messages, word
+from containers import Container
+from traffic import Names, Traffic, in_pieces, in_version_2, messages, streams_of, word
 
 HERE = pathlib.Path(__file__).resolve().parent
 TIMEOUT, LAWS_OF_A_CAPTURE, FLIPS, CAPTURES_AT_ONCE = 60, 2, 5, 25
@@ -161,9 +163,55 @@ def a_front_is_cut_or_has_the_fault(trial):
     trial.want('a front of ' + name, (status, out, line in answers), (2, b'', True))
 
 
+def version_2_changes_nothing(trial):
+    """The streams of both sides in one list of chunks, cut anywhere, in any order."""
+    trial.write('mixed', in_version_2(trial.chance, streams_of(trial.chance, trial.traffic.connections)))
+    trial.want('canon of version 2', trial.form('mixed'), trial.form('a'))
+    trial.want('show of version 2', trial.run('show', 'mixed'), trial.run('show', 'a'))
+    pair = trial.chance.choice((('a', 'mixed'), ('mixed', 'a'), ('mixed', 'mixed')))
+    trial.want('same', trial.run('same', *pair), (0, b'same\n', ''))
+
+
+def version_2_has_its_first_fault(trial):
+    """Of streams and of a container that may be damaged: what the container shows, or what version 1 shows of the connections whose
+    side word 0 is there."""
+    streams = [[spoilt(trial.chance, stream) for stream in pair] for pair in streams_of(trial.chance, trial.traffic.connections)]
+    capture = damaged(trial.chance, in_version_2(trial.chance, streams))
+    container = Container(capture)
+    trial.write('mixed', capture)
+    trial.write('older', container.older())
+    for command, *more in (('check',), ('show',), ('canon', '/dev/stdout')):
+        wanted = container.answer(command, trial.run(command, 'older', *more))
+        found = trial.run(command, 'mixed', *more)
+        trial.want(command, found, wanted)
+        if command == 'check' and found[0] == 2:
+            trial.want('same', trial.run('same', 'mixed', 'a'), (2, b'', 'first: ' + found[2]))
+            trial.want('same', trial.run('same', 'a', 'mixed'), (2, b'', 'second: ' + found[2]))
+
+
+def spoilt(chance, stream):
+    """A stream that may have a flipped bit, end early, or end with the header of a record that is too long."""
+    kind, at = chance.randrange(9), chance.randrange(len(stream) or 1)
+    if kind == 0 and stream:
+        return stream[:at] + bytes([stream[at] ^ 1 << chance.randrange(8)]) + stream[at + 1:]
+    return stream[:at] if kind == 1 else stream + word(0x81000001) if kind == 2 else stream
+
+
+def damaged(chance, capture):
+    """A capture that may have a flipped bit, another word in the place of a small one, end early, or go on after its end."""
+    kind, at = chance.randrange(8), chance.randrange(len(capture))
+    if kind == 0:
+        return capture[:at] + bytes([capture[at] ^ 1 << chance.randrange(8)]) + capture[at + 1:]
+    if kind < 3:
+        at = chance.choice([found.start() for found in re.finditer(rb'\0\0\0[\0-\2]', capture)])
+        return capture[:at] + word(chance.randrange(4)) + capture[at + 4:]
+    return capture[:at] if kind == 3 else capture + word(0)[chance.randrange(4):] if kind == 4 else capture
+
+
 LAWS = [numbers_are_those_of_the_traffic, canonical_again_is_the_same, renaming_one_to_one_keeps_the_form,
         merging_two_values_parts_at_the_second, a_line_is_shown_for_each_message, packing_the_streams_gives_the_capture,
-        a_flipped_bit_shows, pieces_do_not_count, a_front_is_cut_or_has_the_fault]
+        a_flipped_bit_shows, pieces_do_not_count, a_front_is_cut_or_has_the_fault, version_2_changes_nothing,
+        version_2_has_its_first_fault]
 
 
 def broken_by(program, seed):

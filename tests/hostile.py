@@ -17,7 +17,9 @@ import time
 
 from captures import Runs
 from running import try_all, words_of
-from traffic import NFS, NFSACL, call, dirop, fh, hyper, messages, success, word
+from texts import fragment, mixed
+from traffic import (
+    CLIENT, MAGIC_2, NFS, NFSACL, call, dirop, fh, hyper, in_turn, interleaved, messages, success, word)
 
 HERE = pathlib.Path(__file__).resolve().parent
 TIMEOUT = 60
@@ -25,6 +27,7 @@ NOBODY = 65_534
 MOST_RATIO, ROUNDS = 2.6, 8  # of the time that twice as much takes; where time grows by the square it is 4
 NULL = ([call(1, NFS, 3, 0)], [success(1)])
 GOOD = messages.capture(NULL)  # its own canonical form
+GOOD_2 = interleaved(in_turn(*NULL))
 GOOD_LINE = 'ok connections=1 calls=1 replies=1 handles=0\n'
 # So is this one; its listing is longer.
 LARGE = messages.capture(([call(number, NFSACL, 3, 1, bytes(4_000)) for number in range(1, 1_001)], []))
@@ -37,7 +40,10 @@ class Place(Runs):
 
     def limited(self, limit, *words):
         """A run under `ulimit` in the shell's words. A file that gets too long is an error, and not the end of the program."""
-        return self.run_by(['sh', '-c', 'trap "" XFSZ; ulimit %s; exec "$@"' % limit, 'sh', self.program, *words])
+        return self.run_by(self.under(limit, *words))
+
+    def under(self, limit, *words):
+        return ['sh', '-c', 'trap "" XFSZ; ulimit %s; exec "$@"' % limit, 'sh', self.program, *words]
 
     def run_by(self, words, **options):
         done = subprocess.run(words, cwd=self.folder, stdin=subprocess.DEVNULL, stdout=subprocess.PIPE,
@@ -49,7 +55,10 @@ class Place(Runs):
 
     def fed(self, words, pieces):
         """A run with these pieces on its standard input, as many of them as it takes."""
-        process = self.begin(*words, stdin=subprocess.PIPE, stdout=subprocess.PIPE)
+        return self.fed_by([self.program, *words], pieces)
+
+    def fed_by(self, words, pieces):
+        process = subprocess.Popen(words, cwd=self.folder, stdin=subprocess.PIPE, stdout=subprocess.PIPE, stderr=subprocess.PIPE)
         feeder = threading.Thread(target=feed, args=(process.stdin, pieces), daemon=True)
         feeder.start()
         out, error = process.stdout.read(), process.stderr.read()
@@ -98,9 +107,23 @@ def many(count):
     return messages.capture((calls, []), NULL, ([call(9, NFSACL, 3, 1, bytes(50 * count))], []))
 
 
+def many_in_version_2(count):
+    """The same."""
+    calls = [call(number, NFS, 3, 1, fh(hyper(number) * 3)) for number in range(count)]
+    return interleaved([(CLIENT, body) for body in calls], in_turn(*NULL), [(CLIENT, call(9, NFSACL, 3, 1, bytes(50 * count)))])
+
+
 def memory_that_is_refused(place):
     """Under each limit the answer is the one of plenty of memory, or memory ran out, and OUT is whole or as it was."""
-    place.write('a', many(20_000))
+    refuse_memory(place, many(20_000))
+
+
+def memory_that_is_refused_to_version_2(place):
+    refuse_memory(place, many_in_version_2(20_000))
+
+
+def refuse_memory(place, capture):
+    place.write('a', capture)
     commands = {'check': ['a'], 'show': ['a'], 'same': ['a', 'a'], 'canon': ['a', 'out']}
     plenty = {command: place.run(command, *names) for command, names in commands.items()}
     form, refused = place.read('out'), set()
@@ -130,7 +153,11 @@ def lengths_with_nothing_after_them(place):
     """A length takes no memory."""
     head = 'connection 1 client record 1 byte '
     body = call(1, NFS, 3, 3, dirop(b'a' * 8, b''))[:-4] + word(40_000_000)
+    begin = MAGIC_2 + word(1) + word(1)
     cases = [
+        (begin + word(40_000_000), 'file 20: CaptureCut\n'),
+        (begin + word(4) + word(0x81000000) + word(0), head + '0: RecordCut\n'),
+        (begin + word(4) + word(0x81000001) + word(0), head + '0: RecordTooLong\n'),
         (messages.MAGIC + word(1) + word(40_000_000), 'file 16: CaptureCut\n'),
         (messages.MAGIC + word(1) + word(4) + word(0x81000000), 'file 20: CaptureCut\n'),
         (messages.MAGIC + word(1) + word(4) + word(0x81000000) + word(0) * 3, head + '0: RecordCut\n'),
@@ -143,6 +170,36 @@ def lengths_with_nothing_after_them(place):
         place.write(name, capture)
         for command in ('check', 'show'):
             place.want('%s %s' % (command, name), place.limited('-v %d' % limit, command, name), (2, '', line))
+
+
+def conversation(count, size):
+    """The chunks of calls and their replies in turn, each with so many bytes, of a raw procedure."""
+    return [chunk for xid in range(count)
+            for chunk in (('>', fragment(call(xid, NFSACL, 3, 1, bytes(size)))), ('<', fragment(success(xid, bytes(size)))))]
+
+
+def memory_of_one_connection(place):
+    """Of version 2 the streams of one connection are kept, at most thrice while they grow, and those of the next in their place: 1 MB of
+    streams, once and thirty times, and the same in chunks of a byte, takes 3 MB at most beside what the smallest capture takes."""
+    once = conversation(50, 10_000)
+    place.write('once', mixed([once]))
+    place.write('often', mixed([once] * 30))
+    place.write('bytes', mixed([[(side, bytes([byte])) for side, content in once for byte in content]]))
+    limit = place.least_memory() + 3_000
+    for name, times in (('once', 1), ('often', 30), ('bytes', 1)):
+        line = 'ok connections=%d calls=%d replies=%d handles=0\n' % (times, 50 * times, 50 * times)
+        for words in (['check', name], ['canon', name, '/dev/null']):
+            place.want(' '.join(words), place.limited('-v %d' % limit, *words), (0, line, ''))
+
+
+def streams_without_an_end(place):
+    """A connection of version 2 whose side word 0 does not come takes what memory there is, and no more."""
+    place.write('good', GOOD)
+    limit = '-v %d' % (place.least_memory() + 8_192)
+    chunk = MAGIC_2 + word(1) + word(2) + word(1 << 30)
+    for words, prefix in ((['check', '/dev/stdin'], ''), (['show', '/dev/stdin'], ''), (['same', '/dev/stdin', 'good'], 'first: ')):
+        answer = place.fed_by(place.under(limit, *words), endless(chunk, bytes(65_536)))
+        place.want(' '.join(words), answer, (3, '', prefix + 'out of memory\n'))
 
 
 # --- Disks, pipes and signals ---
@@ -239,6 +296,9 @@ def inputs_that_never_end(place):
         (endless(b'', b'y\n' * 32_768), stdin, 'file 0: BadMagic\n'),
         (endless(messages.MAGIC, b'y\n' * 32_768), stdin, 'file 8: BadMark\n'),
         (endless(GOOD, b'y\n' * 32_768), stdin, 'file 104: AfterEnd\n'),
+        (endless(GOOD_2, b'y\n' * 32_768), stdin, 'file 108: AfterEnd\n'),
+        (endless(MAGIC_2 + word(1), b'y\n' * 32_768), stdin, 'file 12: BadMark\n'),
+        (endless(MAGIC_2, word(1) + word(0)), stdin, 'file 524288: TooManyConnections\n'),
         (endless(first, fragment), stdin, 'connection 1 client record 1 byte 16777216: RecordTooLong\n'),
         (endless(b'', GOOD), ['same', 'good', '/dev/stdin'], 'second: file 104: AfterEnd\n'),
         (endless(b'', GOOD), ['canon', '/dev/stdin', 'out'], 'file 104: AfterEnd\n')]
@@ -254,7 +314,8 @@ def fifos(place):
     """As shells make them for `<(..)`: the program reads what comes, also byte by byte."""
     os.mkfifo(os.path.join(place.folder, 'fifo'))
     cases = [([GOOD], 0, GOOD_LINE), ([bytes([byte]) for byte in GOOD], 0, GOOD_LINE), ([GOOD[:50]], 2, 'file 50: CaptureCut\n'),
-             ([], 2, 'file 0: CaptureCut\n')]
+             ([], 2, 'file 0: CaptureCut\n'), ([bytes([byte]) for byte in GOOD_2], 0, GOOD_LINE),
+             ([GOOD_2[:103]], 2, 'file 103: CaptureCut\n')]
     for pieces, status, line in cases:
         def write(pieces=pieces):
             with open(os.path.join(place.folder, 'fifo'), 'wb', buffering=0) as pipe:
@@ -323,6 +384,28 @@ def single_bytes(count):
     return b''.join(b'\0\0\0\x01%c' % byte for byte in stream), b''
 
 
+def in_turns(count):
+    """NULL calls with different xids, each with its reply right after it."""
+    calls, reply = call(0, NFS, 3, 0)[4:], success(0)[4:]
+    return b''.join(b'\0\0\0\x01\0\0\0\x2c\x80\0\0\x28%b%b\0\0\0\x02\0\0\0\x1c\x80\0\0\x18%b%b' % (xid, calls, xid, reply)
+                    for xid in map(word, range(count)))
+
+
+def bytes_in_turns(count):
+    """A raw call and its reply in chunks of a byte, of both sides in turn."""
+    client, server = (fragment(body) for body in (call(1, NFSACL, 3, 1, bytes(count // 2)), success(1, bytes(count // 2 + 16))))
+    return b''.join(b'\0\0\0\x01\0\0\0\x01%c\0\0\0\x02\0\0\0\x01%c' % pair for pair in zip(client, server))
+
+
+def version_2(chunks):
+    return MAGIC_2 + word(1) + chunks + word(0) + word(0)
+
+
+def version_1(streams):
+    client, server = streams
+    return messages.MAGIC + word(1) + client + word(0) + server + word(0) + word(0)
+
+
 def seconds(place, command, *names):
     """Processor time of a run."""
     with open(os.devnull, 'wb') as nothing:
@@ -344,12 +427,11 @@ def ratio(place, command, *more):
     return least
 
 
-def linear(make, count):
+def linear(make, count, capture=version_1):
     """A test that twice as much does not take much more than twice as long."""
     def test(place):
         for name, number in (('half', count // 2), ('whole', count)):
-            client, server = make(number)
-            place.write(name, messages.MAGIC + word(1) + client + word(0) + server + word(0) + word(0))
+            place.write(name, capture(make(number)))
         for command, *more in (('check',), ('canon', '/dev/null'), ('show',)):
             found = ratio(place, command, *more)
             if found > MOST_RATIO:
@@ -359,7 +441,9 @@ def linear(make, count):
 
 
 TESTS = [linear(xids, 1_000_000), linear(handles, 1_000_000), linear(empty_fragments, 2_000_000), linear(single_bytes, 2_000_000),
-         memory_that_is_refused, lengths_with_nothing_after_them, disks_that_are_full_in_the_middle, readers_that_go_away,
+         linear(in_turns, 500_000, version_2), linear(bytes_in_turns, 2_000_000, version_2),
+         memory_that_is_refused, memory_that_is_refused_to_version_2, memory_of_one_connection, streams_without_an_end,
+         lengths_with_nothing_after_them, disks_that_are_full_in_the_middle, readers_that_go_away,
          standard_error_that_nobody_reads, standard_files_that_are_closed, signals_in_the_middle,
          names_that_are_taken_in_the_middle, many_streams_and_few_open_files, inputs_that_never_end, fifos,
          files_that_may_not_be_read, files_that_change_while_they_are_read]

@@ -17,10 +17,11 @@ import tempfile
 import threading
 
 from running import try_all, words_of
-from texts import bytes_of, capture_of
+from texts import bytes_of, capture_of, mixed_of
 
 HERE = pathlib.Path(__file__).resolve().parent
 TIMEOUT = 20
+MAKES = {'file': bytes_of, 'capture': capture_of, 'mixed': mixed_of}
 
 
 def text_of(text):
@@ -40,8 +41,8 @@ class Case:
     def add(self, key, value):
         name, _, rest = value.partition(':')
         name, rest = name.strip(), rest.strip()
-        if key in ('file', 'capture'):
-            self.content[name] = (capture_of if key == 'capture' else bytes_of)(rest)
+        if key in MAKES:
+            self.content[name] = MAKES[key](rest)
             self.making.append(('file', name, None))
         elif key in ('symlink', 'hardlink'):
             link, _, target = value.partition('->')

@@ -15,10 +15,10 @@ import subprocess
 import sys
 import tempfile
 
-from captures import Runs, rows_of
+from captures import SMALL, Runs, capture_in, rows_of
 from recordings import ACK, CLIENT, RST, SERVER, Talk, pcap, pcapng
+from rooms import in_the_wrong_room, of_several_meanings
 from running import try_all, words_of
-from texts import bytes_of, capture_of
 from traffic import NFS, Names, Traffic, call, messages, success
 
 sys.path.insert(0, str(pathlib.Path(__file__).resolve().parent.parent / 'tools'))
@@ -159,16 +159,17 @@ def what_is_left_out(tools):
 
 
 def explained(tools):
-    """Each example that is refused, and for each reason the first row of captures.rows, by the line of `check`."""
+    """For each reason the first row of captures.rows in each version, by the line of `check`."""
     lines = {}
     for _, row in rows_of('captures.rows'):
-        reason = row['line'].rpartition(' ')[2]
-        if not row['line'].startswith('ok ') and 'x' not in row.get('file', '') and reason not in lines:
-            lines[reason] = row['line']
-            tools.write(reason, capture_of(row['capture']) if 'capture' in row else bytes_of(row['file']))
-    tools.want('reasons', len(lines) >= 17, True)
-    for reason, line in lines.items():
-        status, out, error = tools.tool('explain', reason, stdin=('first: %s\n' % line).encode())
+        reason, capture = row['line'].rpartition(' ')[2], capture_in(row)
+        name = reason + capture[7:8].decode()
+        if not row['line'].startswith('ok ') and len(capture) < SMALL and name not in lines:
+            lines[name] = reason, row['line']
+            tools.write(name, capture)
+    tools.want('reasons', len(lines), 32)
+    for name, (reason, line) in lines.items():
+        status, out, error = tools.tool('explain', name, stdin=('first: %s\n' % line).encode())
         told = (status, '\n%s: ' % reason in out, 'no reason of' in out, error)
         tools.want('explain ' + line, told, (0, True, False, ''))
         if ' byte ' in line and reason not in ('Trailing', 'AuthLength', 'RecordCut', 'RecordTooLong'):
@@ -182,6 +183,11 @@ def explained_as_documented(tools):
     tools.want('bad_status', (status, out.splitlines()[:3]), (0, [
         'connection 1 server record 1: reply NFSPROC3_GETATTR of program 100003, version 3, procedure 1',
         'xid 7, a body of 28 bytes, to call record 1', 'byte 24: status = 3']))
+    tools.write('a', (TOP / 'examples/interleaved.nfs3cap').read_bytes())
+    for place, told in (('file 12', 'file byte 12: the side word before a chunk of connection 1 client, from byte 12'),
+                        ('connection 2 server record 1 byte 4', 'byte 4: mtype = 1')):
+        tools.want(place, told in tools.tool('explain', 'a', place)[1].splitlines(), True)
+    tools.write('a', (TOP / 'examples/bad_status.nfs3cap').read_bytes())
     for place, status in (('connection 1 server record 2 byte 0', 1), ('file 9999', 1), ('nothing', 2)):
         tools.want(place, tools.tool('explain', 'a', place)[0], status)
 
@@ -294,7 +300,7 @@ def examples_are_made_alike(tools):
 
 def pages_agree(tools):
     """The reasons have the same names in docs/FORMATS.md, the man page and tools/explain, each has a row in captures.rows, and the
-    dump is that of the example."""
+    dumps are the bytes of a NULL call and its reply in both versions."""
     formats = (TOP / 'docs/FORMATS.md').read_text()
     reasons = re.findall(r'^\| \d+ \| `(\w+)` \|', formats, re.M)
     tools.want('reasons', len(reasons), 19)
@@ -302,10 +308,13 @@ def pages_agree(tools):
     tools.want('explain', re.findall(r"'([A-Z]\w+)': ", (TOP / 'tools/explain').read_text()), reasons)
     told = {row['line'].rpartition(' ')[2] for _, row in rows_of('captures.rows') if not row['line'].startswith('ok ')}
     tools.want('rows', sorted(told), sorted(reasons))
-    dump = re.findall(r'^\| (\d+) \| ((?:[0-9a-f]{8} ?)+) \|', formats, re.M)
-    tools.want('dump', bytes.fromhex(''.join(words for _, words in dump)), (TOP / 'examples/null.nfs3cap').read_bytes())
-    sizes = [len(bytes.fromhex(words)) for _, words in dump]
-    tools.want('places of the dump', [int(at) for at, _ in dump], [sum(sizes[:at]) for at in range(len(sizes))])
+    rows = re.findall(r'^\| (\d+) \| ((?:[0-9a-f]{8} ?)+) \|', formats, re.M)
+    second = next(number for number, (at, _) in enumerate(rows) if number and at == '0')
+    null = ([call(0xdeadbeef, NFS, 3, 0)], [success(0xdeadbeef)])
+    for dump, capture in ((rows[:second], messages.capture(null)), (rows[second:], messages.interleaved(messages.in_turn(*null)[::-1]))):
+        tools.want('dump', bytes.fromhex(''.join(words for _, words in dump)), capture)
+        sizes = [len(bytes.fromhex(words)) for _, words in dump]
+        tools.want('places of the dump', [int(at) for at, _ in dump], [sum(sizes[:at]) for at in range(len(sizes))])
     if shutil.which('man'):
         done = subprocess.run(['man', '--warnings', '-l', 'man/nfs3canon.1'], cwd=TOP, stdout=subprocess.DEVNULL, stderr=subprocess.PIPE)
         tools.want('warnings of man', done.stderr, b'')
@@ -330,6 +339,12 @@ def what_is_believed(tools):
     tools.want('a call that is not there', tools.tool('believed', 'canon3::absent')[0], 1)
 
 
+def rooms_stand_apart(tools):
+    """What public calls believe, and machinery; and each definition has a name of its own."""
+    tools.want('rooms', in_the_wrong_room(), [])
+    tools.want('names', of_several_meanings(), [])
+
+
 def clauses_are_short(tools):
     """A clause has lines of at most 100 columns."""
     for path in sorted(TOP.glob('crates/*/src/*.rt')):
@@ -342,7 +357,7 @@ STRINGS = ('name', 'path', 'machinename', 'dirpath', 'hostname', 'directory')
 OF_TSHARK = [recordings_of_all_kinds, segments_in_any_order, who_is_the_client, what_is_left_out, recordings_of_the_readme]
 TESTS = [*OF_TSHARK, explained, explained_as_documented, layouts_agree_with_the_listing, commands_of_the_readme,
          lines_for_many_captures, examples_are_used, answers_of_the_examples, examples_are_made_alike, pages_agree, what_is_believed,
-         clauses_are_short]
+         rooms_stand_apart, clauses_are_short]
 
 
 def tried(program, test):

@@ -10,9 +10,10 @@ import sys
 sys.path.insert(0, str(pathlib.Path(__file__).resolve().parent.parent / 'examples'))
 import messages  # noqa: E402
 from messages import (  # noqa: E402
-    AUTH_NONE, DONT_CHANGE, EXCLUSIVE, MAGIC, MOUNT, NFS, NFSACL, SET_TO_SERVER_TIME, array, auth_sys, call, dirop, entries,
-    entry, entryplus, exports, failed, fattr, fh, guard, how, hyper, made, mountlist, nfstime, ok, opaque, post_op_attr,
-    sattr, set_to_client_time, success, wcc, word)
+    AUTH_NONE, CLIENT, DONT_CHANGE, EXCLUSIVE, MAGIC, MAGIC_2, MOUNT, NFS, NFSACL, SET_TO_SERVER_TIME, array, auth_sys,
+    call, dirop, entries, entry, entryplus, exports, failed, fattr, fh, guard, how, hyper, in_turn, interleaved, made,
+    mountlist, nfstime, ok, opaque, post_op_attr, sattr, set_to_client_time, success, wcc, word)
+from texts import chunk, mixed  # noqa: E402
 
 HANDLES, VERIFIERS, CONNECTIONS, XIDS = 7, 3, 3, 10
 WRITE, COMMIT = 7, 21
@@ -253,20 +254,39 @@ def in_fragments(chance, body):
     return b''.join(word(len(piece)) + piece for piece in pieces[:-1]) + last
 
 
-def in_chunks(chance, stream):
-    """A stream of a capture in chunks of single bytes, where it is short, or of up to 999 bytes or to 99,999."""
+def pieces_of(chance, stream):
+    """A stream in single bytes, where it is short, or in pieces of up to 999 bytes or to 99,999."""
     most = chance.choice((1, 999, 99_999)) if len(stream) < 3_000 else 99_999
-    chunks, at = [], 0
+    pieces, at = [], 0
     while at < len(stream):
         size = chance.randrange(most) + 1
-        chunks.append(stream[at:at + size])
+        pieces.append(stream[at:at + size])
         at += size
-    return b''.join(word(len(chunk)) + chunk for chunk in chunks) + word(0)
+    return pieces
+
+
+def in_chunks(chance, stream):
+    """A stream of a capture, cut anywhere."""
+    return b''.join(map(chunk, pieces_of(chance, stream))) + word(0)
+
+
+def streams_of(chance, connections):
+    """Both streams of each connection, their records in fragments."""
+    return [[b''.join(in_fragments(chance, body) for body in side) for side in connection] for connection in connections]
 
 
 def in_pieces(chance, connections):
     """A capture of these connections with its records in fragments and its streams in chunks, cut anywhere."""
-    sides = (b''.join(in_fragments(chance, body) for body in side) for connection in connections for side in connection)
-    streams = [in_chunks(chance, side) for side in sides]
-    pairs = zip(streams[::2], streams[1::2])
-    return MAGIC + b''.join(word(1) + client + server for client, server in pairs) + word(0)
+    streams = ([in_chunks(chance, stream) for stream in pair] for pair in streams_of(chance, connections))
+    return MAGIC + b''.join(word(1) + client + server for client, server in streams) + word(0)
+
+
+def in_version_2(chance, streams):
+    """A capture of version 2 of both streams of each connection, cut anywhere, the sides in any order."""
+    connections = []
+    for pair in streams:
+        left = {side: pieces_of(chance, stream)[::-1] for side, stream in zip('><', pair)}
+        sides = [side for side, pieces in left.items() for _ in pieces]
+        chance.shuffle(sides)
+        connections.append([(side, left[side].pop()) for side in sides])
+    return mixed(connections)

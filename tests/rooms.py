@@ -1,0 +1,114 @@
+"""Where the definitions of crates/*/specs stand: what a public call of any crate believes, and all else in rooms named machinery. And
+which names stand for several of them."""
+import collections
+import importlib.machinery
+import importlib.util
+import pathlib
+import re
+import sys
+
+TOP = pathlib.Path(__file__).resolve().parent.parent
+ROOM = 'machinery'
+# What believed definitions and public clauses name of machinery, and why nobody has to believe what it is made of.
+BY_NAME = {
+    'StandsFor': 'a history of a reader of entries: `through` gives one, each call takes one on, and what is concluded names none',
+    'entries_left': 'a number that falls with each entry, by which a loop over them ends',
+}
+ALIKE = {'words', '◌then◌'}  # defined in several crates, and each time the same
+ITEM = re.compile(r'pub fn (\w+)|pub trait (\w+)|impl\b(?:<[^{]*?>)? ?(?:.* for )?(\w+)[^{]*\{$')
+METHOD = re.compile(r' {4}pub fn \w+')
+GHOST = re.compile(r'^ *ghost (?!use\b).*?;$', re.M | re.S)
+
+
+def tool():
+    """tools/believed as a module."""
+    sys.dont_write_bytecode = True
+    loader = importlib.machinery.SourceFileLoader('believed', str(TOP / 'tools/believed'))
+    module = importlib.util.module_from_spec(importlib.util.spec_from_loader('believed', loader))
+    loader.exec_module(module)
+    return module
+
+
+def libraries():
+    """The crates but those of tests, which have no public call."""
+    lines = (TOP / 'crates.txt').read_text().splitlines()
+    names = [line.partition(':')[0] for line in lines if line and not line.startswith('#')]
+    return [name for name in names if not name.endswith('_tests')]
+
+
+def given_out(crate):
+    """The names and the modules that a library gives out. A program gives out all that is public."""
+    lib = TOP / 'crates' / crate / 'src/lib.rt'
+    if not lib.exists():
+        return None, set()
+    text = lib.read_text()
+    names = {name for names in re.findall(r'^pub use ([^;]*);', text, re.M) for name in re.findall(r'\w+', names)}
+    return names, set(re.findall(r'^pub mod (\w+);', text, re.M))
+
+
+def is_public(name, path, text, names, modules):
+    declared = re.search(r'^pub (?:struct|enum|trait|fn) %s\b' % name, text, re.M)
+    return bool(declared) if names is None or path.stem in modules else name in names
+
+
+def body_at(lines, at, space):
+    """The lines from one on to the brace that ends it, or its head."""
+    end = next(n for n in range(at + 1, len(lines)) if lines[n].startswith((space + '}', space + '{')))
+    return lines[at:end + 1]
+
+
+def public_texts(crate):
+    """Of each public function, trait, method and impl of a trait: its file and its text."""
+    names, modules = given_out(crate)
+    for path in sorted((TOP / 'crates' / crate / 'src').rglob('*.rt')):
+        text = path.read_text()
+        lines = text.splitlines()
+        for at, match in enumerate(map(ITEM.match, lines)):
+            if match and is_public(match[1] or match[2] or match[3], path, text, names, modules):
+                body = body_at(lines, at, '')
+                is_own = match[3] and ' for ' not in lines[at]
+                methods = [n for n, line in enumerate(body) if METHOD.match(line)] if is_own else []
+                for part in [body_at(body, n, '    ') for n in methods] if is_own else [body]:
+                    yield path, '\n'.join(part)
+
+
+def reached(believed):
+    """What is believed of all public calls."""
+    found = believed.Believed()
+    for crate in libraries():
+        for path, text in public_texts(crate):
+            clauses = [match[0] for pattern in (believed.CLAUSE, GHOST) for match in pattern.finditer(text)]
+            believed.reach_clauses(found, path, clauses)
+    return found
+
+
+def files(believed):
+    """All files of definitions."""
+    for crate in libraries():
+        root = TOP / 'crates' / crate / 'specs'
+        for path in sorted(root.rglob('*.antt')):
+            yield believed.file_of(crate, '.'.join(path.relative_to(root).with_suffix('').parts))
+
+
+def in_the_wrong_room():
+    """What is wrong, in words."""
+    believed = tool()
+    found, wrong = reached(believed), []
+    for name in sorted(found.by_name ^ set(BY_NAME)):
+        wrong.append('%s is machinery, and a public call believes it; or it is an exception, and none does' % name)
+    for file in files(believed):
+        if not file.module.startswith(ROOM):
+            wrong += ['%s: no public call believes %s' % (file.path, one.name) for one in file.definitions if one not in found.seen]
+            places = [*file.imports.names.values(), *((*place, 'all of it') for place in file.imports.aliases.values())]
+            wrong += ['%s imports of %s: %s' % (file.path, module, name) for _, module, name in places
+                      if module.startswith(ROOM + '.') and name not in BY_NAME]
+    return wrong
+
+
+def of_several_meanings():
+    """The names that stand for several definitions, with their modules."""
+    places = collections.defaultdict(list)
+    for file in files(tool()):
+        for one in file.definitions:
+            places[one.name].append('%s.%s' % (file.crate, file.module))
+    return ['%s: %s' % (name, ', '.join(some)) for name, some in sorted(places.items()) if len(some) > 1 and name not in ALIKE]
