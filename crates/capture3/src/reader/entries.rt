@@ -29,9 +29,9 @@ use xdr3::{Reason, Visit};
 /// How many bytes a read asks for.
 const BLOCK: usize = 65_536;
 
-/// One byte more than the longest capture has. That one has version 2: its magic, 65,535 connections of a
-/// word 1 and a side word 0, the last word 0, and 1,073,741,824 stream bytes in chunks of one byte after
-/// eight of side and length.
+/// The most bytes that are judged: one more than the longest capture has, since the byte that shows a fault
+/// is judged too. That capture has version 2: its magic, 65,535 connections of a word 1 and a side word 0,
+/// the last word 0, and 1,073,741,824 stream bytes in chunks of one byte after eight of side and length.
 const MOST_JUDGED: u64 = 9_664_200_709;
 
 /// What a reader answers from now on.
