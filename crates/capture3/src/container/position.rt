@@ -81,7 +81,7 @@ pub(crate) struct Position {
     /// The whole records so far of the stream that is judged.
     pub(crate) records: u32,
     pub(crate) spot: Spot,
-    /// As the magic tells, once it has come. It stands last, so that the spot is copied in whole words.
+    /// As the magic tells, once it has come.
     pub(crate) version: Version,
 }
 
