@@ -1,5 +1,6 @@
 -- A reader of entries: what it answers for good, and what an error says of what it read and handed out.
 use Rattle.std.specs.Prelude.{◌≡◌, ◌⊎◌, ℕ, ◌+◌, ◌-◌, ◌^◌, min, Option, Some, None, Result, Err, List, [], ◌∷◌, ◌++◌, vec_len}
+use Rattle.std.specs.Borrow.{GName}
 use Rattle.std.specs.Io.KnownBytes.{IsAtEnd}
 use Rattle.std.specs.declared.hash.BuildHasher as BuildHasher
 use Rattle.std.specs.declared.hash.Hasher as Hasher
@@ -47,6 +48,18 @@ failure_in (Failed error) = Some error
 module _ {R S H : Type 0} {builds : BuildHasher.Ghosts S H} {hashes : Hasher.Ghosts H} where
   abbrev pub failure_of : Entries R S H builds hashes → Option Error
   failure_of entries = failure_in entries.stage
+
+  -- the source, as the reads have left it
+  abbrev pub source_of : Entries R S H builds hashes → R
+  source_of entries = entries.source.now
+
+  -- the reference through which the source was lent
+  abbrev pub loan_of : Entries R S H builds hashes → GName
+  loan_of entries = entries.source.ghost_name
+
+  -- the failed reads of the source, between two states of its reader
+  abbrev pub CountsReads : {X : Type 0} → (R → ℕ) → (old new : Entries R S H builds hashes) → Result X Error → Type 0
+  CountsReads failures old new result = CountsReading (failures (source_of old)) (failures (source_of new)) result
 
   -- how many bytes a read asks for
   abbrev pub block_size : Entries R S H builds hashes → ℕ

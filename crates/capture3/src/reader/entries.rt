@@ -75,7 +75,7 @@ pub struct Entries<'r, R, S: BuildHasher + Drop> {
 
 impl<'r, R: Source, S: BuildHasher + Drop> Entries<'r, R, S> {
     ghost use Rattle.capture3.specs.Kept.{IsLent, kind_lent};
-    ghost use Rattle.capture3.specs.Entries.{block_size, CountsReading, failure_of, IsOver, last_of};
+    ghost use Rattle.capture3.specs.Entries.{block_size, CountsReads, failure_of, IsOver, last_of, loan_of, source_of};
     ghost use Rattle.capture3.specs.Handing.{HandsOutGiven};
     ghost use Rattle.capture3.specs.machinery.Entries.{entries_left, HandsOutOrGoesOn, HasRead, StandsFor, Turns};
 
@@ -84,11 +84,11 @@ impl<'r, R: Source, S: BuildHasher + Drop> Entries<'r, R, S> {
     pub fn through(alloc: Global, hasher: S, source: &'r mut R, block: Vec<u8>) -> Entries<'r, R, S>
         requires { 0 < vec_len block }
         ensures stands { StandsFor R.left result [] [] }
-        ensures unread { result.source.now ≡ source.old }
+        ensures unread { source_of result ≡ source.old }
         ensures going { failure_of result ≡ None }
         ensures unlent { last_of result ≡ None }
         ensures block { block_size result ≡ vec_len block }
-        ensures same_reference { result.source.ghost_name ≡ source.entry.ghost_name }
+        ensures same_reference { loan_of result ≡ source.entry.ghost_name }
     {
         Entries {
             source,
@@ -104,8 +104,8 @@ impl<'r, R: Source, S: BuildHasher + Drop> Entries<'r, R, S> {
 
     /// The source, as the reads left it.
     pub fn into_source(self) -> &'r mut R
-        ensures value { result.now ≡ self.entry.source.now }
-        ensures same_reference { result.ghost_name ≡ self.entry.source.ghost_name }
+        ensures value { result.now ≡ source_of self.entry }
+        ensures same_reference { result.ghost_name ≡ loan_of self.entry }
     {
         let Entries { source, .. } = self;
         source
@@ -135,13 +135,12 @@ impl<'r, R: Source, S: BuildHasher + Drop> Entries<'r, R, S> {
         ensures unlent { OnErr result (last_of self.new ≡ None) }
         ensures again { (error : Error) → failure_of self.old ≡ Some error → result ≡ Err error }
         ensures unread { (error : Error) → failure_of self.old ≡ Some error
-            → self.new.source.now ≡ self.old.source.now }
+            → source_of self.new ≡ source_of self.old }
         ensures read { failure_of self.old ≡ None
-            → CountsReading (R.failures self.old.source.now)
-            (R.failures self.new.source.now) result }
+            → CountsReads R.failures self.old self.new result }
         ensures write { IfErr result (λ error. error ≢ Error.Write) }
         ensures same_block { block_size self.new ≡ block_size self.old }
-        ensures same_reference { self.new.source.ghost_name ≡ self.old.source.ghost_name }
+        ensures same_reference { loan_of self.new ≡ loan_of self.old }
     {
         match self.stage {
             Stage::Reading => self.read_on(visitor),
@@ -177,10 +176,9 @@ impl<'r, R: Source, S: BuildHasher + Drop> Entries<'r, R, S> {
         ensures going { OnOk result (failure_of self.new ≡ None) }
         ensures failed { IfErr result (λ error. self.new.stage ≡ Stage.Failed error) }
         ensures unlent { OnErr result (last_of self.new ≡ None) }
-        ensures read { CountsReading (R.failures self.old.source.now)
-            (R.failures self.new.source.now) result }
+        ensures read { CountsReads R.failures self.old self.new result }
         ensures same_block { block_size self.new ≡ block_size self.old }
-        ensures same_reference { self.new.source.ghost_name ≡ self.old.source.ghost_name }
+        ensures same_reference { loan_of self.new ≡ loan_of self.old }
     {
         while self.judged <= MOST_JUDGED {
             match self.turn(visitor) {
@@ -215,10 +213,9 @@ impl<'r, R: Source, S: BuildHasher + Drop> Entries<'r, R, S> {
         ensures going { OnOk result (failure_of self.new ≡ None) }
         ensures failed { IfErr result (λ error. self.new.stage ≡ Stage.Failed error) }
         ensures unlent { OnErr result (last_of self.new ≡ None) }
-        ensures read { CountsReading (R.failures self.old.source.now)
-            (R.failures self.new.source.now) result }
+        ensures read { CountsReads R.failures self.old self.new result }
         ensures same_block { block_size self.new ≡ block_size self.old }
-        ensures same_reference { self.new.source.ghost_name ≡ self.old.source.ghost_name }
+        ensures same_reference { loan_of self.new ≡ loan_of self.old }
     {
         if self.is_used_up() {
             match self.refill() {
@@ -256,16 +253,16 @@ impl<'r, R: Source, S: BuildHasher + Drop> Entries<'r, R, S> {
             → HasRead R.left self.old self.new given handed }
         ensures some { IfOk result (λ more. IsTrue more → self.new.start < self.new.end) }
         ensures none { IfOk result (λ more. IsFalse more → self.new.start ≡ self.new.end) }
-        ensures end { IfOk result (λ more. IsFalse more → IsAtEnd (R.left self.new.source.now)) }
+        ensures end { IfOk result
+            (λ more. IsFalse more → IsAtEnd (R.left (source_of self.new))) }
         ensures same_capture { self.new.capture ≡ self.old.capture }
         ensures same_count { self.new.judged ≡ self.old.judged }
         ensures reading { OnOk result (self.new.stage ≡ Stage.Reading) }
         ensures failed { IfErr result (λ error. self.new.stage ≡ Stage.Failed error) }
         ensures unlent { OnErr result (last_of self.new ≡ None) }
-        ensures read { CountsReading (R.failures self.old.source.now)
-            (R.failures self.new.source.now) result }
+        ensures read { CountsReads R.failures self.old self.new result }
         ensures same_block { block_size self.new ≡ block_size self.old }
-        ensures same_reference { self.new.source.ghost_name ≡ self.old.source.ghost_name }
+        ensures same_reference { loan_of self.new ≡ loan_of self.old }
     {
         self.start = 0;
         self.end = 0;
@@ -303,9 +300,9 @@ impl<'r, R: Source, S: BuildHasher + Drop> Entries<'r, R, S> {
         ensures failed { IfErr result (λ error. self.new.stage ≡ Stage.Failed error) }
         ensures unlent { OnErr result (last_of self.new ≡ None) }
         ensures never_reads { IfErr result (λ error. error ≢ Error.Read) }
-        ensures unread { self.new.source.now ≡ self.old.source.now }
+        ensures unread { source_of self.new ≡ source_of self.old }
         ensures same_block { block_size self.new ≡ block_size self.old }
-        ensures same_reference { self.new.source.ghost_name ≡ self.old.source.ghost_name }
+        ensures same_reference { loan_of self.new ≡ loan_of self.old }
     {
         let piece = &self.block[self.start..self.end];
         match self.capture.next(piece, visitor) {
@@ -328,7 +325,7 @@ impl<'r, R: Source, S: BuildHasher + Drop> Entries<'r, R, S> {
         requires reading { self.old.stage ≡ Stage.Reading }
         requires judged { self.old.start ≡ self.old.end }
         requires unopened { self.old.capture.container.cursor ≡ None }
-        requires end { IsAtEnd (R.left self.old.source.now) }
+        requires end { IsAtEnd (R.left (source_of self.old)) }
         ensures ok { (given : List ℕ) (handed : List spec.Entry)
             → StandsFor R.left self.old given handed
             → OnOk result (StandsFor R.left self.new given (handed ++ spec.End ∷ [])) }
@@ -340,9 +337,9 @@ impl<'r, R: Source, S: BuildHasher + Drop> Entries<'r, R, S> {
         ensures failed { IfErr result (λ error. self.new.stage ≡ Stage.Failed error) }
         ensures unlent { OnErr result (last_of self.new ≡ None) }
         ensures never_reads { IfErr result (λ error. error ≢ Error.Read) }
-        ensures unread { self.new.source.now ≡ self.old.source.now }
+        ensures unread { source_of self.new ≡ source_of self.old }
         ensures same_block { block_size self.new ≡ block_size self.old }
-        ensures same_reference { self.new.source.ghost_name ≡ self.old.source.ghost_name }
+        ensures same_reference { loan_of self.new ≡ loan_of self.old }
     {
         match self.capture.end(self.judged) {
             Ok(()) => {
