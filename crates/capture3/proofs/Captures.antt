@@ -41,7 +41,8 @@ use Rattle.record_mark.proofs.Machines.{after-append}
 use Rattle.capture3.specs.Judging.{agrees, judge_call, judge_reply}
 use Rattle.capture3.specs.machinery.Messages.{IsTableOf}
 use Rattle.capture3.specs.Parsing.{Parsing, file_next, file_start, parsed, emitted}
-use Rattle.capture3.specs.machinery.Position.{IsBeforeMark, opened_at, unpacking_at, version_of, StoredWith}
+use Rattle.capture3.specs.machinery.Position.{IsBeforeMark, opened_at, unpacking_at, StoredWith}
+use Rattle.capture3.proofs.Containers.{mark_is}
 use Rattle.capture3.specs.Capture.{Two}
 use Rattle.capture3.specs.machinery.Resumed.{Judged, parsing_at, resumed, call_judged, reply_judged, emitted_at, connection_begun, turned, connection_closed}
 use Rattle.capture3.specs.machinery.Resumed as resuming
@@ -472,18 +473,12 @@ streams_open c table bytes all m =
     }
 
 stored_first : (p : Position) (streams : Streams) → StoredWith (Some events.Streams) p streams → AreStored p (Some first_cursor) streams
-stored_first p streams stored = (omega arith, omega (arith, stored.1), stored.0, stored.2, stored.3)
+stored_first p streams stored = (omega arith, omega (arith, stored.1), stored.0, stored.2)
 
-before_mark : (streams : Streams) (spot : Spot) (at : ℕ) → IsBeforeMark spot → opened_at Two streams spot at ≡ Mark Two []
-before_mark streams (spots.Mark part) at none = ap (λ (n : ℕ). Mark Two (take n part.bytes)) none
-before_mark streams spots.Magic at none = absurd none
-before_mark streams spots.Digit at none = absurd none
-before_mark streams (spots.Length side part) at none = absurd none
-before_mark streams (spots.Chunk side left) at none = absurd none
-before_mark streams (spots.Side part) at none = absurd none
-before_mark streams (spots.SideLength side part) at none = absurd none
-before_mark streams (spots.SideChunk side left) at none = absurd none
-before_mark streams spots.Ended at none = absurd none
+before_mark : (streams : Streams) (spot : Spot) (at : ℕ) → IsBeforeMark Two spot → opened_at streams spot at ≡ Mark Two []
+before_mark streams spot at before =
+    let is = mark_is Two spot before in
+    ap (λ (s : Spot). opened_at streams s at) is.2 ∙ ap₂ Mark is.3 is.4
 
 -- what is whole next in them
 module _ (cursor : Cursor) (old new : Container) (table : List NumberedCall) (bytes : List ℕ) (all : List Entry) (s : StandsOrRecalls (Some cursor) old.position old.joiner old.streams table bytes all) where
@@ -513,7 +508,7 @@ module _ (cursor : Cursor) (old new : Container) (table : List NumberedCall) (by
       let at : Recalls u old.streams Server cursor.taken p.records table bytes all = subst (λ (side : Side). Recalls u old.streams side cursor.taken p.records table bytes all) side_is s in
       let rest : after join_next (Runs Between) (drop cursor.taken old.streams.server) ≡ Runs Between = subst (λ (side : Side). after join_next (Runs Between) (drop cursor.taken (stream_of side old.streams)) ≡ Runs Between) side_is runs in
       let closes = close_recalled u old.streams cursor.taken p.records table bytes all at rest in
-      let opened_is : opened_at (version_of p.version) new.streams p.spot p.at ≡ Mark Two [] = ap (λ v. opened_at v new.streams p.spot p.at) stored.3 ∙ before_mark new.streams p.spot p.at stored.4 in
+      let opened_is : opened_at new.streams p.spot p.at ≡ Mark Two [] = before_mark new.streams p.spot p.at stored.3 in
       let w : Unpacking = record { at = p.at; total = p.total; connections = p.connections; records = p.records; opened = Mark Two []; joining = Between } in
       let here : unpacking_of p new.joiner new.streams ≡ w = ap₂ (λ o j. record { at = p.at; total = p.total; connections = p.connections; records = p.records; opened = o; joining = j }) opened_is between in
       come_at_rest new table bytes (all ++ entries.Close ∷ []) next_is running (rw position_is (record {

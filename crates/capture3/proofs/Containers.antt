@@ -1,5 +1,5 @@
 -- Containers, as the machine has them: chunks' bytes at once, and step after step.
-use Rattle.std.proofs.Common.{◌≡◌, false, is_some, take_all, ℕ, zero, suc, ◌<◌, ◌+◌, ◌-◌, ◌≤◌, Option, Some, None, Result, Ok, Err, IfOk, IfErr, List, length, take, drop, refl, sym, ap, ◌∙◌, arith, length-take, length-drop, OnOk, ◌++◌}
+use Rattle.std.proofs.Common.{◌≡◌, subst, [], false, is_some, take_all, ℕ, zero, suc, ◌<◌, ◌+◌, ◌-◌, ◌≤◌, Option, Some, None, Result, Ok, Err, IfOk, IfErr, List, length, take, drop, refl, sym, ap, ◌∙◌, arith, length-take, length-drop, OnOk, ◌++◌}
 use Rattle.std.proofs.Math.Seq.{take-add, take-take}
 use Rattle.xdr3.specs.declared.reason.Reason.TheVariants.{RecordTooLong}
 use Rattle.record_mark.specs.Joining.{Joining, Between, Whole, TooLong, join_next}
@@ -19,12 +19,16 @@ use Rattle.capture3.specs.declared.container.position.Position.{Position}
 use Rattle.capture3.specs.declared.container.position.Spot.TheVariants.{Chunk, SideChunk}
 use Rattle.capture3.specs.declared.container.position.Taken.{Taken}
 use Rattle.capture3.specs.machinery.Unpacking.{Unpacking, Has, in_chunk, in_side_chunk, in_record, record_joined, unpack_next}
-use Rattle.capture3.specs.machinery.Position.{AreEmpty, IsBeforeMark, unpacking_at, cost_of, IsOfContainer, Moves, ShowsFault, StoredAt, StoredWith}
+use Rattle.capture3.specs.machinery.Position.{AreEmpty, IsBeforeMark, unpacking_at, cost_of, IsOfContainer, Moves, ShowsFault, StoredAt, StoredWith, version_of}
 use Rattle.capture3.specs.machinery.Container.{AreStored, unpacking_of, Arrives, ShowsError, Leaves}
 use Rattle.capture3.specs.declared.container.Cursor.{Cursor}
 use Rattle.capture3.specs.declared.fault.Side.TheVariants as sides
 use Rattle.capture3.specs.declared.container.position.Spot.{Spot}
 use Rattle.capture3.specs.declared.container.position.Spot.TheVariants as spots
+use Rattle.capture3.specs.declared.container.position.Version as declared
+use Rattle.capture3.specs.Capture.{Version, Two}
+use Rattle.record_mark.specs.declared.word_part.WordPart.{WordPart}
+use Rattle.record_mark.specs.WordPart.{bytes_so_far}
 use Rattle.capture3.proofs.Positions.{at_spot}
 
 -- ---- one step of the container alone
@@ -196,17 +200,23 @@ pub record_takes : (from : Joining) (piece : List ℕ) (n : ℕ) (body : List �
 record_takes from piece zero body e = absurd (cc)
 record_takes from piece (suc n) body e = omega arith
 
--- before a connection word no stream byte is kept
-stored_before_mark : (spot : Spot) (total : ℕ) (streams : Streams) → IsBeforeMark spot → AreEmpty streams → StoredAt spot total streams
-stored_before_mark (spots.Mark part) total streams before empty = empty
-stored_before_mark spots.Magic total streams before empty = absurd before
-stored_before_mark spots.Digit total streams before empty = absurd before
-stored_before_mark (spots.Length side part) total streams before empty = absurd before
-stored_before_mark (spots.Chunk side left) total streams before empty = absurd before
-stored_before_mark (spots.Side part) total streams before empty = absurd before
-stored_before_mark (spots.SideLength side part) total streams before empty = absurd before
-stored_before_mark (spots.SideChunk side left) total streams before empty = absurd before
-stored_before_mark spots.Ended total streams before empty = absurd before
+-- where a connection word is open, before its first byte
+pub mark_is : (version : Version) (spot : Spot) → IsBeforeMark version spot → (told : declared.Version) × (part : WordPart) × (spot ≡ spots.Mark told part) × (version_of told ≡ version) × (bytes_so_far part ≡ [])
+mark_is version (spots.Mark told part) before = (told, part, refl, before.0, before.1)
+mark_is version spots.Magic before = absurd before
+mark_is version spots.Digit before = absurd before
+mark_is version (spots.Length side part) before = absurd before
+mark_is version (spots.Chunk side left) before = absurd before
+mark_is version (spots.Side part) before = absurd before
+mark_is version (spots.SideLength side part) before = absurd before
+mark_is version (spots.SideChunk side left) before = absurd before
+mark_is version (spots.Ended told) before = absurd before
+
+-- there no stream byte is kept
+stored_before_mark : (version : Version) (spot : Spot) (total : ℕ) (streams : Streams) → IsBeforeMark version spot → AreEmpty streams → StoredAt spot total streams
+stored_before_mark version spot total streams before empty =
+    let is = mark_is version spot before in
+    subst (λ (s : Spot). StoredAt s total streams) (sym is.2) empty
 
 -- after the end of a stream
 pub stored_end : (cursor : Cursor) (old new : Position) (streams left : Streams) (next : Option Cursor) (r : Result Event Error) → AreStored old (Some cursor) streams
@@ -217,8 +227,8 @@ stored_end cursor old new streams left next (Ok event) stored client server = by
     by_side : (side : Side) → cursor.side ≡ side → AreStored new next left
     by_side sides.Client is =
         let (turn, new_is, next_is, left_is) = client is in
-        rw (new_is, next_is, left_is) (omega arith, omega arith, stored.2, stored.3, stored.4)
+        rw (new_is, next_is, left_is) (omega arith, omega arith, stored.2, stored.3)
     by_side sides.Server is =
         let (close, new_is, next_is, empty) = server is in
-        rw (new_is, next_is) (stored_before_mark old.spot old.total left stored.4 empty)
+        rw (new_is, next_is) (stored_before_mark Two old.spot old.total left stored.3 empty)
 stored_end cursor old new streams left next (Err error) stored client server = tt

@@ -38,7 +38,7 @@ use Rattle.capture3.specs.machinery.Judges.{StandsAt, StandsOrRecalls, HasCome, 
 use Rattle.capture3.specs.Kept.{IsOfKind}
 use Rattle.capture3.specs.Laws.{begins, most_bytes}
 use Rattle.capture3.specs.Parsing.{Parsing, parsed, emitted}
-use Rattle.capture3.specs.machinery.Position.{AreEmpty, IsBeforeMark, IsSoundPosition, IsSoundSpot, StoredAt, opened_at, version_of}
+use Rattle.capture3.specs.machinery.Position.{AreEmpty, IsBeforeMark, IsEnded, IsSoundPosition, IsSoundSpot, StoredAt, opened_at}
 use Rattle.capture3.specs.Laws.{most_entries}
 use Rattle.capture3.specs.Reached.{AreFirstReached, AreWhole, Reached}
 use Rattle.capture3.specs.machinery.Resumed.{parsing_at}
@@ -54,21 +54,21 @@ use Rattle.capture3.proofs.Parsed.{cut_at, typed_at}
 use Rattle.capture3.proofs.Reaches.{stands_whole}
 use Rattle.capture3.proofs.Recalls.{first_of, recalled_first}
 use Rattle.capture3.proofs.Refusals.{first_reached_at}
-use Rattle.capture3.proofs.Sizes.{clean_size}
+use Rattle.capture3.proofs.Sizes.{clean_most}
 use Rattle.capture3.proofs.Verdicts.{clean_from_runs, told, verdict_from_fault, verdict_from_typed}
 
 -- ---- what is kept truncated
 
 sound_at-prop : (spot : Spot) (at total connections records : ℕ) → IsProp (IsSoundSpot spot at total connections records)
 sound_at-prop spots.Magic at total connections records = hlevel props
-sound_at-prop (spots.Mark part) at total connections records = hlevel props
+sound_at-prop (spots.Mark version part) at total connections records = hlevel props
 sound_at-prop (spots.Length side part) at total connections records = hlevel props
 sound_at-prop (spots.Chunk side left) at total connections records = hlevel props
 sound_at-prop spots.Digit at total connections records = hlevel props
 sound_at-prop (spots.Side part) at total connections records = hlevel props
 sound_at-prop (spots.SideLength side part) at total connections records = hlevel props
 sound_at-prop (spots.SideChunk side left) at total connections records = hlevel props
-sound_at-prop spots.Ended at total connections records = hlevel props
+sound_at-prop (spots.Ended version) at total connections records = hlevel props
 
 sound-prop : (p : Position) → IsProp (IsSoundPosition p)
 sound-prop p = hlevel (props, sound_at-prop)
@@ -76,8 +76,8 @@ sound-prop p = hlevel (props, sound_at-prop)
 pub sound_position : (p : Position) → ∥ IsSoundPosition p ∥₁ → IsSoundPosition p
 sound_position p h = ∥∥₁_elim h (sound-prop p) (λ s. s)
 
-before_mark-prop : (spot : Spot) → IsProp (IsBeforeMark spot)
-before_mark-prop (spots.Mark part) = hlevel props
+before_mark-prop : (spot : Spot) → IsProp (IsBeforeMark Two spot)
+before_mark-prop (spots.Mark version part) = hlevel props
 before_mark-prop spots.Magic = hlevel props
 before_mark-prop spots.Digit = hlevel props
 before_mark-prop (spots.Length side part) = hlevel props
@@ -85,7 +85,7 @@ before_mark-prop (spots.Chunk side left) = hlevel props
 before_mark-prop (spots.Side part) = hlevel props
 before_mark-prop (spots.SideLength side part) = hlevel props
 before_mark-prop (spots.SideChunk side left) = hlevel props
-before_mark-prop spots.Ended = hlevel props
+before_mark-prop (spots.Ended version) = hlevel props
 
 empty-prop : (streams : Streams) → IsProp (AreEmpty streams)
 empty-prop streams = hlevel props
@@ -96,10 +96,10 @@ stored_at-prop (spots.SideLength side part) total streams = hlevel props
 stored_at-prop (spots.SideChunk side left) total streams = hlevel props
 stored_at-prop spots.Magic total streams = empty-prop streams
 stored_at-prop spots.Digit total streams = empty-prop streams
-stored_at-prop (spots.Mark part) total streams = empty-prop streams
+stored_at-prop (spots.Mark version part) total streams = empty-prop streams
 stored_at-prop (spots.Length side part) total streams = empty-prop streams
 stored_at-prop (spots.Chunk side left) total streams = empty-prop streams
-stored_at-prop spots.Ended total streams = empty-prop streams
+stored_at-prop (spots.Ended version) total streams = empty-prop streams
 
 stored-prop : (p : Position) (cursor : Option Cursor) (streams : Streams) → IsProp (AreStored p cursor streams)
 stored-prop p None streams = stored_at-prop p.spot p.total streams
@@ -137,7 +137,7 @@ module _ (bytes : List ℕ) (p : Position) (t : Taking) (streams : Streams) (tab
 
   model_is : emitted state ≡ model
   unfolding state
-  model_is = emitted_is p.at p.total p.connections (unpacking_of p t streams).joining (opened_at (version_of p.version) streams p.spot p.at) s.so_far ∙ sym s.emitted
+  model_is = emitted_is p.at p.total p.connections (unpacking_of p t streams).joining (opened_at streams p.spot p.at) s.so_far ∙ sym s.emitted
 
   runs_is : parsed bytes ≡ Runs state
   unfolding state
@@ -149,21 +149,13 @@ module _ (bytes : List ℕ) (p : Position) (t : Taking) (streams : Streams) (tab
   pub clean_here : IsClean bytes
   clean_here = clean_from_runs bytes state runs_is
 
--- no version allows more bytes
-most_of_both : (version : Version) → most_bytes version ≤ most_bytes Two
-most_of_both One = omega arith
-most_of_both Two = omega arith
-
-clean_length : (bytes : List ℕ) → AreBytes bytes → IsClean bytes → length bytes ≤ most_bytes Two
-clean_length bytes are clean = let size = clean_size bytes are clean in omega (arith, size.2, most_of_both size.0)
-
 -- where streams that were kept are judged, the last byte may show a fault
 come_length : (c : Container) (table : List NumberedCall) (bytes : List ℕ) (handed : List Entry) → AreBytes bytes → HasCome c table bytes handed → length bytes ≤ most_bytes Two + 1
 come_length c table bytes handed are h = by_cursor c.cursor h
   where
     by_cursor : (cursor : Option Cursor) → StandsOrRecalls cursor c.position (released c.joiner) c.streams table bytes handed → length bytes ≤ most_bytes Two + 1
-    by_cursor None s = omega (arith, clean_length bytes are (clean_here bytes c.position (released c.joiner) c.streams table handed are s))
-    by_cursor (Some cursor) r = omega (arith, clean_length r.front (split_bytes bytes r.front (r.byte ∷ []) r.split are).0 (clean_from_runs r.front r.state r.runs), ap length r.split, length-append r.front (r.byte ∷ []))
+    by_cursor None s = omega (arith, clean_most bytes are (clean_here bytes c.position (released c.joiner) c.streams table handed are s))
+    by_cursor (Some cursor) r = omega (arith, clean_most r.front (split_bytes bytes r.front (r.byte ∷ []) r.split are).0 (clean_from_runs r.front r.state r.runs), ap length r.split, length-append r.front (r.byte ∷ []))
 
 -- what was handed out are the first entries that the bytes reach, whatever comes after
 come_first : (c : Container) (table : List NumberedCall) (bytes rest : List ℕ) (handed : List Entry) → AreBytes (bytes ++ rest) → HasCome c table bytes handed → AreFirstReached (bytes ++ rest) handed
@@ -202,14 +194,14 @@ split_range block start end count fits =
 
 -- ---- the end, and a fault
 
-pub typed_here : (bytes : List ℕ) (p : Position) (t : Taking) (streams : Streams) (table : List NumberedCall) (model : List Entry) → AreBytes bytes → StandsAt p t streams table bytes model → p.spot ≡ spots.Ended → Typed bytes (model ++ End ∷ [])
+pub typed_here : (bytes : List ℕ) (p : Position) (t : Taking) (streams : Streams) (table : List NumberedCall) (model : List Entry) → AreBytes bytes → StandsAt p t streams table bytes model → IsEnded p.spot → Typed bytes (model ++ End ∷ [])
 typed_here bytes p t streams table model are s ended = typed_at bytes p t streams table model are s ended
 
-pub cut_here : (bytes : List ℕ) (p : Position) (t : Taking) (streams : Streams) (table : List NumberedCall) (model : List Entry) → AreBytes bytes → StandsAt p t streams table bytes model → p.spot ≢ spots.Ended → FirstFault bytes (file_fault (length bytes) CaptureCut)
+pub cut_here : (bytes : List ℕ) (p : Position) (t : Taking) (streams : Streams) (table : List NumberedCall) (model : List Entry) → AreBytes bytes → StandsAt p t streams table bytes model → (IsEnded p.spot → ⊥) → FirstFault bytes (file_fault (length bytes) CaptureCut)
 cut_here bytes p t streams table model are s not = cut_at bytes p t streams table model are s not
 
 -- short of the end, what was emitted is what the bytes reach
-pub not_ended : (bytes : List ℕ) (p : Position) (t : Taking) (streams : Streams) (table : List NumberedCall) (model : List Entry) → AreBytes bytes → StandsAt p t streams table bytes model → p.spot ≢ spots.Ended → (IsWellFormed bytes → ⊥) × Reached bytes model
+pub not_ended : (bytes : List ℕ) (p : Position) (t : Taking) (streams : Streams) (table : List NumberedCall) (model : List Entry) → AreBytes bytes → StandsAt p t streams table bytes model → (IsEnded p.spot → ⊥) → (IsWellFormed bytes → ⊥) × Reached bytes model
 not_ended bytes p t streams table model are s not =
     let cut = verdict_from_fault bytes (file_fault (length bytes) CaptureCut) are (cut_here bytes p t streams table model are s not) in
     let bad : IsWellFormed bytes → ⊥ = λ w. let typed = verdict_from_typed bytes w.0 w.1 in cc in (
@@ -229,15 +221,15 @@ pub all_before_end : (bytes : List ℕ) (p : Position) (t : Taking) (streams : S
 all_before_end bytes p t streams table model are s = by_spot p.spot refl
   where
     by_spot : (spot : Spot) → p.spot ≡ spot → AreAllBeforeEnd bytes model
-    by_spot spots.Magic is = inr (not_ended bytes p t streams table model are s (λ e. cc))
-    by_spot spots.Digit is = inr (not_ended bytes p t streams table model are s (λ e. cc))
-    by_spot (spots.Mark part) is = inr (not_ended bytes p t streams table model are s (λ e. cc))
-    by_spot (spots.Length side part) is = inr (not_ended bytes p t streams table model are s (λ e. cc))
-    by_spot (spots.Chunk side left) is = inr (not_ended bytes p t streams table model are s (λ e. cc))
-    by_spot (spots.Side part) is = inr (not_ended bytes p t streams table model are s (λ e. cc))
-    by_spot (spots.SideLength side part) is = inr (not_ended bytes p t streams table model are s (λ e. cc))
-    by_spot (spots.SideChunk side left) is = inr (not_ended bytes p t streams table model are s (λ e. cc))
-    by_spot spots.Ended is = inl (typed_here bytes p t streams table model are s is)
+    by_spot spots.Magic is = inr (not_ended bytes p t streams table model are s (λ e. subst IsEnded is e))
+    by_spot spots.Digit is = inr (not_ended bytes p t streams table model are s (λ e. subst IsEnded is e))
+    by_spot (spots.Mark version part) is = inr (not_ended bytes p t streams table model are s (λ e. subst IsEnded is e))
+    by_spot (spots.Length side part) is = inr (not_ended bytes p t streams table model are s (λ e. subst IsEnded is e))
+    by_spot (spots.Chunk side left) is = inr (not_ended bytes p t streams table model are s (λ e. subst IsEnded is e))
+    by_spot (spots.Side part) is = inr (not_ended bytes p t streams table model are s (λ e. subst IsEnded is e))
+    by_spot (spots.SideLength side part) is = inr (not_ended bytes p t streams table model are s (λ e. subst IsEnded is e))
+    by_spot (spots.SideChunk side left) is = inr (not_ended bytes p t streams table model are s (λ e. subst IsEnded is e))
+    by_spot (spots.Ended version) is = inl (typed_here bytes p t streams table model are s (subst IsEnded (sym is) tt))
 
 -- ---- what was consumed
 
@@ -348,7 +340,7 @@ module _ {R S H : Type 0} {builds : BuildHasher.Ghosts S H} {hashes : Hasher.Gho
   has_read old new given more handed is goes empty none same last count block are within consumed s =
       let r = reading_of old given handed is s in
       let at = machine_at old given handed empty none r in
-      let bounded = clean_length given s.bytes (clean_here given _ _ _ _ handed s.bytes at) in
+      let bounded = clean_most given s.bytes (clean_here given _ _ _ _ handed s.bytes at) in
       let split : given ++ more ≡ r.judged ++ unjudged new = ap (λ (b : List ℕ). b ++ more) (all_judged old given handed empty r) ∙ ap (λ (b : List ℕ). r.judged ++ b) (sym block) in
       record {
         more = more;
@@ -418,7 +410,7 @@ module _ {R S H : Type 0} {builds : BuildHasher.Ghosts S H} {hashes : Hasher.Gho
 
   -- ---- the end
 
-  pub finished : (old new : Entries R S H builds hashes) (given : List ℕ) (handed : List Entry) → old.stage ≡ Reading → new.stage ≡ Over → new.last ≡ Some kinds.End → vec_len new.block ≡ vec_len old.block → old.start ≡ old.end → old.capture.container.cursor ≡ None → old.capture.container.position.spot ≡ spots.Ended → IsAtEnd (left new.source.now)
+  pub finished : (old new : Entries R S H builds hashes) (given : List ℕ) (handed : List Entry) → old.stage ≡ Reading → new.stage ≡ Over → new.last ≡ Some kinds.End → vec_len new.block ≡ vec_len old.block → old.start ≡ old.end → old.capture.container.cursor ≡ None → IsEnded old.capture.container.position.spot → IsAtEnd (left new.source.now)
       → StandsFor left old given handed → StandsFor left new given (handed ++ End ∷ [])
   finished old new given handed is over last block empty none ended end s =
       let typed = typed_here given _ _ _ _ handed s.bytes (machine_at old given handed empty none (reading_of old given handed is s)) ended in
@@ -431,7 +423,7 @@ module _ {R S H : Type 0} {builds : BuildHasher.Ghosts S H} {hashes : Hasher.Gho
         here = subst (λ (stage : Stage). StandsIn stage (left new.source.now) new given (handed ++ End ∷ [])) (sym over) (typed, end);
       }
 
-  pub cut_short : (old new : Entries R S H builds hashes) (error : Error) (given : List ℕ) (handed : List Entry) → old.stage ≡ Reading → new.stage ≡ Failed error → new.last ≡ None → vec_len new.block ≡ vec_len old.block → old.start ≡ old.end → old.capture.container.cursor ≡ None → old.capture.container.position.spot ≢ spots.Ended
+  pub cut_short : (old new : Entries R S H builds hashes) (error : Error) (given : List ℕ) (handed : List Entry) → old.stage ≡ Reading → new.stage ≡ Failed error → new.last ≡ None → vec_len new.block ≡ vec_len old.block → old.start ≡ old.end → old.capture.container.cursor ≡ None → (IsEnded old.capture.container.position.spot → ⊥)
       → error ≡ errors.Refused (file_fault old.judged CaptureCut) → IsAtEnd (left new.source.now) → StandsFor left old given handed → StandsFor left new given handed
   cut_short old new error given handed is fails none block empty unopened not cut end s =
       let r = reading_of old given handed is s in

@@ -15,6 +15,7 @@ use Rattle.capture3.specs.declared.fault.Side.TheVariants.{Client, Server}
 use Rattle.capture3.specs.declared.container.position.Position.{Position}
 use Rattle.capture3.specs.declared.container.position.Spot.{Spot}
 use Rattle.capture3.specs.declared.container.position.Spot.TheVariants as spots
+use Rattle.capture3.specs.declared.container.position.Version as declared
 use Rattle.capture3.specs.declared.container.Container.{Container}
 use Rattle.capture3.specs.declared.container.Cursor.{Cursor}
 use Rattle.capture3.specs.Capture.{Version}
@@ -25,7 +26,7 @@ use Rattle.capture3.specs.machinery.Judges.{StandsAt, StandsOrRecalls, HasCome, 
 use Rattle.capture3.specs.Kept.{IsKept, AreKept, begun}
 use Rattle.capture3.specs.Laws.{begins}
 use Rattle.capture3.specs.Parsing.{concluded, verdict_of}
-use Rattle.capture3.specs.machinery.Position.{opened_at, version_of}
+use Rattle.capture3.specs.machinery.Position.{opened_at, version_of, IsEnded}
 use Rattle.capture3.specs.machinery.Recalled.{ShowsFirst}
 use Rattle.capture3.specs.machinery.Resumed.{Judged, resumed_at, emitted_at}
 use Rattle.capture3.specs.SidedChunks.{Streams}
@@ -66,43 +67,56 @@ cut_concludes size at total connections joining (Chunk Client left) j not = refl
 cut_concludes size at total connections joining (Chunk Server left) j not = refl
 cut_concludes size at total connections joining (Mixed streams point) j not = refl
 
+-- at the end
+ended_is : (spot : Spot) → IsEnded spot → (version : declared.Version) × (spot ≡ spots.Ended version)
+ended_is (spots.Ended version) ended = (version, refl)
+ended_is spots.Magic ended = absurd ended
+ended_is spots.Digit ended = absurd ended
+ended_is (spots.Mark version part) ended = absurd ended
+ended_is (spots.Length side part) ended = absurd ended
+ended_is (spots.Chunk side left) ended = absurd ended
+ended_is (spots.Side part) ended = absurd ended
+ended_is (spots.SideLength side part) ended = absurd ended
+ended_is (spots.SideChunk side left) ended = absurd ended
+
 -- the open part is the end only at the end
-ended_only : (version other : Version) (streams : Streams) (spot : Spot) (at : ℕ) → opened_at version streams spot at ≡ Ended other → spot ≡ spots.Ended
-ended_only version other streams spots.Ended at e = refl
-ended_only version other streams spots.Magic at e = by_left (drop at MAGIC) e
+ended_only : (version : Version) (streams : Streams) (spot : Spot) (at : ℕ) → opened_at streams spot at ≡ Ended version → IsEnded spot
+ended_only version streams (spots.Ended told) at e = tt
+ended_only version streams spots.Magic at e = by_left (drop at MAGIC) e
   where
-    by_left : (due : List ℕ) → left_of_magic due ≡ Ended other → spots.Magic ≡ spots.Ended
-    by_left [] same = absurd (cc)
-    by_left (byte ∷ due) same = absurd (cc)
-ended_only version other streams spots.Digit at e = absurd (cc)
-ended_only version other streams (spots.Mark part) at e = absurd (cc)
-ended_only version other streams (spots.Length side part) at e = absurd (cc)
-ended_only version other streams (spots.Chunk side zero) at e = absurd (cc)
-ended_only version other streams (spots.Chunk side (suc left)) at e = absurd (cc)
-ended_only version other streams (spots.Side part) at e = absurd (cc)
-ended_only version other streams (spots.SideLength side part) at e = absurd (cc)
-ended_only version other streams (spots.SideChunk side left) at e = absurd (cc)
+    by_left : (due : List ℕ) → left_of_magic due ≡ Ended version → ⊥
+    by_left [] same = cc
+    by_left (byte ∷ due) same = cc
+ended_only version streams spots.Digit at e = absurd (cc)
+ended_only version streams (spots.Mark told part) at e = absurd (cc)
+ended_only version streams (spots.Length side part) at e = absurd (cc)
+ended_only version streams (spots.Chunk side zero) at e = absurd (cc)
+ended_only version streams (spots.Chunk side (suc left)) at e = absurd (cc)
+ended_only version streams (spots.Side part) at e = absurd (cc)
+ended_only version streams (spots.SideLength side part) at e = absurd (cc)
+ended_only version streams (spots.SideChunk side left) at e = absurd (cc)
 
 -- ---- the verdict
 
 module _ (bytes : List ℕ) (p : Position) (t : Taking) (streams : Streams) (table : List NumberedCall) (model : List Entry) (are : AreBytes bytes) (s : StandsAt p t streams table bytes model) where
   opened_here : Opened
-  opened_here = opened_at (version_of p.version) streams p.spot p.at
+  opened_here = opened_at streams p.spot p.at
 
-  pub typed_at : p.spot ≡ spots.Ended → Typed bytes (model ++ End ∷ [])
+  pub typed_at : IsEnded p.spot → Typed bytes (model ++ End ∷ [])
   unfolding opened_here
   typed_at ended =
+      let is = ended_is p.spot ended in
       typed_from_verdict bytes (model ++ End ∷ []) are
       (ap (verdict_of (length bytes)) s.stands
-      ∙ ended_concludes (length bytes) p.at p.total p.connections (unpacking_of p t streams).joining (version_of p.version) opened_here s.so_far (ap (λ (spot : Spot). opened_at (version_of p.version) streams spot p.at) ended)
+      ∙ ended_concludes (length bytes) p.at p.total p.connections (unpacking_of p t streams).joining (version_of is.0) opened_here s.so_far (ap (λ (spot : Spot). opened_at streams spot p.at) is.1)
       ∙ ap (λ (m : List Entry). Ok (m ++ End ∷ [])) (sym s.emitted))
 
-  pub cut_at : (p.spot ≡ spots.Ended → ⊥) → FirstFault bytes (file_fault (length bytes) CaptureCut)
+  pub cut_at : (IsEnded p.spot → ⊥) → FirstFault bytes (file_fault (length bytes) CaptureCut)
   unfolding opened_here
   cut_at not =
       fault_from_verdict bytes (file_fault (length bytes) CaptureCut) are
       (ap (verdict_of (length bytes)) s.stands
-      ∙ cut_concludes (length bytes) p.at p.total p.connections (unpacking_of p t streams).joining opened_here s.so_far (λ version e. not (ended_only (version_of p.version) version streams p.spot p.at e)))
+      ∙ cut_concludes (length bytes) p.at p.total p.connections (unpacking_of p t streams).joining opened_here s.so_far (λ version e. not (ended_only version streams p.spot p.at e)))
 
 pub refused_is : (fault other : Fault) → errors.Refused fault ≡ errors.Refused other → fault ≡ other
 refused_is fault other e = cc

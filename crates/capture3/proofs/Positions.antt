@@ -17,19 +17,16 @@ use Rattle.capture3.specs.declared.container.position.Spot.{Spot}
 use Rattle.capture3.specs.declared.container.position.Spot.TheVariants.{Magic, Digit, Mark, Length, Side as SideSpot, SideLength}
 use Rattle.capture3.specs.declared.fault.Place.TheVariants.{File}
 use Rattle.capture3.specs.declared.container.position.TheConstants.{MAGIC}
-use Rattle.capture3.specs.declared.container.word_part.WordPart.{WordPart}
-use Rattle.capture3.specs.declared.container.word_part.Word.TheVariants.{Part, Whole}
+use Rattle.record_mark.specs.declared.word_part.WordPart.{WordPart}
+use Rattle.record_mark.specs.declared.word_part.Word.TheVariants.{Part, Whole}
+use Rattle.record_mark.specs.WordPart.{bytes_so_far, TakesWord}
+use Rattle.record_mark.proofs.WordParts.{short_part}
+use Rattle.capture3.specs.declared.container.position.Version as declared
 use Rattle.capture3.specs.machinery.Unpacking.{Unpacking, Unpacked, Has, at_byte, before_mark, begun_at, chunk_counted, in_chunk, left_of_magic, connection_marked, sides_counted, sides_marked, unpack_next}
 use Rattle.capture3.specs.Capture.{Version, One, Two}
 use Rattle.capture3.specs.SidedChunks.{Streams}
-use Rattle.capture3.specs.machinery.Position.{bytes_so_far, unpacking_at, version_of, Lands, Moves, ShowsFault, TakesWord}
+use Rattle.capture3.specs.machinery.Position.{unpacking_at, version_of, Lands, Moves, ShowsFault}
 use Rattle.capture3.proofs.Unpackings.{mark_goes_on, mark_ends, length_goes_on, length_ends, side_goes_on, side_ends, side_length_goes_on, side_length_ends}
-
-pub short_part : (part : WordPart) → length (bytes_so_far part) < 4
-short_part part =
-    let short = part.short in
-    let size = length-take part.count part.bytes in
-    omega arith
 
 -- the position with another spot
 abbrev pub with_spot : Position → Spot → Position
@@ -39,17 +36,17 @@ pub at_spot : (p : Position) (streams : Streams) (joining : Joining) (spot : Spo
 at_spot p streams joining spot is =
     ap (λ (s : Spot). unpacking_at (with_spot p s) streams joining) is
 
-pub mark_part : (p : Position) (streams : Streams) (joining : Joining) (part longer : WordPart) (bytes : List ℕ) (count : ℕ) → p.spot ≡ Mark part → TakesWord part bytes count (Part longer)
-    → after unpack_next (Runs (unpacking_at p streams joining)) (take count bytes) ≡ Runs (unpacking_at (with_spot p (Mark longer)) streams joining)
-mark_part p streams joining part longer bytes count is word =
-    ap (λ (u : Unpacking). after unpack_next (Runs u) (take count bytes)) (at_spot p streams joining (Mark part) is)
-    ∙ mark_goes_on (version_of p.version) p.at p.total p.connections p.records joining (bytes_so_far part) (take count bytes) (bytes_so_far longer) word.0 (short_part part) (short_part longer)
+pub mark_part : (p : Position) (streams : Streams) (joining : Joining) (version : declared.Version) (part longer : WordPart) (bytes : List ℕ) (count : ℕ) → p.spot ≡ Mark version part → TakesWord part bytes count (Part longer)
+    → after unpack_next (Runs (unpacking_at p streams joining)) (take count bytes) ≡ Runs (unpacking_at (with_spot p (Mark version longer)) streams joining)
+mark_part p streams joining version part longer bytes count is word =
+    ap (λ (u : Unpacking). after unpack_next (Runs u) (take count bytes)) (at_spot p streams joining (Mark version part) is)
+    ∙ mark_goes_on (version_of version) p.at p.total p.connections p.records joining (bytes_so_far part) (take count bytes) (bytes_so_far longer) word.0 (short_part part) (short_part longer)
 
-pub mark_whole : (p : Position) (streams : Streams) (joining : Joining) (part : WordPart) (bytes : List ℕ) (count n : ℕ) → p.spot ≡ Mark part → TakesWord part bytes count (Whole n)
-    → after unpack_next (Runs (unpacking_at p streams joining)) (take count bytes) ≡ landed (connection_marked (version_of p.version) p.at p.total p.connections p.records joining n)
-mark_whole p streams joining part bytes count n is word =
-    ap (λ (u : Unpacking). after unpack_next (Runs u) (take count bytes)) (at_spot p streams joining (Mark part) is)
-    ∙ mark_ends (version_of p.version) p.at p.total p.connections p.records joining (bytes_so_far part) (take count bytes) n (short_part part) word
+pub mark_whole : (p : Position) (streams : Streams) (joining : Joining) (version : declared.Version) (part : WordPart) (bytes : List ℕ) (count n : ℕ) → p.spot ≡ Mark version part → TakesWord part bytes count (Whole n)
+    → after unpack_next (Runs (unpacking_at p streams joining)) (take count bytes) ≡ landed (connection_marked (version_of version) p.at p.total p.connections p.records joining n)
+mark_whole p streams joining version part bytes count n is word =
+    ap (λ (u : Unpacking). after unpack_next (Runs u) (take count bytes)) (at_spot p streams joining (Mark version part) is)
+    ∙ mark_ends (version_of version) p.at p.total p.connections p.records joining (bytes_so_far part) (take count bytes) n (short_part part) word
 
 pub length_part : (p : Position) (streams : Streams) (joining : Joining) (side : Side) (part longer : WordPart) (bytes : List ℕ) (count : ℕ) → p.spot ≡ Length side part → TakesWord part bytes count (Part longer)
     → after unpack_next (Runs (unpacking_at p streams joining)) (take count bytes) ≡ Runs (unpacking_at (with_spot p (Length side longer)) streams joining)

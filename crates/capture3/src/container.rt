@@ -4,12 +4,11 @@ pub(crate) mod kept_streams;
 pub(crate) mod packing;
 pub(crate) mod position;
 pub(crate) mod side_words;
-pub(crate) mod word_part;
 
 ghost use Rattle.std.specs.Prelude.{◌≡◌, ◌≢◌, ◌≤◌, ◌<◌, ◌+◌, length, take, IfOk, IfErr, OnOk, None, Some};
 ghost use Rattle.capture3.specs.machinery.Container.{AreStored, Arrives, Comes, ComesToFault, ShowsError, first_cursor, IsCutInRecord, IsReady, IsStored, Leaves, RecallFails, Recalled, room_in, unpacking_in};
 ghost use Rattle.record_mark.specs.Joining.{Between};
-ghost use Rattle.capture3.specs.machinery.Position.{AreEmpty, cost_of, IsOpenBody, IsSoundPosition, KeepsStreams, most_things, room_of, StoredWith, TakesRoom, TakesSome};
+ghost use Rattle.capture3.specs.machinery.Position.{AreEmpty, cost_of, IsEnded, IsOpenBody, IsSoundPosition, KeepsStreams, most_things, room_of, StoredWith, TakesRoom, TakesSome};
 ghost use Rattle.capture3.specs.machinery.Unpacking.{unpacking_start};
 ghost use Rattle.record_mark.specs.RecordMark.{max_body};
 ghost use Rattle.record_mark.specs.Taking.{IsRunning, IsWhole, body_of, joining_of, released, unbegun};
@@ -110,17 +109,16 @@ impl Container {
             (λ r. room_in self.new + cost_of r.1 self.new.streams ≤ room_in self.old) }
     {
         match self.cursor {
-            Some(cursor) => match self.recall(cursor) {
-                Ok(event) => Ok((0, Some(event))),
-                Err(error) => Err(error),
-            },
-            None => match self.advance(piece) {
-                Ok((count, Some(Event::Streams))) => match self.first_recalled() {
-                    Ok(event) => Ok((count, Some(event))),
-                    Err(error) => Err(error),
-                },
-                Ok((count, event)) => Ok((count, event)),
-                Err(error) => Err(error),
+            Some(cursor) => {
+                let event = self.recall(cursor)?;
+                Ok((0, Some(event)))
+            }
+            None => match self.advance(piece)? {
+                (count, Some(Event::Streams)) => {
+                    let event = self.first_recalled()?;
+                    Ok((count, Some(event)))
+                }
+                taken => Ok(taken),
             },
         }
     }
@@ -170,15 +168,11 @@ impl Container {
     {
         let mut taken = 0;
         while taken < piece.len() {
-            match self.step(&piece[taken..]) {
-                Ok(step) => {
-                    taken += step.count;
-                    self.position = step.position;
-                    if step.event.is_some() {
-                        return Ok((taken, step.event));
-                    }
-                }
-                Err(error) => return Err(error),
+            let step = self.step(&piece[taken..])?;
+            taken += step.count;
+            self.position = step.position;
+            if step.event.is_some() {
+                return Ok((taken, step.event));
             }
         }
         Ok((taken, None))
@@ -186,13 +180,13 @@ impl Container {
 
     /// Tests that the file may end here, after so many bytes.
     pub(crate) fn end(&self, size: u64) -> Result<(), Error>
-        ensures ok { OnOk result (self.now.position.spot ≡ Spot.Ended) }
-        ensures err { IfErr result (λ error. (self.now.position.spot ≢ Spot.Ended)
+        ensures ok { OnOk result (IsEnded self.now.position.spot) }
+        ensures err { IfErr result (λ error. (IsEnded self.now.position.spot → ⊥)
             × (error ≡ Error.Refused (record
             { place = Place.File size; reason = Reason.CaptureCut }))) }
     {
         match self.position.spot {
-            Spot::Ended => Ok(()),
+            Spot::Ended(_) => Ok(()),
             _ => Err(file_fault(size, Reason::CaptureCut)),
         }
     }
@@ -222,7 +216,7 @@ impl Container {
         match self.position.spot {
             Spot::Magic => self.position.take_magic(rest),
             Spot::Digit => self.position.take_digit(rest),
-            Spot::Mark(part) => self.position.take_mark(part, rest),
+            Spot::Mark(version, part) => self.position.take_mark(version, part, rest),
             Spot::Length(side, part) => {
                 self.position
                     .take_length(side, part, self.open_body(), rest)
@@ -231,7 +225,7 @@ impl Container {
             Spot::Side(part) => self.position.take_side(part, rest),
             Spot::SideLength(side, part) => self.position.take_side_length(side, part, rest),
             Spot::SideChunk(side, left) => self.gather(side, left, rest),
-            Spot::Ended => Err(file_fault(self.position.at, Reason::AfterEnd)),
+            Spot::Ended(_) => Err(file_fault(self.position.at, Reason::AfterEnd)),
         }
     }
 

@@ -12,7 +12,7 @@ use Rattle.record_mark.proofs.Outcomes.{too_long_alone}
 -- a joiner that has taken nothing is at its first stage
 pub is_unbegun : (stage : Stage) (body : List ℕ) → IsSoundAt stage body → taking_at stage body ≡ unbegun → stage ≡ Unbegun
 is_unbegun Unbegun body sound e = refl
-is_unbegun (Header bytes count) body sound e = absurd (cc)
+is_unbegun (Header part) body sound e = absurd (cc)
 is_unbegun (Fragment zero is_last) body sound e = absurd (omega (arith, sound.0))
 is_unbegun (Fragment (suc left) is_last) body sound e = absurd (cc)
 is_unbegun Done body sound e = absurd (cc)
@@ -29,7 +29,7 @@ has_taken_nothing taking bytes h none = took_nothing taking (subst (HasTaken tak
 -- what a joiner holds as the body is the body of the bytes that it has taken
 pub stage_body : (stage : Stage) (held bytes body : List ℕ) → IsSoundAt stage held → HasTaken (taking_at stage held) bytes → HasBody bytes body → held ≡ body
 stage_body Unbegun held bytes body sound h k = sound ∙ has_body unbegun bytes body h k
-stage_body (Header part count) held bytes body sound h k = has_body (taking_at (Header part count) held) bytes body h k
+stage_body (Header part) held bytes body sound h k = has_body (taking_at (Header part) held) bytes body h k
 stage_body (Fragment zero is_last) held bytes body sound h k = absurd (omega (arith, sound.0))
 stage_body (Fragment (suc left) is_last) held bytes body sound h k = has_body (taking_at (Fragment (suc left) is_last) held) bytes body h k
 stage_body Done held bytes body sound h k = has_body (taking_at Done held) bytes body h k
@@ -38,7 +38,7 @@ stage_body Starved held bytes body sound h k = absurd h
 
 pub is_open : (stage : Stage) → (stage ≡ Done → ⊥) → ((at : ℕ) → stage ≡ Refused at → ⊥) → (stage ≡ Starved → ⊥) → IsOpenAt stage
 is_open Unbegun done refused starved = tt
-is_open (Header bytes count) done refused starved = tt
+is_open (Header part) done refused starved = tt
 is_open (Fragment left is_last) done refused starved = tt
 is_open Done done refused starved = absurd (done refl)
 is_open (Refused at) done refused starved = absurd (refused at refl)
@@ -46,7 +46,7 @@ is_open Starved done refused starved = absurd (starved refl)
 
 pub open_runs : (stage : Stage) (body : List ℕ) → IsSoundAt stage body → IsOpenAt stage → IsRunning (taking_at stage body)
 open_runs Unbegun body sound open_at = tt
-open_runs (Header bytes count) body sound open_at = tt
+open_runs (Header part) body sound open_at = tt
 open_runs (Fragment zero is_last) body sound open_at = absurd (omega (arith, sound.0))
 open_runs (Fragment (suc left) is_last) body sound open_at = tt
 open_runs Done body sound open_at = absurd open_at

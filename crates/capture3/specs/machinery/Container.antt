@@ -17,7 +17,7 @@ use Rattle.capture3.specs.Capture.{Two}
 use Rattle.capture3.specs.SidedChunks as sided
 use Rattle.capture3.specs.SidedChunks.{size}
 use Rattle.capture3.specs.declared.container.position.Position.{Position}
-use Rattle.capture3.specs.machinery.Position.{room_of, version_of, AreEmpty, IsBeforeMark, ShowsFault, StoredAt, StoredWith, unpacking_at}
+use Rattle.capture3.specs.machinery.Position.{room_of, AreEmpty, IsBeforeMark, ShowsFault, StoredAt, StoredWith, unpacking_at}
 use Rattle.capture3.specs.machinery.Unpacking.{Unpacking, Unpacked, Has, HasStreams, unpack_next}
 
 -- with a record its body, and else no whole record
@@ -60,7 +60,7 @@ stream_of sides.Server streams = streams.server
 abbrev pub AreStored : Position → Option Cursor → sided.Streams → Type 0
 AreStored position None streams = StoredAt position.spot position.total streams
 AreStored position (Some cursor) streams =
-    (cursor.taken ≤ length (stream_of cursor.side streams)) × (position.records ≤ cursor.taken) × (size streams ≤ position.total) × (version_of position.version ≡ Two) × IsBeforeMark position.spot
+    (cursor.taken ≤ length (stream_of cursor.side streams)) × (position.records ≤ cursor.taken) × (size streams ≤ position.total) × IsBeforeMark Two position.spot
 
 -- the same of a container
 abbrev pub IsStored : Container → Type 0

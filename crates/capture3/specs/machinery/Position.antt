@@ -22,10 +22,8 @@ use Rattle.capture3.specs.SidedChunks.{size}
 use Rattle.capture3.specs.declared.container.position.Position.{Position}
 use Rattle.capture3.specs.declared.container.position.Taken.{Taken}
 use Rattle.capture3.specs.declared.container.position.Spot.{Spot}
-use Rattle.record_mark.specs.Word.{IsWord}
-use Rattle.capture3.specs.declared.container.word_part.WordPart.{WordPart}
-use Rattle.capture3.specs.declared.container.word_part.Word.{Word}
-use Rattle.capture3.specs.declared.container.word_part.Word.TheVariants.{Part, Whole}
+use Rattle.record_mark.specs.declared.word_part.WordPart.{WordPart}
+use Rattle.record_mark.specs.WordPart.{bytes_so_far}
 use Rattle.capture3.specs.declared.container.position.Spot.TheVariants.{Magic, Digit, Mark, Length, Chunk, Ended}
 use Rattle.capture3.specs.declared.container.position.Spot.TheVariants as spots
 
@@ -42,13 +40,13 @@ span connections total = 12 * connections + 9 * total
 abbrev pub IsSoundSpot : Spot → ℕ → ℕ → ℕ → ℕ → Type 0
 IsSoundSpot Magic at total connections records = at < 7
 IsSoundSpot Digit at total connections records = at ≡ 7
-IsSoundSpot (Mark part) at total connections records = (part.count < 4) × (at ≤ 8 + span connections total)
-IsSoundSpot (Length side part) at total connections records = (part.count < 4) × (at ≤ words_before side + span connections total)
+IsSoundSpot (Mark version part) at total connections records = at ≤ 8 + span connections total
+IsSoundSpot (Length side part) at total connections records = at ≤ words_before side + span connections total
 IsSoundSpot (Chunk side left) at total connections records = (0 < left) × (left ≤ at) × (at ≤ words_before side + span connections total) × (records + left ≤ total)
-IsSoundSpot (spots.Side part) at total connections records = (part.count < 4) × (at ≤ span connections total)
-IsSoundSpot (spots.SideLength side part) at total connections records = (part.count < 4) × (at ≤ 4 + span connections total)
+IsSoundSpot (spots.Side part) at total connections records = at ≤ span connections total
+IsSoundSpot (spots.SideLength side part) at total connections records = at ≤ 4 + span connections total
 IsSoundSpot (spots.SideChunk side left) at total connections records = (0 < left) × (at ≤ span connections total)
-IsSoundSpot Ended at total connections records = at ≤ 12 + span connections total
+IsSoundSpot (Ended version) at total connections records = at ≤ 12 + span connections total
 
 -- the counts are within the limits, and the position stands no further than they allow
 pub record IsSoundPosition (p : Position) : Type 0 where
@@ -57,36 +55,27 @@ pub record IsSoundPosition (p : Position) : Type 0 where
   pub counted : p.records ≤ p.total
   pub here : IsSoundSpot p.spot p.at p.total p.connections p.records
 
--- the bytes of a word so far
-abbrev pub bytes_so_far : WordPart → List ℕ
-bytes_so_far part = take part.count part.bytes
-
 -- the version, as the definitions of a capture have it
 abbrev pub version_of : declared.Version → Version
 version_of versions.One = One
 version_of versions.Two = Two
 
 -- the part that is open, as the machine has it
-abbrev pub opened_at : Version → sided.Streams → Spot → ℕ → Opened
-opened_at version streams Magic at = left_of_magic (drop at MAGIC)
-opened_at version streams Digit at = unpacking.Digit
-opened_at version streams (Mark part) at = unpacking.Mark version (bytes_so_far part)
-opened_at version streams (Length side part) at = unpacking.Length side (bytes_so_far part)
-opened_at version streams (Chunk side left) at = awaiting_chunk side left
-opened_at version streams (spots.Side part) at = unpacking.Mixed streams (SideWord (bytes_so_far part))
-opened_at version streams (spots.SideLength side part) at = unpacking.Mixed streams (mixing.SideLength side (bytes_so_far part))
-opened_at version streams (spots.SideChunk side left) at = unpacking.Mixed streams (awaiting_side side left)
-opened_at version streams Ended at = unpacking.Ended version
-
--- What came of a word: the bytes taken belong to it, and it is whole, or they are all that there were.
-abbrev pub TakesWord : WordPart → List ℕ → ℕ → Word → Type 0
-TakesWord before bytes count (Part part) = (bytes_so_far part ≡ bytes_so_far before ++ take count bytes) × (count ≡ length bytes)
-TakesWord before bytes count (Whole n) = IsWord (bytes_so_far before ++ take count bytes) n
+abbrev pub opened_at : sided.Streams → Spot → ℕ → Opened
+opened_at streams Magic at = left_of_magic (drop at MAGIC)
+opened_at streams Digit at = unpacking.Digit
+opened_at streams (Mark version part) at = unpacking.Mark (version_of version) (bytes_so_far part)
+opened_at streams (Length side part) at = unpacking.Length side (bytes_so_far part)
+opened_at streams (Chunk side left) at = awaiting_chunk side left
+opened_at streams (spots.Side part) at = unpacking.Mixed streams (SideWord (bytes_so_far part))
+opened_at streams (spots.SideLength side part) at = unpacking.Mixed streams (mixing.SideLength side (bytes_so_far part))
+opened_at streams (spots.SideChunk side left) at = unpacking.Mixed streams (awaiting_side side left)
+opened_at streams (Ended version) at = unpacking.Ended (version_of version)
 
 -- the position, the streams and the open record, as the machine has them
 abbrev pub unpacking_at : Position → sided.Streams → Joining → Unpacking
 unpacking_at p streams joining =
-    record { at = p.at; total = p.total; connections = p.connections; records = p.records; opened = opened_at (version_of p.version) streams p.spot p.at; joining = joining }
+    record { at = p.at; total = p.total; connections = p.connections; records = p.records; opened = opened_at streams p.spot p.at; joining = joining }
 
 -- some of the bytes lead the machine to the fault
 abbrev pub ShowsFault : Unpacking → List ℕ → Error → Type 0
@@ -119,23 +108,28 @@ Moves from bytes streams joining (Err error) = ShowsFault from bytes error
 abbrev pub AreEmpty : sided.Streams → Type 0
 AreEmpty streams = streams ≡ sided.gathered []
 
--- a connection word, at its first byte
-abbrev pub IsBeforeMark : Spot → Type 0
-IsBeforeMark (Mark part) = part.count ≡ 0
-IsBeforeMark spot = ⊥
+-- a connection word of this version, at its first byte
+abbrev pub IsBeforeMark : Version → Spot → Type 0
+IsBeforeMark version (Mark told part) = (version_of told ≡ version) × (bytes_so_far part ≡ [])
+IsBeforeMark version spot = ⊥
+
+-- the last word 0 has come
+abbrev pub IsEnded : Spot → Type 0
+IsEnded (Ended version) = Unit {0}
+IsEnded spot = ⊥
 
 -- a side word, at its first byte
 abbrev pub IsBeforeSides : Spot → Type 0
-IsBeforeSides (spots.Side part) = part.count ≡ 0
+IsBeforeSides (spots.Side part) = bytes_so_far part ≡ []
 IsBeforeSides spot = ⊥
 
 -- a length word of this stream, at its first byte
 abbrev pub IsBeforeStream : Side → Spot → Type 0
-IsBeforeStream side spot = (part : WordPart) × (part.count ≡ 0) × (spot ≡ Length side part)
+IsBeforeStream side spot = (part : WordPart) × (bytes_so_far part ≡ []) × (spot ≡ Length side part)
 
 -- the length word after a side word, at its first byte
 abbrev pub IsBeforeSideLength : Side → Spot → Type 0
-IsBeforeSideLength side spot = (part : WordPart) × (part.count ≡ 0) × (spot ≡ spots.SideLength side part)
+IsBeforeSideLength side spot = (part : WordPart) × (bytes_so_far part ≡ []) × (spot ≡ spots.SideLength side part)
 
 -- these counts
 abbrev pub HasCounts : (total connections records : ℕ) → Position → Type 0
@@ -145,7 +139,7 @@ HasCounts total connections records p = (p.total ≡ total) × (p.connections �
 abbrev pub room_here : Spot → sided.Streams → ℕ
 room_here Magic streams = 0
 room_here Digit streams = 0
-room_here (Mark part) streams = 0
+room_here (Mark version part) streams = 0
 room_here (Length sides.Client part) streams = 2
 room_here (Length sides.Server part) streams = 1
 room_here (Chunk sides.Client left) streams = 2 + left
@@ -153,7 +147,7 @@ room_here (Chunk sides.Server left) streams = 1 + left
 room_here (spots.Side part) streams = 2 + size streams
 room_here (spots.SideLength side part) streams = 2 + size streams
 room_here (spots.SideChunk side left) streams = 2 + (size streams + left)
-room_here Ended streams = 0
+room_here (Ended version) streams = 0
 
 -- the same with what the counts allow
 abbrev pub room_of : Position → sided.Streams → ℕ
@@ -189,7 +183,7 @@ StoredAt _ total streams = AreEmpty streams
 
 -- the same after what was taken; with the side word 0 the streams are whole, and no record of them is judged
 abbrev pub StoredWith : Option Event → Position → sided.Streams → Type 0
-StoredWith (Some Streams) position streams = (size streams ≤ position.total) × (position.records ≡ 0) × (version_of position.version ≡ Two) × IsBeforeMark position.spot
+StoredWith (Some Streams) position streams = (size streams ≤ position.total) × (position.records ≡ 0) × IsBeforeMark Two position.spot
 StoredWith _ position streams = StoredAt position.spot position.total streams
 
 -- ---- what bytes that are taken come to, whatever streams are kept here

@@ -10,8 +10,8 @@ ghost use Rattle.capture3.specs.machinery.Unpacking as spec;
 ghost use Rattle.record_mark.specs.Joining.{Between, Joining};
 ghost use Rattle.record_mark.specs.Machine.{Ends, Stops};
 
-use crate::container::word_part::{Word, WordPart};
 use crate::fault::{Error, Fault, Place, Side};
+use record_mark::{Word, WordPart};
 use xdr3::Reason;
 
 /// The first seven bytes of a capture. The eighth tells the version: `1` or `2`.
@@ -54,8 +54,9 @@ pub(crate) enum Spot {
     Magic,
     /// The magic's last byte, which tells the version.
     Digit,
-    /// A connection word: 1 before a connection, 0 after the last.
-    Mark(WordPart),
+    /// A connection word: 1 before a connection, 0 after the last. The version tells what comes after
+    /// a word 1.
+    Mark(Version, WordPart),
     /// Version 1: the length word of a chunk, or the word 0 after a stream.
     Length(Side, WordPart),
     /// Version 1: a chunk with so many bytes to come, at least one.
@@ -67,7 +68,7 @@ pub(crate) enum Spot {
     /// Version 2: a chunk with so many bytes to come, at least one.
     SideChunk(Side, u32),
     /// Nothing: the last word 0 has come.
-    Ended,
+    Ended(Version),
 }
 
 #[derive(Clone, Copy)]
@@ -81,8 +82,6 @@ pub(crate) struct Position {
     /// The whole records so far of the stream that is judged.
     pub(crate) records: u32,
     pub(crate) spot: Spot,
-    /// As the magic tells, once it has come.
-    pub(crate) version: Version,
 }
 
 /// How many bytes were taken, where that leads, and what is whole with the last of them.
@@ -105,7 +104,6 @@ impl Position {
             total: 0,
             connections: 0,
             records: 0,
-            version: Version::One,
             spot: Spot::Magic,
         }
     }
@@ -162,7 +160,7 @@ impl Position {
         ensures some { (result.count ≡ 1) × (result.event ≡ None) }
         ensures at { result.position.at ≡ self.at + 1 }
         ensures counts { HasCounts self.total self.connections self.records result.position }
-        ensures spot { IsBeforeMark result.position.spot }
+        ensures spot { IsBeforeMark (version_of version) result.position.spot }
         ensures machine { (streams : kept.Streams) (joining : Joining)
             → unpacking_at result.position streams joining ≡ spec.before_mark
             (version_of version) (self.at + 1) self.total self.connections self.records joining }
@@ -175,9 +173,14 @@ impl Position {
     }
 
     /// Takes bytes of a connection word.
-    pub(crate) fn take_mark(self, part: WordPart, rest: &[u8]) -> Result<Taken, Error>
+    pub(crate) fn take_mark(
+        self,
+        version: Version,
+        part: WordPart,
+        rest: &[u8],
+    ) -> Result<Taken, Error>
         requires sound { IsSoundPosition self }
-        requires here { self.spot ≡ Spot.Mark part }
+        requires here { self.spot ≡ Spot.Mark version part }
         requires some { 0 < length rest.now }
         ensures taken { IfOk result (TakesSome self rest.now) }
         ensures event { IfOk result (λ taken. IsOfContainer taken.event) }
@@ -187,15 +190,21 @@ impl Position {
     {
         let (count, word) = part.taken(rest);
         match word {
-            Word::Part(part) => Ok(self.moved(count, self.at, Spot::Mark(part))),
-            Word::Whole(n) => self.behind_mark(part, n, count),
+            Word::Part(part) => Ok(self.moved(count, self.at, Spot::Mark(version, part))),
+            Word::Whole(n) => self.behind_mark(version, part, n, count),
         }
     }
 
     /// A connection word has come.
-    fn behind_mark(self, part: WordPart, n: u32, count: usize) -> Result<Taken, Error>
+    fn behind_mark(
+        self,
+        version: Version,
+        part: WordPart,
+        n: u32,
+        count: usize,
+    ) -> Result<Taken, Error>
         requires sound { IsSoundPosition self }
-        requires here { self.spot ≡ Spot.Mark part }
+        requires here { self.spot ≡ Spot.Mark version part }
         ensures count { IfOk result (λ taken. taken.count ≡ count) }
         ensures sound { IfOk result (λ taken. IsSoundPosition taken.position) }
         ensures room { IfOk result (TakesRoom self) }
@@ -203,12 +212,12 @@ impl Position {
         ensures event { IfOk result (λ taken. IsOfContainer taken.event) }
         ensures machine { (streams : kept.Streams) (joining : Joining)
             → StoredAt self.spot self.total streams
-            → Lands (connection_marked (version_of self.version) self.at self.total self.connections
+            → Lands (connection_marked (version_of version) self.at self.total self.connections
             self.records joining n) streams joining result }
     {
         match n {
-            0 => Ok(self.moved(count, self.at + 4, Spot::Ended)),
-            1 if self.connections < MAX_CONNECTIONS => Ok(self.begun(part, count)),
+            0 => Ok(self.moved(count, self.at + 4, Spot::Ended(version))),
+            1 if self.connections < MAX_CONNECTIONS => Ok(self.begun(version, part, count)),
             1 => Err(file_fault(self.at, Reason::TooManyConnections)),
             _ => Err(file_fault(self.at, Reason::BadMark)),
         }
@@ -389,9 +398,9 @@ impl Position {
     }
 
     /// A connection's word 1 has come.
-    fn begun(self, part: WordPart, count: usize) -> Taken
+    fn begun(self, version: Version, part: WordPart, count: usize) -> Taken
         requires sound { IsSoundPosition self }
-        requires here { self.spot ≡ Spot.Mark part }
+        requires here { self.spot ≡ Spot.Mark version part }
         requires few { self.connections < MAX_CONNECTIONS }
         ensures count { result.count ≡ count }
         ensures sound { IsSoundPosition result.position }
@@ -400,9 +409,9 @@ impl Position {
         ensures event { result.event ≡ Some Event.Begin }
         ensures machine { (streams : kept.Streams) (joining : Joining) → AreEmpty streams
             → unpacking_at result.position streams joining ≡ begun_at
-            (version_of self.version) self.at self.total (self.connections + 1) joining }
+            (version_of version) self.at self.total (self.connections + 1) joining }
     {
-        let opened = match self.version {
+        let opened = match version {
             Version::One => self.before_stream(Side::Client),
             Version::Two => self.before_sides(),
         };
@@ -448,16 +457,14 @@ impl Position {
     pub(crate) fn before_mark(self, at: u64, version: Version) -> Position
         ensures at { result.at ≡ at }
         ensures counts { HasCounts self.total self.connections self.records result }
-        ensures version { result.version ≡ version }
-        ensures spot { IsBeforeMark result.spot }
+        ensures spot { IsBeforeMark (version_of version) result.spot }
         ensures machine { (streams : kept.Streams) (joining : Joining)
             → unpacking_at result streams joining ≡ spec.before_mark (version_of version) at
             self.total self.connections self.records joining }
     {
         Position {
             at,
-            version,
-            spot: Spot::Mark(WordPart::new()),
+            spot: Spot::Mark(version, WordPart::new()),
             ..self
         }
     }

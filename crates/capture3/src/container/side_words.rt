@@ -2,7 +2,7 @@
 
 ghost use Rattle.std.specs.Prelude.{◌≡◌, ◌≤◌, ◌<◌, ◌+◌, ◌-◌, ◌^◌, [], length, IfOk, None, Some};
 ghost use Rattle.capture3.specs.Capture.{Two};
-ghost use Rattle.capture3.specs.machinery.Position.{HasCounts, IsBeforeMark, IsBeforeSideLength, IsBeforeSides, IsOfContainer, IsSoundPosition, KeepsStreams, Lands, MovesFrom, room_of, StoredAt, TakesRoom, TakesSome, unpacking_at, version_of};
+ghost use Rattle.capture3.specs.machinery.Position.{HasCounts, IsBeforeMark, IsBeforeSideLength, IsBeforeSides, IsOfContainer, IsSoundPosition, KeepsStreams, Lands, MovesFrom, room_of, StoredAt, TakesRoom, TakesSome, unpacking_at};
 ghost use Rattle.capture3.specs.SidedChunks as kept;
 ghost use Rattle.capture3.specs.SidedChunks.{gathered, size};
 ghost use Rattle.capture3.specs.machinery.Unpacking.{in_side_chunk, sides_counted, sides_marked};
@@ -10,8 +10,8 @@ ghost use Rattle.capture3.specs.machinery.Unpacking as spec;
 ghost use Rattle.record_mark.specs.Joining.{Joining};
 
 use crate::container::position::{Event, Position, Spot, Taken, Version, file_fault};
-use crate::container::word_part::{Word, WordPart};
 use crate::fault::{Error, Side};
+use record_mark::{Word, WordPart};
 use xdr3::Reason;
 
 impl Position {
@@ -178,8 +178,7 @@ impl Position {
         ensures count { result.count ≡ count }
         ensures at { result.position.at ≡ self.at + 4 }
         ensures counts { HasCounts self.total self.connections 0 result.position }
-        ensures version { version_of result.position.version ≡ Two }
-        ensures spot { IsBeforeMark result.position.spot }
+        ensures spot { IsBeforeMark Two result.position.spot }
         ensures machine { (streams : kept.Streams) (joining : Joining)
             → unpacking_at result.position streams joining ≡ spec.before_mark Two (self.at + 4)
             self.total self.connections 0 joining }

@@ -181,10 +181,8 @@ impl<'r, R: Source, S: BuildHasher + Drop> Entries<'r, R, S> {
         ensures same_reference { loan_of self.new ≡ loan_of self.old }
     {
         while self.judged <= MOST_JUDGED {
-            match self.turn(visitor) {
-                Ok(None) => {}
-                Ok(Some(kind)) => return Ok(Some(kind)),
-                Err(error) => return Err(error),
+            if let Some(kind) = self.turn(visitor)? {
+                return Ok(Some(kind));
             }
         }
         let error = file_fault(self.judged, Reason::AfterEnd);
@@ -217,17 +215,9 @@ impl<'r, R: Source, S: BuildHasher + Drop> Entries<'r, R, S> {
         ensures same_block { block_size self.new ≡ block_size self.old }
         ensures same_reference { loan_of self.new ≡ loan_of self.old }
     {
-        if self.is_used_up() {
-            match self.refill() {
-                Ok(true) => {}
-                Ok(false) => {
-                    return match self.finish() {
-                        Ok(()) => Ok(Some(Kind::End)),
-                        Err(error) => Err(error),
-                    };
-                }
-                Err(error) => return Err(error),
-            }
+        if self.is_used_up() && !self.refill()? {
+            self.finish()?;
+            return Ok(Some(Kind::End));
         }
         self.judge(visitor)
     }

@@ -10,10 +10,10 @@ ghost use Rattle.capture3.specs.Kept.{IsLent, kind_of};
 ghost use Rattle.capture3.specs.machinery.Spelled.{SpellsCall, SpellsReply};
 ghost use Rattle.capture3.specs.Judging.{judge_call, judge_reply};
 ghost use Rattle.capture3.specs.machinery.Messages.{IsTableOf};
-ghost use Rattle.capture3.specs.machinery.Position.{IsSoundPosition, most_things};
+ghost use Rattle.capture3.specs.machinery.Position.{IsEnded, IsSoundPosition, most_things};
 
 use crate::container::Container;
-use crate::container::position::{Event, Spot};
+use crate::container::position::Event;
 use crate::fault::{Error, Place, Side};
 use crate::message::calls::CallTable;
 use crate::message::scan::{scan_call, scan_reply};
@@ -81,13 +81,12 @@ impl<C: CallTable + Drop> Capture<C> {
         ensures device { IfErr result IsOfBytes }
     {
         self.container.release();
-        match self.container.next(piece) {
-            Ok((count, Some(event))) => match self.entry(event, visitor) {
-                Ok(kind) => Ok((count, Some(kind))),
-                Err(error) => Err(error),
-            },
-            Ok((count, None)) => Ok((count, None)),
-            Err(error) => Err(error),
+        match self.container.next(piece)? {
+            (count, Some(event)) => {
+                let kind = self.entry(event, visitor)?;
+                Ok((count, Some(kind)))
+            }
+            (count, None) => Ok((count, None)),
         }
     }
 
@@ -124,8 +123,8 @@ impl<C: CallTable + Drop> Capture<C> {
 
     /// Tests that the file may end here, after so many bytes.
     pub(crate) fn end(&self, size: u64) -> Result<(), Error>
-        ensures ok { OnOk result (self.now.container.position.spot ≡ Spot.Ended) }
-        ensures err { IfErr result (λ error. (self.now.container.position.spot ≢ Spot.Ended)
+        ensures ok { OnOk result (IsEnded self.now.container.position.spot) }
+        ensures err { IfErr result (λ error. (IsEnded self.now.container.position.spot → ⊥)
             × (error ≡ Error.Refused (record
             { place = Place.File size; reason = Reason.CaptureCut }))) }
     {
@@ -180,14 +179,14 @@ impl<C: CallTable + Drop> Capture<C> {
         ensures device { IfErr result IsOfBytes }
     {
         match side {
-            Side::Client => match self.call(visitor) {
-                Ok(id) => Ok(Kind::Call(id)),
-                Err(error) => Err(error),
-            },
-            Side::Server => match self.reply(visitor) {
-                Ok(id) => Ok(Kind::Reply(id)),
-                Err(error) => Err(error),
-            },
+            Side::Client => {
+                let id = self.call(visitor)?;
+                Ok(Kind::Call(id))
+            }
+            Side::Server => {
+                let id = self.reply(visitor)?;
+                Ok(Kind::Reply(id))
+            }
         }
     }
 

@@ -41,21 +41,14 @@ pub fn parse(alloc: Global, bytes: &[u8]) -> Result<Vec<Entry>, Error>
     let mut entries = Vec::new(alloc);
     let mut taken = 0;
     while taken < bytes.len() || capture.is_recalling() {
-        match capture.next(&bytes[taken..], &mut Silent) {
-            Ok((count, Some(kind))) => {
-                taken += count;
-                let entry = capture.lend(kind).keep(alloc)?;
-                entries.push(entry)?;
-            }
-            Ok((count, None)) => taken += count,
-            Err(error) => return Err(error),
+        let (count, kind) = capture.next(&bytes[taken..], &mut Silent)?;
+        taken += count;
+        if let Some(kind) = kind {
+            let entry = capture.lend(kind).keep(alloc)?;
+            entries.push(entry)?;
         }
     }
-    match capture.end(bytes.len() as u64) {
-        Ok(()) => {
-            entries.push(Entry::End)?;
-            Ok(entries)
-        }
-        Err(error) => Err(error),
-    }
+    capture.end(bytes.len() as u64)?;
+    entries.push(Entry::End)?;
+    Ok(entries)
 }

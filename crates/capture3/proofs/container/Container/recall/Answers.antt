@@ -11,7 +11,7 @@ returns-in-Ok-default-Record-clause-stored c =
     let running : IsRunning c.args.self.now.joiner = subst IsRunning (sym c.requires.unbegun) tt in
     let some : 0 < c.in-Ok-default-Record.count = record_takes _ _ _ _ (c.in-Ok-default-Record.ensures.stops running c.in-Ok-default-Record.field-0-1-is) in
     rw c.with_records-self.ensures
-    (grind (arith, common_steps, c.in-Ok-default-Record.ensures.within, stored.0, c.of_side.ensures), omega (arith, stored.1), stored.2, stored.3, stored.4)
+    (grind (arith, common_steps, c.in-Ok-default-Record.ensures.within, stored.0, c.of_side.ensures), omega (arith, stored.1), stored.2, stored.3)
 
 pub returns-in-Ok-default-More-clause-stored : goal.returns-in-Ok-default-More-clause-stored
 returns-in-Ok-default-More-clause-stored c =

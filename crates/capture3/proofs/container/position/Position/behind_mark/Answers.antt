@@ -9,5 +9,5 @@ returns-in-1-clause-machine c streams joining stored =
     let empty : AreEmpty streams = rw c.requires.here at stored in
     let is : c.args.n ≡ 1 = c.in-1.is in
     rw is
-    (ap landed (marked_one (version_of c.args.self.version) c.args.self.at c.args.self.total c.args.self.connections c.args.self.records joining c.if-self-lt-MAX_CONNECTIONS.true)
+    (ap landed (marked_one (version_of c.args.version) c.args.self.at c.args.self.total c.args.self.connections c.args.self.records joining c.if-self-lt-MAX_CONNECTIONS.true)
     ∙ rw (c.begun.ensures.event, c.begun.ensures.machine streams joining empty) refl)

@@ -11,4 +11,4 @@ returns-in-0-clause-machine c streams joining =
 pub returns-in-0-clause-stored : goal.returns-in-0-clause-stored
 returns-in-0-clause-stored c streams stored =
     let few : size streams ≤ c.args.self.total = subst (λ spot. StoredAt spot c.args.self.total streams) c.requires.here stored in
-    rw c.streams_gathered.ensures.event (omega (arith, few, c.streams_gathered.ensures.counts.0), c.streams_gathered.ensures.counts.2, c.streams_gathered.ensures.version, c.streams_gathered.ensures.spot)
+    rw c.streams_gathered.ensures.event (omega (arith, few, c.streams_gathered.ensures.counts.0), c.streams_gathered.ensures.counts.2, c.streams_gathered.ensures.spot)

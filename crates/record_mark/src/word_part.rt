@@ -1,0 +1,80 @@
+// Words that may be cut between two pieces.
+
+ghost use Rattle.std.specs.Prelude.{◌≡◌, ◌≤◌, ◌<◌, ◌+◌, ◌++◌, [], length, take};
+
+use byteorder::{BigEndian, ByteOrder};
+
+/// The bytes of a word so far, fewer than four. A word is four bytes, big-endian (RFC 4506, section 4.2).
+#[derive(Clone, Copy)]
+pub struct WordPart {
+    bytes: [u8; 4],
+    count: u8,
+    ghost short: { count < 4 },
+}
+
+/// A word, or what has come of it.
+pub enum Word {
+    /// Its first bytes: all that there were.
+    Part(WordPart),
+    /// Its number.
+    Whole(u32),
+}
+
+impl WordPart {
+    ghost use Rattle.record_mark.specs.WordPart.{bytes_so_far, TakesWord};
+
+    /// Before a word's first byte.
+    pub fn new() -> WordPart
+        ensures { bytes_so_far result ≡ [] }
+    {
+        WordPart {
+            bytes: [0; 4],
+            count: 0,
+        }
+    }
+
+    /// Takes bytes of `rest`, which has some, up to the word's end: how many, and the part or the whole
+    /// word that they make.
+    #[inline(always)]
+    pub fn taken(self, rest: &[u8]) -> (usize, Word)
+        requires { 0 < length rest.now }
+        ensures some { 0 < result.0 }
+        ensures within { result.0 ≤ length rest.now }
+        ensures word { TakesWord self rest.now result.0 result.1 }
+    {
+        // Most words lie whole in one piece.
+        if self.count == 0 && rest.len() >= 4 {
+            return (4, Word::Whole(BigEndian::read_u32(&rest[..4])));
+        }
+        self.continued(rest)
+    }
+
+    /// The same of any word, byte by byte.
+    fn continued(self, rest: &[u8]) -> (usize, Word)
+        requires { 0 < length rest.now }
+        ensures some { 0 < result.0 }
+        ensures within { result.0 ≤ length rest.now }
+        ensures word { TakesWord self rest.now result.0 result.1 }
+    {
+        let count = self.count as usize;
+        let more = (4 - count).min(rest.len());
+        let bytes = with_more(self.bytes, count, &rest[..more]);
+        if count + more < 4 {
+            let part = WordPart {
+                bytes,
+                count: (count + more) as u8,
+            };
+            return (more, Word::Part(part));
+        }
+        (more, Word::Whole(BigEndian::read_u32(&bytes)))
+    }
+}
+
+/// The word with its first `count` bytes kept and `more` after them.
+fn with_more(mut word: [u8; 4], count: usize, more: &[u8]) -> [u8; 4]
+    requires { count + length more.now ≤ 4 }
+    ensures { take (count + length more.now) result ≡ take count word ++ more.now }
+{
+    word[count..count + more.len()].copy_from_slice(more);
+    word
+}
