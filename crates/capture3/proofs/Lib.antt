@@ -1,4 +1,5 @@
 -- Lemmas of captures.
+mod PassedOn
 pub mod Unpackings
 pub mod Positions
 pub mod Containers

@@ -113,13 +113,16 @@ impl Container {
                 let event = self.recall(cursor)?;
                 Ok((0, Some(event)))
             }
-            None => match self.advance(piece)? {
-                (count, Some(Event::Streams)) => {
-                    let event = self.first_recalled()?;
-                    Ok((count, Some(event)))
+            None => {
+                let (count, came) = self.advance(piece)?;
+                match came {
+                    Some(Event::Streams) => {
+                        let event = self.first_recalled()?;
+                        Ok((count, Some(event)))
+                    }
+                    _ => Ok((count, came)),
                 }
-                taken => Ok(taken),
-            },
+            }
         }
     }
 

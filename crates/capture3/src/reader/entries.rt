@@ -215,9 +215,12 @@ impl<'r, R: Source, S: BuildHasher + Drop> Entries<'r, R, S> {
         ensures same_block { block_size self.new ≡ block_size self.old }
         ensures same_reference { loan_of self.new ≡ loan_of self.old }
     {
-        if self.is_used_up() && !self.refill()? {
-            self.finish()?;
-            return Ok(Some(Kind::End));
+        if self.is_used_up() {
+            let is_more = self.refill()?;
+            if !is_more {
+                self.finish()?;
+                return Ok(Some(Kind::End));
+            }
         }
         self.judge(visitor)
     }

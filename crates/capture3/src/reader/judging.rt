@@ -81,12 +81,13 @@ impl<C: CallTable + Drop> Capture<C> {
         ensures device { IfErr result IsOfBytes }
     {
         self.container.release();
-        match self.container.next(piece)? {
-            (count, Some(event)) => {
+        let (count, came) = self.container.next(piece)?;
+        match came {
+            Some(event) => {
                 let kind = self.entry(event, visitor)?;
                 Ok((count, Some(kind)))
             }
-            (count, None) => Ok((count, None)),
+            None => Ok((count, None)),
         }
     }
 
