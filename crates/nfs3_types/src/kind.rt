@@ -1,6 +1,6 @@
 // Kinds of files (RFC 1813, section 2.5).
 
-ghost use Rattle.std.specs.Prelude.{◌≡◌, IsTrue};
+ghost use Rattle.std.specs.Prelude.{◌≡◌, ◌↔◌, IfSome, IsSome, IsTrue};
 ghost use Rattle.xdr3.specs.Reading.{word_at};
 ghost use Rattle.xdr3.specs.Shape.{is_listed};
 ghost use Rattle.xdr3.specs.View.{Answers, MovesOn};
@@ -52,23 +52,28 @@ impl FileKind {
             (word_at (is_listed file_kind_words) Reason.BadEnum input.old.body input.old.at) }
         ensures moves { MovesOn input.old input.new }
     {
-        let n = input.listed(&[1, 2, 3, 4, 5, 6, 7])?;
-        Ok(FileKind::from_listed(n))
+        let at = input.at();
+        let n = input.word()?;
+        FileKind::of_number(n).ok_or(Stop {
+            at,
+            reason: Reason::BadEnum,
+        })
     }
 
-    fn from_listed(n: u32) -> FileKind
-        requires { IsTrue (is_listed file_kind_words n) }
-        ensures { file_kind_number result ≡ n }
+    /// The one with this number, if there is one.
+    fn of_number(n: u32) -> Option<FileKind>
+        ensures number { IfSome result (λ kind. file_kind_number kind ≡ n) }
+        ensures listed { IsSome result ↔ IsTrue (is_listed file_kind_words n) }
     {
         match n {
-            1 => FileKind::Reg,
-            2 => FileKind::Dir,
-            3 => FileKind::Blk,
-            4 => FileKind::Chr,
-            5 => FileKind::Lnk,
-            6 => FileKind::Sock,
-            7 => FileKind::Fifo,
-            _ => unreachable!(),
+            1 => Some(FileKind::Reg),
+            2 => Some(FileKind::Dir),
+            3 => Some(FileKind::Blk),
+            4 => Some(FileKind::Chr),
+            5 => Some(FileKind::Lnk),
+            6 => Some(FileKind::Sock),
+            7 => Some(FileKind::Fifo),
+            _ => None,
         }
     }
 }

@@ -1,6 +1,6 @@
 //! The parts of MOUNT version 3 (RFC 1813, section 5).
 
-ghost use Rattle.std.specs.Prelude.{◌≡◌, IsTrue};
+ghost use Rattle.std.specs.Prelude.{◌≡◌, ◌↔◌, IfSome, IsSome, IsTrue};
 ghost use Rattle.xdr3.specs.Reading.{word_at};
 ghost use Rattle.xdr3.specs.Shape.{is_listed};
 ghost use Rattle.xdr3.specs.View.{Answers, MovesOn};
@@ -65,26 +65,31 @@ impl MountStatus {
             (word_at (is_listed mount_status_words) Reason.BadEnum input.old.body input.old.at) }
         ensures moves { MovesOn input.old input.new }
     {
-        let n = input.listed(&[0, 1, 2, 5, 13, 20, 22, 63, 10_004, 10_006])?;
-        Ok(MountStatus::from_listed(n))
+        let at = input.at();
+        let n = input.word()?;
+        MountStatus::of_number(n).ok_or(Stop {
+            at,
+            reason: Reason::BadEnum,
+        })
     }
 
-    fn from_listed(n: u32) -> MountStatus
-        requires { IsTrue (is_listed mount_status_words n) }
-        ensures { mount_status_number result ≡ n }
+    /// The one with this number, if there is one.
+    fn of_number(n: u32) -> Option<MountStatus>
+        ensures number { IfSome result (λ status. mount_status_number status ≡ n) }
+        ensures listed { IsSome result ↔ IsTrue (is_listed mount_status_words n) }
     {
         match n {
-            0 => MountStatus::Ok,
-            1 => MountStatus::Perm,
-            2 => MountStatus::NoEnt,
-            5 => MountStatus::Io,
-            13 => MountStatus::Acces,
-            20 => MountStatus::NotDir,
-            22 => MountStatus::Inval,
-            63 => MountStatus::NameTooLong,
-            10_004 => MountStatus::NotSupp,
-            10_006 => MountStatus::ServerFault,
-            _ => unreachable!(),
+            0 => Some(MountStatus::Ok),
+            1 => Some(MountStatus::Perm),
+            2 => Some(MountStatus::NoEnt),
+            5 => Some(MountStatus::Io),
+            13 => Some(MountStatus::Acces),
+            20 => Some(MountStatus::NotDir),
+            22 => Some(MountStatus::Inval),
+            63 => Some(MountStatus::NameTooLong),
+            10_004 => Some(MountStatus::NotSupp),
+            10_006 => Some(MountStatus::ServerFault),
+            _ => None,
         }
     }
 }

@@ -1,6 +1,6 @@
 // How far written data has to be (RFC 1813, section 3.3.7).
 
-ghost use Rattle.std.specs.Prelude.{◌≡◌, IsTrue};
+ghost use Rattle.std.specs.Prelude.{◌≡◌, ◌↔◌, IfSome, IsSome, IsTrue};
 ghost use Rattle.xdr3.specs.Reading.{word_at};
 ghost use Rattle.xdr3.specs.Shape.{is_listed};
 ghost use Rattle.xdr3.specs.View.{Answers, MovesOn};
@@ -39,19 +39,24 @@ impl Stable {
             (word_at (is_listed stable_words) Reason.BadEnum input.old.body input.old.at) }
         ensures moves { MovesOn input.old input.new }
     {
-        let n = input.listed(&[0, 1, 2])?;
-        Ok(Stable::from_listed(n))
+        let at = input.at();
+        let n = input.word()?;
+        Stable::of_number(n).ok_or(Stop {
+            at,
+            reason: Reason::BadEnum,
+        })
     }
 
-    fn from_listed(n: u32) -> Stable
-        requires { IsTrue (is_listed stable_words n) }
-        ensures { stable_number result ≡ n }
+    /// The one with this number, if there is one.
+    fn of_number(n: u32) -> Option<Stable>
+        ensures number { IfSome result (λ stable. stable_number stable ≡ n) }
+        ensures listed { IsSome result ↔ IsTrue (is_listed stable_words n) }
     {
         match n {
-            0 => Stable::Unstable,
-            1 => Stable::DataSync,
-            2 => Stable::FileSync,
-            _ => unreachable!(),
+            0 => Some(Stable::Unstable),
+            1 => Some(Stable::DataSync),
+            2 => Some(Stable::FileSync),
+            _ => None,
         }
     }
 }

@@ -1,6 +1,6 @@
 // What a call answers: a status, and results by it (RFC 1813, section 2.6).
 
-ghost use Rattle.std.specs.Prelude.{◌≡◌, IsTrue};
+ghost use Rattle.std.specs.Prelude.{◌≡◌, ◌≢◌, ◌↔◌, IfSome, IsSome, IsTrue};
 ghost use Rattle.xdr3.specs.Reading.{word_at};
 ghost use Rattle.xdr3.specs.Shape.{is_listed};
 ghost use Rattle.xdr3.specs.View.{Answers, MovesOn};
@@ -98,54 +98,28 @@ impl Status {
             (word_at (is_listed status_words) Reason.BadEnum input.old.body input.old.at) }
         ensures moves { MovesOn input.old input.new }
     {
-        let n = input.listed(&[
-            0, 1, 2, 5, 6, 13, 17, 18, 19, 20, 21, 22, 27, 28, 30, 31, 63, 66, 69, 70, 71, 10_001,
-            10_002, 10_003, 10_004, 10_005, 10_006, 10_007, 10_008,
-        ])?;
-        Ok(Status::from_listed(n))
+        let at = input.at();
+        let n = input.word()?;
+        Status::of_number(n).ok_or(Stop {
+            at,
+            reason: Reason::BadEnum,
+        })
     }
 
-    fn from_listed(n: u32) -> Status
-        requires { IsTrue (is_listed status_words n) }
-        ensures { status_number result ≡ n }
+    /// The one with this number, if there is one.
+    fn of_number(n: u32) -> Option<Status>
+        ensures number { IfSome result (λ status. status_number status ≡ n) }
+        ensures listed { IsSome result ↔ IsTrue (is_listed status_words n) }
     {
         match n {
-            0 => Status::Ok,
-            1 => Status::Failed(Failure::Perm),
-            2 => Status::Failed(Failure::NoEnt),
-            5 => Status::Failed(Failure::Io),
-            6 => Status::Failed(Failure::Nxio),
-            13 => Status::Failed(Failure::Acces),
-            17 => Status::Failed(Failure::Exist),
-            18 => Status::Failed(Failure::XDev),
-            19 => Status::Failed(Failure::NoDev),
-            20 => Status::Failed(Failure::NotDir),
-            21 => Status::Failed(Failure::IsDir),
-            22 => Status::Failed(Failure::Inval),
-            27 => Status::Failed(Failure::FBig),
-            28 => Status::Failed(Failure::NoSpc),
-            30 => Status::Failed(Failure::RoFs),
-            31 => Status::Failed(Failure::MLink),
-            63 => Status::Failed(Failure::NameTooLong),
-            66 => Status::Failed(Failure::NotEmpty),
-            69 => Status::Failed(Failure::DQuot),
-            70 => Status::Failed(Failure::Stale),
-            71 => Status::Failed(Failure::Remote),
-            10_001 => Status::Failed(Failure::BadHandle),
-            10_002 => Status::Failed(Failure::NotSync),
-            10_003 => Status::Failed(Failure::BadCookie),
-            10_004 => Status::Failed(Failure::NotSupp),
-            10_005 => Status::Failed(Failure::TooSmall),
-            10_006 => Status::Failed(Failure::ServerFault),
-            10_007 => Status::Failed(Failure::BadType),
-            10_008 => Status::Failed(Failure::Jukebox),
-            _ => unreachable!(),
+            0 => Some(Status::Ok),
+            _ => Failure::of_number(n).map(Status::Failed),
         }
     }
 }
 
 impl Failure {
-    ghost use Rattle.nfs3_types.specs.Status.{failure_number};
+    ghost use Rattle.nfs3_types.specs.Status.{failure_number, status_words};
 
     /// Its number.
     pub fn number(self) -> u32
@@ -180,6 +154,44 @@ impl Failure {
             Failure::ServerFault => 10_006,
             Failure::BadType => 10_007,
             Failure::Jukebox => 10_008,
+        }
+    }
+
+    /// The one with this number, if there is one.
+    fn of_number(n: u32) -> Option<Failure>
+        ensures number { IfSome result (λ failure. failure_number failure ≡ n) }
+        ensures listed { IsSome result ↔ (IsTrue (is_listed status_words n) × (n ≢ 0)) }
+    {
+        match n {
+            1 => Some(Failure::Perm),
+            2 => Some(Failure::NoEnt),
+            5 => Some(Failure::Io),
+            6 => Some(Failure::Nxio),
+            13 => Some(Failure::Acces),
+            17 => Some(Failure::Exist),
+            18 => Some(Failure::XDev),
+            19 => Some(Failure::NoDev),
+            20 => Some(Failure::NotDir),
+            21 => Some(Failure::IsDir),
+            22 => Some(Failure::Inval),
+            27 => Some(Failure::FBig),
+            28 => Some(Failure::NoSpc),
+            30 => Some(Failure::RoFs),
+            31 => Some(Failure::MLink),
+            63 => Some(Failure::NameTooLong),
+            66 => Some(Failure::NotEmpty),
+            69 => Some(Failure::DQuot),
+            70 => Some(Failure::Stale),
+            71 => Some(Failure::Remote),
+            10_001 => Some(Failure::BadHandle),
+            10_002 => Some(Failure::NotSync),
+            10_003 => Some(Failure::BadCookie),
+            10_004 => Some(Failure::NotSupp),
+            10_005 => Some(Failure::TooSmall),
+            10_006 => Some(Failure::ServerFault),
+            10_007 => Some(Failure::BadType),
+            10_008 => Some(Failure::Jukebox),
+            _ => None,
         }
     }
 }
