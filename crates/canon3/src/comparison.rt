@@ -105,10 +105,8 @@ fn compared<A: Source, B: Source, S: BuildHasher + Drop>(
     ensures same_first { loan_of first.new ≡ loan_of first.old }
     ensures same_second { loan_of second.new ≡ loan_of second.old }
 {
-    match comparison.find(first, second) {
-        Ok(finding) => conclude(finding, first, second),
-        Err(error) => Err(error),
-    }
+    let finding = comparison.find(first, second)?;
+    conclude(finding, first, second)
 }
 
 /// What ends a comparison, if the rest of both captures is well formed.
@@ -204,11 +202,7 @@ fn read_next<R: Source, S: BuildHasher + Drop>(
     ensures write { IfErr result (λ error. error ≢ Error.Write) }
     ensures same_reference { loan_of entries.new ≡ loan_of entries.old }
 {
-    match entries.next(&mut Silent) {
-        Ok(Some(_)) => Ok(true),
-        Ok(None) => Ok(false),
-        Err(error) => Err(error),
-    }
+    Ok(entries.next(&mut Silent)?.is_some())
 }
 
 /// Two captures that are read side by side, each with numbers of its own.
@@ -242,10 +236,8 @@ impl<S: BuildHasher + Drop> Comparison<S> {
         ensures same_second { loan_of second.new ≡ loan_of second.old }
     {
         loop {
-            match self.step(first, second) {
-                Ok(None) => {}
-                Ok(Some(finding)) => return Ok(finding),
-                Err(error) => return Err(error),
+            if let Some(finding) = self.step(first, second)? {
+                return Ok(finding);
             }
         }
     }
@@ -305,11 +297,7 @@ impl<S: BuildHasher + Drop> Comparison<S> {
         ensures same_reference { loan_of second.new ≡ loan_of second.old }
     {
         match second.next(&mut self.second) {
-            Ok(Some(other)) => match self.compare(kind, other) {
-                Ok(None) => Ok(None),
-                Ok(Some(place)) => Ok(Some(Finding::Parted(place))),
-                Err(error) => Err(error),
-            },
+            Ok(Some(other)) => Ok(self.compare(kind, other)?.map(Finding::Parted)),
             Ok(None) => Ok(Some(Finding::Ended)),
             Err(error) => refused(error),
         }

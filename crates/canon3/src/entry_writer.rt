@@ -110,10 +110,8 @@ fn write_new<R: Source, W: Sink, E: EntryWriter, S: BuildHasher + Drop>(
     ensures same_reference { loan_of entries.new ≡ loan_of entries.old }
 {
     let mut passed = Passed::new();
-    match write_rest(entries, &mut passed, sink, writer) {
-        Ok(()) => close(&passed, sink, writer),
-        Err(error) => Err(error),
-    }
+    write_rest(entries, &mut passed, sink, writer)?;
+    close(&passed, sink, writer)
 }
 
 /// Flushes the sink after the end.
@@ -187,10 +185,9 @@ fn write_next<R: Source, W: Sink, E: EntryWriter, S: BuildHasher + Drop>(
     ensures write { CountsWriting (W.failures sink.old) (W.failures sink.new) result }
     ensures same_reference { loan_of entries.new ≡ loan_of entries.old }
 {
-    match entries.next(writer) {
-        Ok(Some(kind)) => write_one(passed, sink, writer, kind),
-        Ok(None) => Ok(false),
-        Err(error) => Err(error),
+    match entries.next(writer)? {
+        Some(kind) => write_one(passed, sink, writer, kind),
+        None => Ok(false),
     }
 }
 
@@ -209,11 +206,7 @@ fn write_one<W: Sink, E: EntryWriter>(
     ensures count { CountsWriting (W.failures sink.old) (W.failures sink.new) result }
     ensures error { IfErr result IsOfWriting }
 {
-    match writer.write(passed, sink, kind) {
-        Ok(()) => {
-            passed.add(kind);
-            Ok(true)
-        }
-        Err(error) => Err(error),
-    }
+    writer.write(passed, sink, kind)?;
+    passed.add(kind);
+    Ok(true)
 }

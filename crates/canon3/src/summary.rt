@@ -72,10 +72,8 @@ fn summed<R: Source, S: BuildHasher + Drop>(
     ensures same_reference { loan_of entries.new ≡ loan_of entries.old }
 {
     let mut tally = Tally::new(alloc, hasher);
-    match tally.add_all(entries) {
-        Ok(()) => Ok(tally.summary()),
-        Err(error) => Err(error),
-    }
+    tally.add_all(entries)?;
+    Ok(tally.summary())
 }
 
 /// What was met so far.
@@ -125,13 +123,12 @@ impl<S: BuildHasher + Drop> Tally<S> {
         ensures write { IfErr result (λ error. error ≢ Error.Write) }
         ensures same_reference { loan_of entries.new ≡ loan_of entries.old }
     {
-        match entries.next(&mut self.handles) {
-            Ok(Some(kind)) => {
+        match entries.next(&mut self.handles)? {
+            Some(kind) => {
                 self.passed.add(kind);
                 Ok(true)
             }
-            Ok(None) => Ok(false),
-            Err(error) => Err(error),
+            None => Ok(false),
         }
     }
 
