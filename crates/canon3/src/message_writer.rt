@@ -48,6 +48,7 @@ fn number_of_handle<S: BuildHasher + Drop>(
         → OnOk result (HoldsHandles handles.new (hs ++ bytes.now ∷ [])) }
 {
     let Some(handle) = Handle::new(bytes) else {
+        // There are at most 64 bytes.
         unreachable!()
     };
     handles.number_of(handle)
