@@ -12,7 +12,7 @@ use Rattle.capture3.specs.declared.reader.entries.Entries.{Entries}
 use Rattle.capture3.specs.declared.fault.Error.{Error}
 use Rattle.capture3.specs.declared.fault.Error.TheVariants as errors
 use Rattle.capture3.specs.declared.fault.Place.{Place}
-use Rattle.capture3.specs.Entries.{IsMetBy}
+use Rattle.capture3.specs.Entries.{IsMetBy, source_of}
 use Rattle.capture3.specs.Handing.{HandsOutGiven}
 use Rattle.capture3.specs.machinery.Entries.{StandsFor}
 use Rattle.capture3.specs.Entry.{Entry, items_of}
@@ -129,13 +129,13 @@ module _ {R S H V : Type 0} {builds : BuildHasher.Ghosts S H} {hashes : Hasher.G
   hands h (Ok (Some kind)) a =
       let (entry, is, reached, adds, stands_for) = a.hands_out in
       let few : length (handed ++ entry ∷ []) < 2 ^ 32 = omega (arith, stands_for.few) in
-      (entry, is, first_reached (h.given ++ a.more) (handed ++ entry ∷ []) reached, few, adds, record { given = h.given ++ a.more; consumed = Consumes-trans (Some file) (left old.source.now) (left new.source.now) h.given a.more h.consumed a.consumed; stands = stands_for })
+      (entry, is, first_reached (h.given ++ a.more) (handed ++ entry ∷ []) reached, few, adds, record { given = h.given ++ a.more; consumed = Consumes-trans (Some file) (left (source_of old)) (left (source_of new)) h.given a.more h.consumed a.consumed; stands = stands_for })
   hands h (Ok None) a =
-      let consumed = Consumes-trans (Some file) (left old.source.now) (left new.source.now) h.given a.more h.consumed a.consumed in
+      let consumed = Consumes-trans (Some file) (left (source_of old)) (left (source_of new)) h.given a.more h.consumed a.consumed in
       let (typed, ended, stands_for) = a.hands_out in
-      (all_typed file (h.given ++ a.more) handed (left new.source.now) consumed ended typed, record { given = h.given ++ a.more; consumed = consumed; stands = stands_for })
+      (all_typed file (h.given ++ a.more) handed (left (source_of new)) consumed ended typed, record { given = h.given ++ a.more; consumed = consumed; stands = stands_for })
   hands h (Err error) a =
-      met_refused file (h.given ++ a.more) handed (left new.source.now) error (Consumes-trans (Some file) (left old.source.now) (left new.source.now) h.given a.more h.consumed a.consumed) a.hands_out.0
+      met_refused file (h.given ++ a.more) handed (left (source_of new)) error (Consumes-trans (Some file) (left (source_of old)) (left (source_of new)) h.given a.more h.consumed a.consumed) a.hands_out.0
 
 module _ {R S H : Type 0} {builds : BuildHasher.Ghosts S H} {hashes : Hasher.Ghosts H} (left : R → Option (List ℕ)) (file : List ℕ) (reader : Entries R S H builds hashes) (handed : List Entry) where
   pub given_on : HasGiven left file reader handed → HasGivenOn left file reader handed
@@ -155,7 +155,7 @@ read_on left stands file old new was now handed h (Some kind) (entry, is, first,
 read_on left stands file old new was now handed h None (typed, given) = (h.more, typed)
 
 -- a new reader
-pub fresh : {R S H : Type 0} {builds : BuildHasher.Ghosts S H} {hashes : Hasher.Ghosts H} (left : R → Option (List ℕ)) (file : List ℕ) (reader : Entries R S H builds hashes) → left reader.source.now ≡ Some file → StandsFor left reader [] [] → HasGiven left file reader []
+pub fresh : {R S H : Type 0} {builds : BuildHasher.Ghosts S H} {hashes : Hasher.Ghosts H} (left : R → Option (List ℕ)) (file : List ℕ) (reader : Entries R S H builds hashes) → left (source_of reader) ≡ Some file → StandsFor left reader [] [] → HasGiven left file reader []
 fresh left file reader tells stands = record { given = []; consumed = subst (λ (o : Option (List ℕ)). Consumes (Some file) o []) (sym tells) refl; stands = stands }
 
 -- ---- along two readers

@@ -2,11 +2,12 @@ use Rattle.std.proofs.Common.{[], sym, subst, List, ℕ}
 use Rattle.std.specs.Io.KnownBytes.{Appends}
 use Rattle.std.proofs.lemmas.Result.{err_from_is_err_and}
 use Rattle.std.proofs.KnownBytes.{Appends-nil, Consumes-nil}
+use Rattle.capture3.specs.Entries.{source_of}
 use Rattle.canon3.proofs.entry_writer.write_new.Goals as goal
 
 pub returns-clause-writes : goal.returns-clause-writes
 returns-clause-writes g c =
-    let before = g.R.Source.left c.args.entries.now.source.now in
+    let before = g.R.Source.left (source_of c.args.entries.now) in
     let old = g.W.Sink.written c.args.sink.now in
     let done = c.in_ok-write_rest.ensures.over before old (record {
       given = [];
@@ -15,11 +16,11 @@ returns-clause-writes g c =
       reads = c.requires.fresh;
       writes = record { goes = c.requires.well; stands_for = c.requires.new; came = c.new-passed.ensures.passed; written = subst (λ (l : List ℕ). Appends old old l) (sym c.requires.empty) (Appends-nil old) };
     }) in
-    c.close.ensures.writes before (g.R.Source.left c.write_rest.new.entries.source.now) old done.given done.handed done.ended done.writes
+    c.close.ensures.writes before (g.R.Source.left (source_of c.write_rest.new.entries)) old done.given done.handed done.ended done.writes
 
 pub returns-in_err-write_rest-clause-writes : goal.returns-in_err-write_rest-clause-writes
 returns-in_err-write_rest-clause-writes g c =
-    let before = g.R.Source.left c.args.entries.now.source.now in
+    let before = g.R.Source.left (source_of c.args.entries.now) in
     let old = g.W.Sink.written c.args.sink.now in
     let s = c.in_err-write_rest.ensures.over before old (record {
       given = [];

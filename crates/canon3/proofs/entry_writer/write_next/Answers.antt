@@ -2,6 +2,7 @@ use Rattle.std.proofs.Common.{Ok, [], ◌∷◌, ◌++◌, length, arith, subst,
 use Rattle.std.proofs.lemmas.Result.{err_from_is_err_and}
 use Rattle.std.proofs.KnownBytes.{Consumes-trans}
 use Rattle.xdr3.specs.Visit.{Adds}
+use Rattle.capture3.specs.Entries.{source_of}
 use Rattle.capture3.specs.Handing.{HandsOut}
 use Rattle.canon3.specs.machinery.EntryWriter.{HasWritten}
 use Rattle.canon3.proofs.EntryWriterLemmas.{met_stops, written_goes_on}
@@ -17,7 +18,7 @@ returns-in-Some-clause-goes_on g c first old u =
     let order = first_reached (u.given ++ a.more) (u.handed ++ one ∷ []) reached in
     let few : length (u.handed ++ one ∷ []) < 2 ^ 32 = omega (arith, reads.few) in
     written_goes_on g.E.EntryWriter.form c.requires.prefixes g.E.EntryWriter.before g.E.Visit.stands g.E.EntryWriter.going g.R.Source.left first old c.next.new.self c.write_one.new.writer c.write_one.new.passed (g.W.Sink.written c.write_one.new.sink) (u.given ++ a.more) u.handed one c.write_one.result c.write_one.ensures.more c.write_one.ensures.error
-    (Consumes-trans first (g.R.Source.left c.args.entries.now.source.now) (g.R.Source.left c.next.new.self.source.now) u.given a.more u.consumed a.consumed) reached reads
+    (Consumes-trans first (g.R.Source.left (source_of c.args.entries.now)) (g.R.Source.left (source_of c.next.new.self)) u.given a.more u.consumed a.consumed) reached reads
     (c.write_one.ensures.writes old u.handed one is order few u.writes.came (adds (g.E.EntryWriter.before u.handed) u.writes.stands_for) u.writes.written)
 
 pub returns-in-None-clause-goes_on : goal.returns-in-None-clause-goes_on
@@ -28,7 +29,7 @@ returns-in-None-clause-goes_on g c first old u =
       given = u.given ++ a.more;
       handed = u.handed;
       ended = record {
-        consumed = Consumes-trans first (g.R.Source.left c.args.entries.now.source.now) (g.R.Source.left c.next.new.self.source.now) u.given a.more u.consumed a.consumed;
+        consumed = Consumes-trans first (g.R.Source.left (source_of c.args.entries.now)) (g.R.Source.left (source_of c.next.new.self)) u.given a.more u.consumed a.consumed;
         ended = out.1;
         typed = out.0;
       };
@@ -41,6 +42,6 @@ returns-in_err-kind-clause-goes_on g c first old u =
     let p = err_from_is_err_and c.from_residual.result c.from_residual.ensures.1 in
     rw (p.1, p.2) (record {
       given = u.given ++ a.more;
-      consumed = Consumes-trans first (g.R.Source.left c.args.entries.now.source.now) (g.R.Source.left c.next.new.self.source.now) u.given a.more u.consumed a.consumed;
-      stopped = met_stops g.E.EntryWriter.form c.requires.prefixes c.in_err-kind.field-0.0 (g.R.Source.left c.next.new.self.source.now) old (g.W.Sink.written c.args.sink.now) (u.given ++ a.more) u.handed a.hands_out.0 u.writes.written;
+      consumed = Consumes-trans first (g.R.Source.left (source_of c.args.entries.now)) (g.R.Source.left (source_of c.next.new.self)) u.given a.more u.consumed a.consumed;
+      stopped = met_stops g.E.EntryWriter.form c.requires.prefixes c.in_err-kind.field-0.0 (g.R.Source.left (source_of c.next.new.self)) old (g.W.Sink.written c.args.sink.now) (u.given ++ a.more) u.handed a.hands_out.0 u.writes.written;
     })

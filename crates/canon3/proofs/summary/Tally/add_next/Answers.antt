@@ -3,6 +3,7 @@ use Rattle.std.proofs.lemmas.Result.{err_from_is_err_and}
 use Rattle.std.proofs.KnownBytes.{Consumes-trans}
 use Rattle.xdr3.specs.Item.{Item}
 use Rattle.xdr3.specs.Visit.{Adds}
+use Rattle.capture3.specs.Entries.{source_of}
 use Rattle.canon3.specs.HandleTable.{Gathers}
 use Rattle.canon3.specs.machinery.Summary.{all_items}
 use Rattle.capture3.specs.Handing.{HandsOut}
@@ -17,7 +18,7 @@ returns-in-Some-clause-goes_on g c first u =
     record {
       given = u.given ++ a.more;
       handed = u.handed ++ one ∷ [];
-      consumed = Consumes-trans first (g.R.Source.left c.args.entries.now.source.now) (g.R.Source.left c.next.new.self.source.now) u.given a.more u.consumed a.consumed;
+      consumed = Consumes-trans first (g.R.Source.left (source_of c.args.entries.now)) (g.R.Source.left (source_of c.next.new.self)) u.given a.more u.consumed a.consumed;
       stands = stands;
       tallied = record {
         passed = c.add.ensures.passed u.handed one is u.tallied.passed;
@@ -32,6 +33,6 @@ returns-in_err-kind-clause-goes_on g c first u =
     rw (p.1, p.2) (record {
       given = u.given ++ a.more;
       handed = u.handed;
-      consumed = Consumes-trans first (g.R.Source.left c.args.entries.now.source.now) (g.R.Source.left c.next.new.self.source.now) u.given a.more u.consumed a.consumed;
+      consumed = Consumes-trans first (g.R.Source.left (source_of c.args.entries.now)) (g.R.Source.left (source_of c.next.new.self)) u.given a.more u.consumed a.consumed;
       met = a.hands_out.0;
     })
