@@ -1,6 +1,7 @@
 -- A comparison of two captures, entry by entry.
-use Rattle.std.proofs.Common.{◌≡◌, ◌≢◌, ⊎_elim, ℕ, Bool, true, false, ◌<◌, ◌^◌, List, [], ◌∷◌, ◌++◌, length, append-nil, Option, None, Some, Result, Ok, Err, refl, sym, ap, ◌∙◌, subst, arith}
+use Rattle.std.proofs.Common.{◌≡◌, ◌≢◌, ⊎_elim, ℕ, Bool, true, false, ◌<◌, ◌^◌, List, [], ◌∷◌, ◌++◌, length, append-nil, append_assoc, Option, None, Some, Result, Ok, Err, refl, sym, ap, ◌∙◌, subst, arith}
 use Rattle.std.specs.Io.KnownBytes.{Consumes, IsAtEnd}
+use Rattle.std.specs.Option.{is_some, IsSomeAnd, MatchOption}
 use Rattle.std.specs.Result.{IsErr, IsErrAnd}
 use Rattle.std.proofs.KnownBytes.{Consumes-all, Consumes-trans}
 use Rattle.std.specs.declared.hash.BuildHasher as BuildHasher
@@ -11,7 +12,7 @@ use Rattle.capture3.specs.declared.reader.entries.Entries.{Entries}
 use Rattle.capture3.specs.declared.fault.Error.{Error}
 use Rattle.capture3.specs.declared.fault.Error.TheVariants as errors
 use Rattle.capture3.specs.declared.fault.Place.{Place}
-use Rattle.capture3.specs.Entries.{IsMetBy}
+use Rattle.capture3.specs.Entries.{IsMetBy, source_of}
 use Rattle.capture3.specs.Handing.{HandsOutGiven}
 use Rattle.capture3.specs.machinery.Entries.{StandsFor}
 use Rattle.capture3.specs.Entry.{Entry, items_of}
@@ -30,7 +31,7 @@ use Rattle.canon3.specs.declared.verdict.Verdict.{Verdict}
 use Rattle.canon3.specs.declared.verdict.Verdict.TheVariants as verdicts
 use Rattle.canon3.specs.declared.verdict.Which.TheVariants.{First, Second}
 use Rattle.canon3.specs.Comparison.{DecidesSame, StopsComparing}
-use Rattle.canon3.specs.machinery.Comparison.{Agree, HasGiven, HasGivenOn, HaveEnded, HaveParted, IsCompared, IsFound, IsReadAfter, IsReadOut, SaysOfFile, IsTold, Meets, met_second, PartWith, ReadsOn, StepsOn}
+use Rattle.canon3.specs.machinery.Comparison.{Agree, Compares, HasGiven, HasGivenOn, HaveEnded, HaveParted, IsCompared, IsFound, IsReadAfter, IsReadOut, SaysOfFile, IsTold, Meets, met_second, PartWith, ReadsOn, StepsOn}
 use Rattle.canon3.specs.Laws.{AreFirst}
 use Rattle.canon3.specs.machinery.MessageWriter.{Before, behind, WriterStands, values_of}
 use Rattle.canon3.specs.Renaming.{Same}
@@ -128,13 +129,13 @@ module _ {R S H V : Type 0} {builds : BuildHasher.Ghosts S H} {hashes : Hasher.G
   hands h (Ok (Some kind)) a =
       let (entry, is, reached, adds, stands_for) = a.hands_out in
       let few : length (handed ++ entry ∷ []) < 2 ^ 32 = omega (arith, stands_for.few) in
-      (entry, is, first_reached (h.given ++ a.more) (handed ++ entry ∷ []) reached, few, adds, record { given = h.given ++ a.more; consumed = Consumes-trans (Some file) (left old.source.now) (left new.source.now) h.given a.more h.consumed a.consumed; stands = stands_for })
+      (entry, is, first_reached (h.given ++ a.more) (handed ++ entry ∷ []) reached, few, adds, record { given = h.given ++ a.more; consumed = Consumes-trans (Some file) (left (source_of old)) (left (source_of new)) h.given a.more h.consumed a.consumed; stands = stands_for })
   hands h (Ok None) a =
-      let consumed = Consumes-trans (Some file) (left old.source.now) (left new.source.now) h.given a.more h.consumed a.consumed in
+      let consumed = Consumes-trans (Some file) (left (source_of old)) (left (source_of new)) h.given a.more h.consumed a.consumed in
       let (typed, ended, stands_for) = a.hands_out in
-      (all_typed file (h.given ++ a.more) handed (left new.source.now) consumed ended typed, record { given = h.given ++ a.more; consumed = consumed; stands = stands_for })
+      (all_typed file (h.given ++ a.more) handed (left (source_of new)) consumed ended typed, record { given = h.given ++ a.more; consumed = consumed; stands = stands_for })
   hands h (Err error) a =
-      met_refused file (h.given ++ a.more) handed (left new.source.now) error (Consumes-trans (Some file) (left old.source.now) (left new.source.now) h.given a.more h.consumed a.consumed) a.hands_out.0
+      met_refused file (h.given ++ a.more) handed (left (source_of new)) error (Consumes-trans (Some file) (left (source_of old)) (left (source_of new)) h.given a.more h.consumed a.consumed) a.hands_out.0
 
 module _ {R S H : Type 0} {builds : BuildHasher.Ghosts S H} {hashes : Hasher.Ghosts H} (left : R → Option (List ℕ)) (file : List ℕ) (reader : Entries R S H builds hashes) (handed : List Entry) where
   pub given_on : HasGiven left file reader handed → HasGivenOn left file reader handed
@@ -148,8 +149,13 @@ pub passed_on : (file : List ℕ) (handed : List Entry) (error : Error) (result 
 passed_on file handed error (Ok x) (bad, is) met = absurd is
 passed_on file handed error (Err e) (bad, is) met = subst (SaysOfFile file) (sym is) met
 
+-- the next entry was handed out, if there is one
+pub read_on : {R S H V : Type 0} {builds : BuildHasher.Ghosts S H} {hashes : Hasher.Ghosts H} (left : R → Option (List ℕ)) (stands : V → List Item → Type 0) (file : List ℕ) (old new : Entries R S H builds hashes) (was now : V) (handed : List Entry) (h : HasGivenOn left file old handed) (next : Option Kind) → Hands left stands file old new was now (handed ++ h.more) (Ok next) → ReadsOn left file new handed (Ok (is_some next))
+read_on left stands file old new was now handed h (Some kind) (entry, is, first, few, adds, given) = record { more = h.more ++ entry ∷ []; all = subst (HasGiven left file new) (append_assoc handed h.more (entry ∷ [])) given }
+read_on left stands file old new was now handed h None (typed, given) = (h.more, typed)
+
 -- a new reader
-pub fresh : {R S H : Type 0} {builds : BuildHasher.Ghosts S H} {hashes : Hasher.Ghosts H} (left : R → Option (List ℕ)) (file : List ℕ) (reader : Entries R S H builds hashes) → left reader.source.now ≡ Some file → StandsFor left reader [] [] → HasGiven left file reader []
+pub fresh : {R S H : Type 0} {builds : BuildHasher.Ghosts S H} {hashes : Hasher.Ghosts H} (left : R → Option (List ℕ)) (file : List ℕ) (reader : Entries R S H builds hashes) → left (source_of reader) ≡ Some file → StandsFor left reader [] [] → HasGiven left file reader []
 fresh left file reader tells stands = record { given = []; consumed = subst (λ (o : Option (List ℕ)). Consumes (Some file) o []) (sym tells) refl; stands = stands }
 
 -- ---- along two readers
@@ -163,6 +169,12 @@ module _ {R S H : Type 0} {builds : BuildHasher.Ghosts S H} {hashes : Hasher.Gho
   refused_meets errors.Read met = tt
   refused_meets errors.Write met = tt
   refused_meets errors.Memory met = tt
+
+  -- an entry of the second came, and was compared
+  pub compared_meets : (f : Entry) → HasGiven left other reader (b ++ f ∷ []) → (place : Option Place) (finding : Option Finding) → MatchOption place (finding ≡ None) (λ p. IsSomeAnd finding (λ parted. parted ≡ findings.Parted p)) → Compares comparison a b e f place → Meets left file other reader comparison a b e (Ok finding)
+  compared_meets f given None finding is compared = rw is (record { f = f; given = given; compared = compared })
+  compared_meets f given (Some p) None is parts = absurd is
+  compared_meets f given (Some p) (Some parted) is parts = rw is (record { f = f; given = given; parts = parts })
 
   -- the second has not ended before the first
   pub not_ended : AreFirst (a ++ e ∷ []) → Agree a b → Typed other b → ⊥

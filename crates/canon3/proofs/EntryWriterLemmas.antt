@@ -9,7 +9,7 @@ use Rattle.xdr3.specs.Item.{Item}
 use Rattle.capture3.specs.declared.reader.entries.Entries.{Entries}
 use Rattle.capture3.specs.declared.fault.Error.{Error}
 use Rattle.capture3.specs.declared.fault.Error.TheVariants as errors
-use Rattle.capture3.specs.Entries.{IsMetBy}
+use Rattle.capture3.specs.Entries.{IsMetBy, source_of}
 use Rattle.capture3.specs.machinery.Entries.{StandsFor}
 use Rattle.capture3.specs.Entry.{Entry}
 use Rattle.capture3.specs.Reached.{AreFirstReached, Reached}
@@ -45,7 +45,7 @@ module _ (form : List Entry → List ℕ) (prefixes : KeepsPrefixes form) where
   module _ {R S H T : Type 0} {builds : BuildHasher.Ghosts S H} {hashes : Hasher.Ghosts H} (before : List Entry → List Item) (stands : T → List Item → Type 0) (going : T → Type 0) (left : R → Option (List ℕ)) (first old : Option (List ℕ)) (reader : Entries R S H builds hashes) (writer : T) (passed : Passed) (new : Option (List ℕ)) where
     -- an entry was handed out and written, or cut
     pub written_goes_on : (given : List ℕ) (handed : List Entry) (one : Entry) (result : Result Bool Error) → IfOk result IsTrue → IfErr result IsOfWriting
-        → Consumes first (left reader.source.now) given → AreFirstReached given (handed ++ one ∷ []) → StandsFor left reader given (handed ++ one ∷ [])
+        → Consumes first (left (source_of reader)) given → AreFirstReached given (handed ++ one ∷ []) → StandsFor left reader given (handed ++ one ∷ [])
         → HasMore form before stands going writer passed old new (handed ++ one ∷ []) result → WritesOn form before stands going left first old reader writer passed new result
     written_goes_on given handed one (Ok true) more error consumed reached reads writes = record { given = given; handed = handed ++ one ∷ []; consumed = consumed; reads = reads; writes = writes }
     written_goes_on given handed one (Ok false) more error consumed reached reads writes = absurd (cc)

@@ -94,13 +94,9 @@ fn follow<S: BuildHasher + Drop, W: Sink>(
         Ok(form) => form,
         Err(_) => return Err(Error::Memory),
     };
-    match write_spelling(sink, form, message_writer.writer.bytes()) {
-        Ok(()) => {
-            message_writer.begin_message();
-            Ok(())
-        }
-        Err(error) => Err(error),
-    }
+    write_spelling(sink, form, message_writer.writer.bytes())?;
+    message_writer.begin_message();
+    Ok(())
 }
 
 impl<S: BuildHasher + Drop> EntryWriter for MessageWriter<S> {
@@ -115,10 +111,8 @@ impl<S: BuildHasher + Drop> EntryWriter for MessageWriter<S> {
     ghost going = { IsGoing };
 
     fn write<W: Sink>(&mut self, passed: &Passed, sink: &mut W, kind: Kind) -> Result<(), Error> {
-        match open(passed, sink) {
-            Ok(()) => follow(self, sink, kind),
-            Err(error) => Err(error),
-        }
+        open(passed, sink)?;
+        follow(self, sink, kind)
     }
 
     fn handles(&self) -> u32 {

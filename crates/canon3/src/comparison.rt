@@ -1,12 +1,12 @@
 // Whether two captures are the same up to renaming.
 
 ghost use Rattle.std.specs.Prelude.{◌≡◌, ◌≢◌, ◌<◌, ◌≤◌, ◌+◌, ◌^◌, ◌++◌, ◌∷◌, ℕ, List, [], length, None, Some, IfErr, IfOk, IsTrue, OnOk};
-ghost use Rattle.capture3.specs.Entries.{CountsReading, failure_of};
+ghost use Rattle.capture3.specs.Entries.{CountsReads, failure_of, loan_of, source_of};
 ghost use Rattle.capture3.specs.machinery.Entries.{entries_left, StandsFor};
 ghost use Rattle.capture3.specs.Entry as spec;
 ghost use Rattle.capture3.specs.Laws.{most_entries};
 ghost use Rattle.canon3.specs.Comparison.{CountsReadingOf, DecidesSame};
-ghost use Rattle.canon3.specs.machinery.Comparison.{Compares, FindsOut, HasGiven, HasGivenOn, IsCompared, IsFound, IsReadAfter, IsReadOut, IsTold, IsComparing, Meets, met_second, ReadsOn, refusal_in, StepsOn};
+ghost use Rattle.canon3.specs.machinery.Comparison.{Compares, CountsReadsOf, FindsOut, HasGiven, HasGivenOn, IsCompared, IsFound, IsReadAfter, IsReadOut, IsTold, IsComparing, Meets, met_second, ReadsOn, refusal_in, StepsOn};
 ghost use Rattle.canon3.specs.Laws.{AreFirst};
 ghost use Rattle.canon3.specs.Progress.{steps_of};
 ghost use Rattle.capture3.specs.Kept.{IsOfKind};
@@ -97,20 +97,16 @@ fn compared<A: Source, B: Source, S: BuildHasher + Drop>(
     requires fresh_second { StandsFor B.left second.old [] [] }
     requires going_first { failure_of first.old ≡ None }
     requires going_second { failure_of second.old ≡ None }
-    ensures decides { (file other : List ℕ) → A.left first.old.source.now ≡ Some file
-        → B.left second.old.source.now ≡ Some other → DecidesSame file other result }
-    ensures read_first { CountsReadingOf Which.First (A.failures first.old.source.now)
-        (A.failures first.new.source.now) result }
-    ensures read_second { CountsReadingOf Which.Second (B.failures second.old.source.now)
-        (B.failures second.new.source.now) result }
+    ensures decides { (file other : List ℕ) → A.left (source_of first.old) ≡ Some file
+        → B.left (source_of second.old) ≡ Some other → DecidesSame file other result }
+    ensures read_first { CountsReadsOf Which.First A.failures first.old first.new result }
+    ensures read_second { CountsReadsOf Which.Second B.failures second.old second.new result }
     ensures write { IfErr result (λ error. error.error ≢ Error.Write) }
-    ensures same_first { first.new.source.ghost_name ≡ first.old.source.ghost_name }
-    ensures same_second { second.new.source.ghost_name ≡ second.old.source.ghost_name }
+    ensures same_first { loan_of first.new ≡ loan_of first.old }
+    ensures same_second { loan_of second.new ≡ loan_of second.old }
 {
-    match comparison.find(first, second) {
-        Ok(finding) => conclude(finding, first, second),
-        Err(error) => Err(error),
-    }
+    let finding = comparison.find(first, second)?;
+    conclude(finding, first, second)
 }
 
 /// What ends a comparison, if the rest of both captures is well formed.
@@ -134,13 +130,11 @@ fn conclude<A: Source, B: Source, S: BuildHasher + Drop>(
     requires going_second { failure_of second.old ≡ refusal_in (Some finding) }
     ensures decides { (file other : List ℕ) → IsFound A.left B.left file other first.old second.old
         finding → DecidesSame file other result }
-    ensures read_first { CountsReadingOf Which.First (A.failures first.old.source.now)
-        (A.failures first.new.source.now) result }
-    ensures read_second { CountsReadingOf Which.Second (B.failures second.old.source.now)
-        (B.failures second.new.source.now) result }
+    ensures read_first { CountsReadsOf Which.First A.failures first.old first.new result }
+    ensures read_second { CountsReadsOf Which.Second B.failures second.old second.new result }
     ensures write { IfErr result (λ error. error.error ≢ Error.Write) }
-    ensures same_first { first.new.source.ghost_name ≡ first.old.source.ghost_name }
-    ensures same_second { second.new.source.ghost_name ≡ second.old.source.ghost_name }
+    ensures same_first { loan_of first.new ≡ loan_of first.old }
+    ensures same_second { loan_of second.new ≡ loan_of second.old }
 {
     match read_out(first) {
         Ok(()) => match finding {
@@ -166,11 +160,10 @@ fn read_second<R: Source, S: BuildHasher + Drop>(
     requires going { failure_of entries.old ≡ None }
     ensures out { (file : List ℕ) (handed : List spec.Entry)
         → HasGiven R.left file entries.old handed → IsReadAfter file handed verdict result }
-    ensures read { CountsReadingOf Which.Second (R.failures entries.old.source.now)
-        (R.failures entries.new.source.now) result }
+    ensures read { CountsReadsOf Which.Second R.failures entries.old entries.new result }
     ensures never_first { (old : ℕ) → CountsReadingOf Which.First old old result }
     ensures write { IfErr result (λ error. error.error ≢ Error.Write) }
-    ensures same_reference { entries.new.source.ghost_name ≡ entries.old.source.ghost_name }
+    ensures same_reference { loan_of entries.new ≡ loan_of entries.old }
 {
     match read_out(entries) {
         Ok(()) => Ok(verdict),
@@ -186,10 +179,9 @@ fn read_out<R: Source, S: BuildHasher + Drop>(entries: &mut Entries<'_, R, S>) -
     requires going { failure_of entries.old ≡ None }
     ensures out { (file : List ℕ) (handed : List spec.Entry)
         → HasGivenOn R.left file entries.old handed → IsReadOut file handed result }
-    ensures read { CountsReading (R.failures entries.old.source.now)
-        (R.failures entries.new.source.now) result }
+    ensures read { CountsReads R.failures entries.old entries.new result }
     ensures write { IfErr result (λ error. error ≢ Error.Write) }
-    ensures same_reference { entries.new.source.ghost_name ≡ entries.old.source.ghost_name }
+    ensures same_reference { loan_of entries.new ≡ loan_of entries.old }
 {
     while read_next(entries)? {}
     Ok(())
@@ -206,16 +198,11 @@ fn read_next<R: Source, S: BuildHasher + Drop>(
     ensures fewer { IfOk result (λ more. IsTrue more
         → entries_left entries.new < entries_left entries.old) }
     ensures going { OnOk result (failure_of entries.new ≡ None) }
-    ensures read { CountsReading (R.failures entries.old.source.now)
-        (R.failures entries.new.source.now) result }
+    ensures read { CountsReads R.failures entries.old entries.new result }
     ensures write { IfErr result (λ error. error ≢ Error.Write) }
-    ensures same_reference { entries.new.source.ghost_name ≡ entries.old.source.ghost_name }
+    ensures same_reference { loan_of entries.new ≡ loan_of entries.old }
 {
-    match entries.next(&mut Silent) {
-        Ok(Some(_)) => Ok(true),
-        Ok(None) => Ok(false),
-        Err(error) => Err(error),
-    }
+    Ok(entries.next(&mut Silent)?.is_some())
 }
 
 /// Two captures that are read side by side, each with numbers of its own.
@@ -242,19 +229,15 @@ impl<S: BuildHasher + Drop> Comparison<S> {
         ensures going_first { OnOk result (failure_of first.new ≡ None) }
         ensures going_second { IfOk result
             (λ finding. failure_of second.new ≡ refusal_in (Some finding)) }
-        ensures read_first { CountsReadingOf Which.First (A.failures first.old.source.now)
-            (A.failures first.new.source.now) result }
-        ensures read_second { CountsReadingOf Which.Second (B.failures second.old.source.now)
-            (B.failures second.new.source.now) result }
+        ensures read_first { CountsReadsOf Which.First A.failures first.old first.new result }
+        ensures read_second { CountsReadsOf Which.Second B.failures second.old second.new result }
         ensures write { IfErr result (λ error. error.error ≢ Error.Write) }
-        ensures same_first { first.new.source.ghost_name ≡ first.old.source.ghost_name }
-        ensures same_second { second.new.source.ghost_name ≡ second.old.source.ghost_name }
+        ensures same_first { loan_of first.new ≡ loan_of first.old }
+        ensures same_second { loan_of second.new ≡ loan_of second.old }
     {
         loop {
-            match self.step(first, second) {
-                Ok(None) => {}
-                Ok(Some(finding)) => return Ok(finding),
-                Err(error) => return Err(error),
+            if let Some(finding) = self.step(first, second)? {
+                return Ok(finding);
             }
         }
     }
@@ -278,13 +261,11 @@ impl<S: BuildHasher + Drop> Comparison<S> {
         ensures room { IfOk result
             (λ next. next ≡ None → steps_of self.new.progress + entries_left first.new ≤
             most_entries) }
-        ensures read_first { CountsReadingOf Which.First (A.failures first.old.source.now)
-            (A.failures first.new.source.now) result }
-        ensures read_second { CountsReadingOf Which.Second (B.failures second.old.source.now)
-            (B.failures second.new.source.now) result }
+        ensures read_first { CountsReadsOf Which.First A.failures first.old first.new result }
+        ensures read_second { CountsReadsOf Which.Second B.failures second.old second.new result }
         ensures write { IfErr result (λ error. error.error ≢ Error.Write) }
-        ensures same_first { first.new.source.ghost_name ≡ first.old.source.ghost_name }
-        ensures same_second { second.new.source.ghost_name ≡ second.old.source.ghost_name }
+        ensures same_first { loan_of first.new ≡ loan_of first.old }
+        ensures same_second { loan_of second.new ≡ loan_of second.old }
     {
         match first.next(&mut self.first) {
             Ok(Some(kind)) => self.meet(kind, second),
@@ -310,18 +291,13 @@ impl<S: BuildHasher + Drop> Comparison<S> {
             → Meets B.left file other second.new self.new a b e result }
         ensures going { IfOk result (λ next. failure_of second.new ≡ refusal_in next) }
         ensures few { steps_of self.new.progress ≤ steps_of self.old.progress + 1 }
-        ensures read { CountsReadingOf Which.Second (B.failures second.old.source.now)
-            (B.failures second.new.source.now) result }
+        ensures read { CountsReadsOf Which.Second B.failures second.old second.new result }
         ensures never_first { (old : ℕ) → CountsReadingOf Which.First old old result }
         ensures write { IfErr result (λ error. error.error ≢ Error.Write) }
-        ensures same_reference { second.new.source.ghost_name ≡ second.old.source.ghost_name }
+        ensures same_reference { loan_of second.new ≡ loan_of second.old }
     {
         match second.next(&mut self.second) {
-            Ok(Some(other)) => match self.compare(kind, other) {
-                Ok(None) => Ok(None),
-                Ok(Some(place)) => Ok(Some(Finding::Parted(place))),
-                Err(error) => Err(error),
-            },
+            Ok(Some(other)) => Ok(self.compare(kind, other)?.map(Finding::Parted)),
             Ok(None) => Ok(Some(Finding::Ended)),
             Err(error) => refused(error),
         }

@@ -2,7 +2,7 @@
 
 ghost use Rattle.std.specs.Prelude.{◌≡◌, ◌<◌, ◌≤◌, ◌+◌, ◌^◌, ◌++◌, ◌∷◌, ℕ, List, [], Option, None, bytes_eq, length, min, IfErr, IfOk, IsTrue, OnOk};
 ghost use Rattle.xdr3.specs.Item.{Item};
-ghost use Rattle.capture3.specs.Entries.{CountsReading, failure_of};
+ghost use Rattle.capture3.specs.Entries.{CountsReading, CountsReads, failure_of, loan_of, source_of};
 ghost use Rattle.capture3.specs.machinery.Entries.{entries_left, StandsFor};
 ghost use Rattle.capture3.specs.Entry as spec;
 ghost use Rattle.capture3.specs.Laws.{most_entries};
@@ -102,20 +102,16 @@ fn write_new<R: Source, W: Sink, E: EntryWriter, S: BuildHasher + Drop>(
     requires prefixes { KeepsPrefixes E.form }
     requires fresh { StandsFor R.left entries.old [] [] }
     requires going { failure_of entries.old ≡ None }
-    ensures writes { WritesGiven E.form (R.left entries.old.source.now)
-        (R.left entries.new.source.now)
-        (W.written sink.old) (W.written sink.new) result }
+    ensures writes { WritesGiven E.form (R.left (source_of entries.old))
+        (R.left (source_of entries.new)) (W.written sink.old) (W.written sink.new) result }
     ensures flushes { OnOk result (IsFlushed (W.written sink.new) (W.flushed sink.new)) }
-    ensures read { CountsReading (R.failures entries.old.source.now)
-        (R.failures entries.new.source.now) result }
+    ensures read { CountsReads R.failures entries.old entries.new result }
     ensures write { CountsWriting (W.failures sink.old) (W.failures sink.new) result }
-    ensures same_reference { entries.new.source.ghost_name ≡ entries.old.source.ghost_name }
+    ensures same_reference { loan_of entries.new ≡ loan_of entries.old }
 {
     let mut passed = Passed::new();
-    match write_rest(entries, &mut passed, sink, writer) {
-        Ok(()) => close(&passed, sink, writer),
-        Err(error) => Err(error),
-    }
+    write_rest(entries, &mut passed, sink, writer)?;
+    close(&passed, sink, writer)
 }
 
 /// Flushes the sink after the end.
@@ -155,10 +151,9 @@ fn write_rest<R: Source, W: Sink, E: EntryWriter, S: BuildHasher + Drop>(
         → WritesToTheEnd E.form E.before E.stands E.going R.left first old entries.new writer.new
         passed.new
         (W.written sink.new) result }
-    ensures read { CountsReading (R.failures entries.old.source.now)
-        (R.failures entries.new.source.now) result }
+    ensures read { CountsReads R.failures entries.old entries.new result }
     ensures write { CountsWriting (W.failures sink.old) (W.failures sink.new) result }
-    ensures same_reference { entries.new.source.ghost_name ≡ entries.old.source.ghost_name }
+    ensures same_reference { loan_of entries.new ≡ loan_of entries.old }
 {
     while write_next(entries, passed, sink, writer)? {}
     Ok(())
@@ -186,15 +181,13 @@ fn write_next<R: Source, W: Sink, E: EntryWriter, S: BuildHasher + Drop>(
     ensures room { IfOk result
         (λ more. IsTrue more
         → passed_steps passed.new + entries_left entries.new ≤ most_entries) }
-    ensures read { CountsReading (R.failures entries.old.source.now)
-        (R.failures entries.new.source.now) result }
+    ensures read { CountsReads R.failures entries.old entries.new result }
     ensures write { CountsWriting (W.failures sink.old) (W.failures sink.new) result }
-    ensures same_reference { entries.new.source.ghost_name ≡ entries.old.source.ghost_name }
+    ensures same_reference { loan_of entries.new ≡ loan_of entries.old }
 {
-    match entries.next(writer) {
-        Ok(Some(kind)) => write_one(passed, sink, writer, kind),
-        Ok(None) => Ok(false),
-        Err(error) => Err(error),
+    match entries.next(writer)? {
+        Some(kind) => write_one(passed, sink, writer, kind),
+        None => Ok(false),
     }
 }
 
@@ -213,11 +206,7 @@ fn write_one<W: Sink, E: EntryWriter>(
     ensures count { CountsWriting (W.failures sink.old) (W.failures sink.new) result }
     ensures error { IfErr result IsOfWriting }
 {
-    match writer.write(passed, sink, kind) {
-        Ok(()) => {
-            passed.add(kind);
-            Ok(true)
-        }
-        Err(error) => Err(error),
-    }
+    writer.write(passed, sink, kind)?;
+    passed.add(kind);
+    Ok(true)
 }

@@ -83,6 +83,7 @@ impl<S: BuildHasher + Drop> Visit for HandleTable<S> {
             return Ok(());
         }
         let Some(handle) = Handle::new(bytes) else {
+            // A visitor is told no handle of more than 64 bytes.
             unreachable!()
         };
         self.add(handle)

@@ -48,6 +48,7 @@ fn number_of_handle<S: BuildHasher + Drop>(
         → OnOk result (HoldsHandles handles.new (hs ++ bytes.now ∷ [])) }
 {
     let Some(handle) = Handle::new(bytes) else {
+        // There are at most 64 bytes.
         unreachable!()
     };
     handles.number_of(handle)
@@ -107,10 +108,7 @@ impl<S: BuildHasher + Drop> MessageWriter<S> {
         ensures ok { OnOk result (Adds WriterStands self.old self.new (Word name.now n ∷ [])) }
         ensures goes { OnOk result (self.new.stage ≡ Stage.Goes) }
     {
-        let number = match self.xids.number_of(n) {
-            Ok(number) => number,
-            Err(error) => return Err(error),
-        };
+        let number = self.xids.number_of(n)?;
         self.stage = Stage::Goes;
         self.writer.word(name, number)
     }
@@ -122,10 +120,7 @@ impl<S: BuildHasher + Drop> MessageWriter<S> {
         ensures ok { OnOk result (Adds WriterStands self.old self.new
             (Opaque HandleKind name.now bytes.now ∷ [])) }
     {
-        let number = match number_of_handle(&mut self.handles, bytes) {
-            Ok(number) => number,
-            Err(error) => return Err(error),
-        };
+        let number = number_of_handle(&mut self.handles, bytes)?;
         let mut word = [0u8; 4];
         BigEndian::write_u32(&mut word, number);
         self.writer.handle(name, &word)
@@ -136,10 +131,7 @@ impl<S: BuildHasher + Drop> MessageWriter<S> {
         ensures ok { OnOk result (Adds WriterStands self.old self.new
             (WriteVerf name.now bytes.now ∷ [])) }
     {
-        let number = match self.verfs.number_of(*bytes) {
-            Ok(number) => number,
-            Err(error) => return Err(error),
-        };
+        let number = self.verfs.number_of(*bytes)?;
         let mut hyper = [0u8; 8];
         BigEndian::write_u64(&mut hyper, u64::from(number));
         self.writer.write_verf(name, &hyper)

@@ -1,6 +1,6 @@
 // What came of a capture so far.
 
-ghost use Rattle.std.specs.Prelude.{◌≡◌, ◌<◌, ◌≤◌, ◌+◌, ◌^◌, ◌++◌, ◌∷◌, List, [], bytes_eq, cond, length, min};
+ghost use Rattle.std.specs.Prelude.{◌≡◌, ◌<◌, ◌≤◌, ◌+◌, ◌^◌, ◌++◌, ◌∷◌, List, [], bytes_eq, if◌then◌else◌, length, min};
 ghost use Rattle.capture3.specs.Entry as spec;
 ghost use Rattle.canon3.specs.Passed.{ArePassed, passed_steps};
 ghost use Rattle.canon3.specs.machinery.Passed.{calls, replies};
@@ -62,8 +62,8 @@ impl Passed {
     /// One message more, where the entry is one.
     fn count(&mut self, kind: Kind)
         requires { self.old.calls + self.old.replies + 1 < 2 ^ 32 }
-        ensures calls { self.new.calls ≡ self.old.calls + cond (calls kind) 1 0 }
-        ensures replies { self.new.replies ≡ self.old.replies + cond (replies kind) 1 0 }
+        ensures calls { self.new.calls ≡ self.old.calls + (if calls kind then 1 else 0) }
+        ensures replies { self.new.replies ≡ self.old.replies + (if replies kind then 1 else 0) }
         ensures progress { self.new.progress ≡ self.old.progress }
     {
         match kind {

@@ -186,6 +186,7 @@ impl Sink for MemSink {
                 self.room -= count;
                 Ok(count)
             }
+            // Memory for the whole room was reserved by `new`.
             Err(_) => unreachable!(),
         }
     }

@@ -2,7 +2,7 @@
 
 ghost use Rattle.std.specs.Prelude.{◌≡◌, ◌≢◌, ◌<◌, ◌≤◌, ◌+◌, ℕ, List, [], Option, None, Some, IfErr, IfOk, IsTrue, OnOk};
 ghost use Rattle.capture3.specs.declared.fault.Fault.{Fault};
-ghost use Rattle.capture3.specs.Entries.{CountsReading, failure_of};
+ghost use Rattle.capture3.specs.Entries.{CountsReading, CountsReads, failure_of, loan_of, source_of};
 ghost use Rattle.capture3.specs.machinery.Entries.{entries_left, StandsFor};
 ghost use Rattle.capture3.specs.Entry as spec;
 ghost use Rattle.capture3.specs.FirstFault.{FirstFault};
@@ -65,18 +65,15 @@ fn summed<R: Source, S: BuildHasher + Drop>(
 ) -> Result<Summary, Error>
     requires fresh { StandsFor R.left entries.old [] [] }
     requires going { failure_of entries.old ≡ None }
-    ensures concludes { ConcludesGiven (R.left entries.old.source.now)
-        (R.left entries.new.source.now) result }
-    ensures read { CountsReading (R.failures entries.old.source.now)
-        (R.failures entries.new.source.now) result }
+    ensures concludes { ConcludesGiven (R.left (source_of entries.old))
+        (R.left (source_of entries.new)) result }
+    ensures read { CountsReads R.failures entries.old entries.new result }
     ensures write { IfErr result (λ error. error ≢ Error.Write) }
-    ensures same_reference { entries.new.source.ghost_name ≡ entries.old.source.ghost_name }
+    ensures same_reference { loan_of entries.new ≡ loan_of entries.old }
 {
     let mut tally = Tally::new(alloc, hasher);
-    match tally.add_all(entries) {
-        Ok(()) => Ok(tally.summary()),
-        Err(error) => Err(error),
-    }
+    tally.add_all(entries)?;
+    Ok(tally.summary())
 }
 
 /// What was met so far.
@@ -103,10 +100,9 @@ impl<S: BuildHasher + Drop> Tally<S> {
         requires room { passed_steps self.old.passed + entries_left entries.old ≤ most_entries }
         ensures over { (first : Option (List ℕ)) → IsTallying R.left first entries.old self.old
             → TalliesToTheEnd R.left first entries.new self.new result }
-        ensures read { CountsReading (R.failures entries.old.source.now)
-            (R.failures entries.new.source.now) result }
+        ensures read { CountsReads R.failures entries.old entries.new result }
         ensures write { IfErr result (λ error. error ≢ Error.Write) }
-        ensures same_reference { entries.new.source.ghost_name ≡ entries.old.source.ghost_name }
+        ensures same_reference { loan_of entries.new ≡ loan_of entries.old }
     {
         while self.add_next(entries)? {}
         Ok(())
@@ -123,18 +119,16 @@ impl<S: BuildHasher + Drop> Tally<S> {
         ensures going { OnOk result (failure_of entries.new ≡ None) }
         ensures room { IfOk result (λ more. IsTrue more
             → passed_steps self.new.passed + entries_left entries.new ≤ most_entries) }
-        ensures read { CountsReading (R.failures entries.old.source.now)
-            (R.failures entries.new.source.now) result }
+        ensures read { CountsReads R.failures entries.old entries.new result }
         ensures write { IfErr result (λ error. error ≢ Error.Write) }
-        ensures same_reference { entries.new.source.ghost_name ≡ entries.old.source.ghost_name }
+        ensures same_reference { loan_of entries.new ≡ loan_of entries.old }
     {
-        match entries.next(&mut self.handles) {
-            Ok(Some(kind)) => {
+        match entries.next(&mut self.handles)? {
+            Some(kind) => {
                 self.passed.add(kind);
                 Ok(true)
             }
-            Ok(None) => Ok(false),
-            Err(error) => Err(error),
+            None => Ok(false),
         }
     }
 

@@ -21,10 +21,7 @@ pub fn write_all<W: Sink>(sink: &mut W, bytes: &[u8]) -> Result<(), DeviceFailed
 {
     let mut rest = bytes;
     while !rest.is_empty() {
-        let count = match sink.write_some(rest) {
-            Ok(count) => count,
-            Err(error) => return Err(error),
-        };
+        let count = sink.write_some(rest)?;
         rest = &rest[count..];
     }
     Ok(())
@@ -40,10 +37,8 @@ pub(crate) fn write_record<W: Sink>(sink: &mut W, body: &[u8]) -> Result<(), Dev
         (chunk_bytes (record_bytes body.now))) }
     ensures count { Counts (W.failures sink.old) (W.failures sink.new) result }
 {
-    match write_all(sink, &front(body.len() as u32)) {
-        Ok(()) => write_all(sink, body),
-        Err(error) => Err(error),
-    }
+    write_all(sink, &front(body.len() as u32))?;
+    write_all(sink, body)
 }
 
 /// The length of the chunk of a body of `len` bytes, and the body's header.

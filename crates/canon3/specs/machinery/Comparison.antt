@@ -8,6 +8,7 @@ use Rattle.capture3.specs.declared.reader.entries.Entries.{Entries}
 use Rattle.capture3.specs.declared.fault.Error.{Error}
 use Rattle.capture3.specs.declared.fault.Error.TheVariants as errors
 use Rattle.capture3.specs.declared.fault.Place.{Place}
+use Rattle.capture3.specs.Entries.{source_of}
 use Rattle.capture3.specs.machinery.Entries.{StandsFor}
 use Rattle.capture3.specs.Entry.{Entry}
 use Rattle.capture3.specs.FirstFault.{FirstFault}
@@ -17,13 +18,14 @@ use Rattle.canon3.specs.declared.comparison.Finding.{Finding}
 use Rattle.canon3.specs.declared.comparison.Finding.TheVariants as findings
 use Rattle.canon3.specs.declared.verdict.SameError.{SameError}
 use Rattle.canon3.specs.declared.verdict.Verdict.{Verdict}
+use Rattle.canon3.specs.declared.verdict.Which.{Which}
 use Rattle.canon3.specs.declared.verdict.Which.TheVariants.{Second}
 use Rattle.canon3.specs.Bytes.{bytes_of}
 use Rattle.canon3.specs.Canonical.{canonical}
 use Rattle.canon3.specs.machinery.MessageWriter.{behind, WriterStands, values_of}
 use Rattle.canon3.specs.Parting.{IsPlaceOf}
 use Rattle.canon3.specs.Progress.{HasPassed}
-use Rattle.canon3.specs.Comparison.{StopsComparing}
+use Rattle.canon3.specs.Comparison.{CountsReadingOf, StopsComparing}
 
 -- as many first entries of each, whose canonical forms have equal bytes
 pub record Agree (a b : List Entry) : Type 0 where
@@ -65,6 +67,10 @@ refusal_in (Some findings.Ended) = None
 refusal_in (Some (findings.Parted place)) = None
 refusal_in None = None
 
+-- the failed reads of this one's source, between two states of its reader
+abbrev pub CountsReadsOf : {R S H X : Type 0} {builds : BuildHasher.Ghosts S H} {hashes : Hasher.Ghosts H} → Which → (R → ℕ) → (old new : Entries R S H builds hashes) → Result X SameError → Type 0
+CountsReadsOf which failures old new result = CountsReadingOf which (failures (source_of old)) (failures (source_of new)) result
+
 -- what an error of a reader of this file says
 abbrev pub SaysOfFile : List ℕ → Error → Type 0
 SaysOfFile file (errors.Refused fault) = FirstFault file fault
@@ -86,7 +92,7 @@ module _ {R S H : Type 0} {builds : BuildHasher.Ghosts S H} {hashes : Hasher.Gho
   -- a reader of this file handed out these entries
   pub record HasGiven (handed : List Entry) : Type 0 where
     pub given : List ℕ
-    pub consumed : Consumes (Some file) (left reader.source.now) given
+    pub consumed : Consumes (Some file) (left (source_of reader)) given
     pub stands : StandsFor left reader given handed
 
   -- these, and more after them

@@ -6,6 +6,7 @@ use Rattle.std.specs.declared.hash.Hasher as Hasher
 use Rattle.xdr3.specs.Item.{Item}
 use Rattle.capture3.specs.declared.reader.entries.Entries.{Entries}
 use Rattle.capture3.specs.declared.fault.Error.{Error}
+use Rattle.capture3.specs.Entries.{source_of}
 use Rattle.capture3.specs.machinery.Entries.{StandsFor}
 use Rattle.capture3.specs.Entry.{Entry, items_of}
 use Rattle.capture3.specs.Typed.{Typed}
@@ -49,7 +50,7 @@ module _ {T R S H : Type 0} {builds : BuildHasher.Ghosts S H} {hashes : Hasher.G
   pub record IsWriting (reader : Entries R S H builds hashes) (writer : T) (passed : Passed) (new : Option (List ℕ)) : Type 0 where
     pub given : List ℕ
     pub handed : List Entry
-    pub consumed : Consumes first (left reader.source.now) given
+    pub consumed : Consumes first (left (source_of reader)) given
     pub reads : StandsFor left reader given handed
     pub writes : HasWritten form before stands going writer passed old new handed
 
@@ -57,13 +58,13 @@ module _ {T R S H : Type 0} {builds : BuildHasher.Ghosts S H} {hashes : Hasher.G
   pub record HasWrittenAll (reader : Entries R S H builds hashes) (writer : T) (passed : Passed) (new : Option (List ℕ)) : Type 0 where
     pub given : List ℕ
     pub handed : List Entry
-    pub ended : IsEnded first (left reader.source.now) given handed
+    pub ended : IsEnded first (left (source_of reader)) given handed
     pub writes : HasWritten form before stands going writer passed old new handed
 
   pub record HasStopped (reader : Entries R S H builds hashes) (new : Option (List ℕ)) (error : Error) : Type 0 where
     pub given : List ℕ
-    pub consumed : Consumes first (left reader.source.now) given
-    pub stopped : IsStoppedBy form error (left reader.source.now) given old new
+    pub consumed : Consumes first (left (source_of reader)) given
+    pub stopped : IsStoppedBy form error (left (source_of reader)) given old new
 
   abbrev pub WritesOn : Entries R S H builds hashes → T → Passed → Option (List ℕ) → Result Bool Error → Type 0
   WritesOn reader writer passed new (Ok true) = IsWriting reader writer passed new

@@ -8,7 +8,6 @@ use Rattle.capture3.specs.Entry.{Entry, Call, Reply}
 use Rattle.canon3.specs.declared.progress.Progress.{Progress}
 use Rattle.capture3.specs.declared.reader.entry.Kind.{Kind}
 use Rattle.capture3.specs.declared.reader.entry.Kind.TheVariants as kinds
-use Rattle.canon3.specs.Parting.{connections}
 
 -- one entry more
 abbrev pub progress_after : Progress → Kind → Progress

@@ -5,7 +5,7 @@ use Rattle.std.specs.declared.hash.BuildHasher as BuildHasher
 use Rattle.std.specs.declared.hash.Hasher as Hasher
 use Rattle.capture3.specs.declared.reader.entries.Entries.{Entries}
 use Rattle.capture3.specs.declared.fault.Error.{Error}
-use Rattle.capture3.specs.Entries.{IsMetBy}
+use Rattle.capture3.specs.Entries.{IsMetBy, source_of}
 use Rattle.capture3.specs.machinery.Entries.{StandsFor}
 use Rattle.capture3.specs.Entry.{Entry}
 use Rattle.capture3.specs.Typed.{Typed}
@@ -23,8 +23,8 @@ pub record Tallies {S H : Type 0} (tally : Tally S H) (entries : List Entry) : T
 pub record HasFailed {R S H : Type 0} {builds : BuildHasher.Ghosts S H} {hashes : Hasher.Ghosts H} (left : R → Option (List ℕ)) (first : Option (List ℕ)) (reader : Entries R S H builds hashes) (error : Error) : Type 0 where
   pub given : List ℕ
   pub handed : List Entry
-  pub consumed : Consumes first (left reader.source.now) given
-  pub met : IsMetBy error (left reader.source.now) given handed
+  pub consumed : Consumes first (left (source_of reader)) given
+  pub met : IsMetBy error (left (source_of reader)) given handed
 
 -- a reader that hands out entries, from when so much was left first, and what is tallied of them
 module _ {R S H : Type 0} {builds : BuildHasher.Ghosts S H} {hashes : Hasher.Ghosts H} (left : R → Option (List ℕ)) (first : Option (List ℕ)) where
@@ -32,7 +32,7 @@ module _ {R S H : Type 0} {builds : BuildHasher.Ghosts S H} {hashes : Hasher.Gho
   pub record IsTallying (reader : Entries R S H builds hashes) (tally : Tally S H) : Type 0 where
     pub given : List ℕ
     pub handed : List Entry
-    pub consumed : Consumes first (left reader.source.now) given
+    pub consumed : Consumes first (left (source_of reader)) given
     pub stands : StandsFor left reader given handed
     pub tallied : Tallies tally handed
 
@@ -40,8 +40,8 @@ module _ {R S H : Type 0} {builds : BuildHasher.Ghosts S H} {hashes : Hasher.Gho
   pub record HasTalliedAll (reader : Entries R S H builds hashes) (tally : Tally S H) : Type 0 where
     pub given : List ℕ
     pub handed : List Entry
-    pub consumed : Consumes first (left reader.source.now) given
-    pub ended : IsAtEnd (left reader.source.now)
+    pub consumed : Consumes first (left (source_of reader)) given
+    pub ended : IsAtEnd (left (source_of reader))
     pub typed : Typed given handed
     pub tallied : Tallies tally handed
 

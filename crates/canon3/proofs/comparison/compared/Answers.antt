@@ -1,10 +1,11 @@
 use Rattle.std.proofs.Common.{[]}
+use Rattle.std.proofs.lemmas.Result.{err_from_is_err_and}
 use Rattle.canon3.proofs.ComparisonLemmas.{fresh}
 use Rattle.canon3.proofs.comparison.compared.Goals as goal
 
-pub returns-in-Ok-clause-decides : goal.returns-in-Ok-clause-decides
-returns-in-Ok-clause-decides g c file other tells other_tells =
-    c.conclude.ensures.decides file other (c.in-Ok.ensures.found file other (record {
+pub returns-clause-decides : goal.returns-clause-decides
+returns-clause-decides g c file other tells other_tells =
+    c.conclude.ensures.decides file other (c.in_ok-finding.ensures.found file other (record {
       a = [];
       b = [];
       first_given = fresh g.A.Source.left file c.args.first.now tells c.requires.fresh_first;
@@ -12,12 +13,22 @@ returns-in-Ok-clause-decides g c file other tells other_tells =
       compared = c.requires.new;
     }))
 
-pub returns-clause-decides : goal.returns-clause-decides
-returns-clause-decides g c file other tells other_tells =
-    c.in-Err.ensures.found file other (record {
+pub returns-in_err-finding-clause-decides : goal.returns-in_err-finding-clause-decides
+returns-in_err-finding-clause-decides g c file other tells other_tells =
+    let p = err_from_is_err_and c.from_residual.result c.from_residual.ensures.1 in
+    rw (p.1, p.2) (c.in_err-finding.ensures.found file other (record {
       a = [];
       b = [];
       first_given = fresh g.A.Source.left file c.args.first.now tells c.requires.fresh_first;
       second_given = fresh g.B.Source.left other c.args.second.now other_tells c.requires.fresh_second;
       compared = c.requires.new;
-    })
+    }))
+
+pub returns-in_err-finding-clause-read_first : goal.returns-in_err-finding-clause-read_first
+returns-in_err-finding-clause-read_first g c = let p = err_from_is_err_and c.from_residual.result c.from_residual.ensures.1 in rw (p.1, p.2) c.in_err-finding.ensures.read_first
+
+pub returns-in_err-finding-clause-read_second : goal.returns-in_err-finding-clause-read_second
+returns-in_err-finding-clause-read_second g c = let p = err_from_is_err_and c.from_residual.result c.from_residual.ensures.1 in rw (p.1, p.2) c.in_err-finding.ensures.read_second
+
+pub returns-in_err-finding-clause-write : goal.returns-in_err-finding-clause-write
+returns-in_err-finding-clause-write g c = let p = err_from_is_err_and c.from_residual.result c.from_residual.ensures.1 in rw (p.1, p.2) c.in_err-finding.ensures.write

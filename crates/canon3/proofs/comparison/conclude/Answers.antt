@@ -1,4 +1,5 @@
 use Rattle.std.proofs.Common.{[], ◌∷◌, ◌++◌, subst, sym}
+use Rattle.capture3.specs.Entries.{source_of}
 use Rattle.canon3.specs.declared.verdict.Which.TheVariants.{First}
 use Rattle.canon3.specs.Comparison.{CountsReadingOf}
 use Rattle.canon3.specs.machinery.Comparison.{IsFound}
@@ -16,7 +17,7 @@ returns-in-Ended-clause-decides g c file other found =
 
 pub returns-in-Ended-clause-read_first : goal.returns-in-Ended-clause-read_first
 returns-in-Ended-clause-read_first g c =
-    let old = g.A.Source.failures c.args.first.now.source.now in
+    let old = g.A.Source.failures (source_of c.args.first.now) in
     subst (λ n. CountsReadingOf First old n c.read_second.result) (sym c.in-Ok.ensures.read) (c.read_second.ensures.never_first old)
 
 pub returns-in-Parted-clause-decides : goal.returns-in-Parted-clause-decides
@@ -31,7 +32,7 @@ returns-in-Parted-clause-decides g c file other found =
 
 pub returns-in-Parted-clause-read_first : goal.returns-in-Parted-clause-read_first
 returns-in-Parted-clause-read_first g c =
-    let old = g.A.Source.failures c.args.first.now.source.now in
+    let old = g.A.Source.failures (source_of c.args.first.now) in
     subst (λ n. CountsReadingOf First old n c.read_second-in-Parted.result) (sym c.in-Ok.ensures.read) (c.read_second-in-Parted.ensures.never_first old)
 
 pub returns-in-Refused-clause-decides : goal.returns-in-Refused-clause-decides

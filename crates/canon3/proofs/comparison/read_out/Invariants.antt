@@ -1,5 +1,5 @@
 use Rattle.std.proofs.Common.{◌≡◌, List, ℕ, None}
-use Rattle.capture3.specs.Entries.{failure_of}
+use Rattle.capture3.specs.Entries.{failure_of, loan_of, source_of}
 use Rattle.capture3.specs.machinery.Entries.{entries_left}
 use Rattle.capture3.specs.Entry.{Entry}
 use Rattle.canon3.specs.machinery.Comparison.{HasGivenOn}
@@ -9,8 +9,8 @@ abbrev pub invariant-loop : goal.invariant-loop
 invariant-loop g l = record {
   going : failure_of l.entries ≡ None;
   given : (file : List ℕ) (handed : List Entry) → HasGivenOn g.R.Source.left file l.fn.entries handed → HasGivenOn g.R.Source.left file l.entries handed;
-  read : g.R.Source.failures l.entries.source.now ≡ g.R.Source.failures l.fn.entries.source.now;
-  same_reference : l.entries.source.ghost_name ≡ l.fn.entries.source.ghost_name;
+  read : g.R.Source.failures (source_of l.entries) ≡ g.R.Source.failures (source_of l.fn.entries);
+  same_reference : loan_of l.entries ≡ loan_of l.fn.entries;
 }
 
 abbrev pub decreases-loop : goal.decreases-loop

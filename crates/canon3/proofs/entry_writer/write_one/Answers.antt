@@ -1,6 +1,6 @@
 use Rattle.canon3.proofs.entry_writer.write_one.Goals as goal
 
-pub returns-in-Ok-clause-writes : goal.returns-in-Ok-clause-writes
-returns-in-Ok-clause-writes g c old entries one of first few came told written =
-    let (goes, stands, more) = c.in-Ok.ensures.writes old entries one of first few came told written in
+pub returns-clause-writes : goal.returns-clause-writes
+returns-clause-writes g c old entries one of first few came told written =
+    let (goes, stands, more) = c.in_ok-write.ensures.writes old entries one of first few came told written in
     record { goes = goes; stands_for = stands; came = c.add.ensures.passed entries one of came; written = more }

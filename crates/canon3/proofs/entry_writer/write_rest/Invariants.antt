@@ -1,5 +1,5 @@
 use Rattle.std.proofs.Common.{◌≡◌, ◌≤◌, ◌+◌, List, ℕ, None, Option}
-use Rattle.capture3.specs.Entries.{failure_of}
+use Rattle.capture3.specs.Entries.{failure_of, loan_of, source_of}
 use Rattle.capture3.specs.machinery.Entries.{entries_left}
 use Rattle.capture3.specs.Laws.{most_entries}
 use Rattle.canon3.specs.machinery.EntryWriter.{IsWriting}
@@ -11,9 +11,9 @@ invariant-loop g l = record {
   going : failure_of l.entries ≡ None;
   room : passed_steps l.passed + entries_left l.entries ≤ most_entries;
   under_way : (first old : Option (List ℕ)) → IsWriting g.E.EntryWriter.form g.E.EntryWriter.before g.E.Visit.stands g.E.EntryWriter.going g.R.Source.left first old l.fn.entries l.fn.writer l.fn.passed (g.W.Sink.written l.fn.sink) → IsWriting g.E.EntryWriter.form g.E.EntryWriter.before g.E.Visit.stands g.E.EntryWriter.going g.R.Source.left first old l.entries l.writer l.passed (g.W.Sink.written l.sink);
-  read : g.R.Source.failures l.entries.source.now ≡ g.R.Source.failures l.fn.entries.source.now;
+  read : g.R.Source.failures (source_of l.entries) ≡ g.R.Source.failures (source_of l.fn.entries);
   write : g.W.Sink.failures l.sink ≡ g.W.Sink.failures l.fn.sink;
-  same_reference : l.entries.source.ghost_name ≡ l.fn.entries.source.ghost_name;
+  same_reference : loan_of l.entries ≡ loan_of l.fn.entries;
 }
 
 abbrev pub decreases-loop : goal.decreases-loop

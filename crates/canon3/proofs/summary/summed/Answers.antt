@@ -1,16 +1,19 @@
 use Rattle.std.proofs.Common.{[]}
+use Rattle.std.proofs.lemmas.Result.{err_from_is_err_and}
 use Rattle.std.proofs.KnownBytes.{Consumes-nil}
+use Rattle.capture3.specs.Entries.{source_of}
 use Rattle.canon3.proofs.SummaryLemmas.{summary_is}
 use Rattle.canon3.proofs.summary.summed.Goals as goal
 
-pub returns-in-Ok-clause-concludes : goal.returns-in-Ok-clause-concludes
-returns-in-Ok-clause-concludes g c =
-    let before = g.R.Source.left c.args.entries.now.source.now in
-    let done = c.in-Ok.ensures.over before (record { given = []; handed = []; consumed = Consumes-nil before; stands = c.requires.fresh; tallied = c.new-tally.ensures.tallies }) in
-    (done.given, done.consumed, (done.ended, summary_is done.given c.summary.result done.handed done.typed (c.summary.ensures done.handed done.tallied)))
-
 pub returns-clause-concludes : goal.returns-clause-concludes
 returns-clause-concludes g c =
-    let before = g.R.Source.left c.args.entries.now.source.now in
-    let failed = c.in-Err.ensures.over before (record { given = []; handed = []; consumed = Consumes-nil before; stands = c.requires.fresh; tallied = c.new-tally.ensures.tallies }) in
-    (failed.given, failed.consumed, (failed.handed, failed.met))
+    let before = g.R.Source.left (source_of c.args.entries.now) in
+    let done = c.in_ok-add_all.ensures.over before (record { given = []; handed = []; consumed = Consumes-nil before; stands = c.requires.fresh; tallied = c.new-tally.ensures.tallies }) in
+    (done.given, done.consumed, (done.ended, summary_is done.given c.summary.result done.handed done.typed (c.summary.ensures done.handed done.tallied)))
+
+pub returns-in_err-add_all-clause-concludes : goal.returns-in_err-add_all-clause-concludes
+returns-in_err-add_all-clause-concludes g c =
+    let before = g.R.Source.left (source_of c.args.entries.now) in
+    let failed = c.in_err-add_all.ensures.over before (record { given = []; handed = []; consumed = Consumes-nil before; stands = c.requires.fresh; tallied = c.new-tally.ensures.tallies }) in
+    let p = err_from_is_err_and c.from_residual.result c.from_residual.ensures.1 in
+    rw (p.1, p.2) (failed.given, failed.consumed, (failed.handed, failed.met))

@@ -1,5 +1,5 @@
 use Rattle.std.proofs.Common.{◌≡◌, ◌≤◌, ◌+◌, List, ℕ, None}
-use Rattle.capture3.specs.Entries.{failure_of}
+use Rattle.capture3.specs.Entries.{failure_of, loan_of, source_of}
 use Rattle.capture3.specs.machinery.Entries.{entries_left}
 use Rattle.capture3.specs.Laws.{most_entries}
 use Rattle.canon3.specs.machinery.Comparison.{IsComparing}
@@ -12,10 +12,10 @@ invariant-loop-finding g l = record {
   going_second : failure_of l.second ≡ None;
   room : steps_of l.self.progress + entries_left l.first ≤ most_entries;
   under_way : (file other : List ℕ) → IsComparing g.A.Source.left g.B.Source.left file other l.fn.first l.fn.second l.fn.self → IsComparing g.A.Source.left g.B.Source.left file other l.first l.second l.self;
-  read_first : g.A.Source.failures l.first.source.now ≡ g.A.Source.failures l.fn.first.source.now;
-  read_second : g.B.Source.failures l.second.source.now ≡ g.B.Source.failures l.fn.second.source.now;
-  same_first : l.first.source.ghost_name ≡ l.fn.first.source.ghost_name;
-  same_second : l.second.source.ghost_name ≡ l.fn.second.source.ghost_name;
+  read_first : g.A.Source.failures (source_of l.first) ≡ g.A.Source.failures (source_of l.fn.first);
+  read_second : g.B.Source.failures (source_of l.second) ≡ g.B.Source.failures (source_of l.fn.second);
+  same_first : loan_of l.first ≡ loan_of l.fn.first;
+  same_second : loan_of l.second ≡ loan_of l.fn.second;
 }
 
 abbrev pub decreases-loop-finding : goal.decreases-loop-finding

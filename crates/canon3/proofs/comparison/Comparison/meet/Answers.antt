@@ -1,12 +1,12 @@
 use Rattle.std.proofs.Common.{Ok, Err, subst, sym}
 use Rattle.capture3.specs.Entry.{items_of}
-use Rattle.canon3.specs.machinery.Comparison.{Compares, Meets}
+use Rattle.canon3.specs.machinery.Comparison.{Meets}
 use Rattle.canon3.specs.machinery.MessageWriter.{WriterStands}
-use Rattle.canon3.proofs.ComparisonLemmas.{Hands, hands, not_ended, refused_meets, told_second, with_second}
+use Rattle.canon3.proofs.ComparisonLemmas.{compared_meets, Hands, hands, not_ended, refused_meets, told_second, with_second}
 use Rattle.canon3.proofs.comparison.Comparison.meet.Goals as goal
 
-pub returns-in-Ok-None-compare-clause-meets : goal.returns-in-Ok-None-compare-clause-meets
-returns-in-Ok-None-compare-clause-meets g c file other a b e of first few so_far h =
+pub returns-in_ok-compare-in-Ok-Some-clause-meets : goal.returns-in_ok-compare-in-Ok-Some-clause-meets
+returns-in_ok-compare-in-Ok-Some-clause-meets g c file other a b e of first few so_far h =
     let left = g.B.Source.left in
     let old = c.args.second.now in
     let new = c.next.new.self in
@@ -14,18 +14,7 @@ returns-in-Ok-None-compare-clause-meets g c file other a b e of first few so_far
     let now = c.next.new.visitor in
     let (f, is, second, other_few, adds, given) = subst (λ next. Hands left (WriterStands {S = g.row.S.Denot} {H = g.row.S-Hasher.Denot}) other old new was now b (Ok next)) c.in-Ok-Some.field-0-is (hands left (WriterStands {S = g.row.S.Denot} {H = g.row.S-Hasher.Denot}) other old new was now b h (Ok c.in-Ok-Some.field-0) (c.in-Ok-Some.ensures.answers h.given b h.stands)) in
     let both = told_second c.args.self.now a b now (items_of e) (items_of f) adds so_far in
-    record { f = f; given = given; compared = subst (λ place. Compares c.compare.new.self a b e f place) c.in-Ok-None-compare.field-0-is (c.in-Ok-None-compare.ensures.compares a b e f of is first second few other_few both) }
-
-pub returns-in-Ok-Some-compare-clause-meets : goal.returns-in-Ok-Some-compare-clause-meets
-returns-in-Ok-Some-compare-clause-meets g c file other a b e of first few so_far h =
-    let left = g.B.Source.left in
-    let old = c.args.second.now in
-    let new = c.next.new.self in
-    let was = c.args.self.now.second in
-    let now = c.next.new.visitor in
-    let (f, is, second, other_few, adds, given) = subst (λ next. Hands left (WriterStands {S = g.row.S.Denot} {H = g.row.S-Hasher.Denot}) other old new was now b (Ok next)) c.in-Ok-Some.field-0-is (hands left (WriterStands {S = g.row.S.Denot} {H = g.row.S-Hasher.Denot}) other old new was now b h (Ok c.in-Ok-Some.field-0) (c.in-Ok-Some.ensures.answers h.given b h.stands)) in
-    let both = told_second c.args.self.now a b now (items_of e) (items_of f) adds so_far in
-    record { f = f; given = given; parts = subst (λ place. Compares c.compare.new.self a b e f place) c.in-Ok-Some-compare.field-0-is (c.in-Ok-Some-compare.ensures.compares a b e f of is first second few other_few both) }
+    compared_meets left file other new c.compare.new.self a b e f given c.in_ok-compare-in-Ok-Some.field-0 c.map.result c.map.ensures.cases (c.in_ok-compare-in-Ok-Some.ensures.compares a b e f of is first second few other_few both)
 
 pub returns-in-Ok-None-clause-meets : goal.returns-in-Ok-None-clause-meets
 returns-in-Ok-None-clause-meets g c file other a b e of first few so_far h =

@@ -7,6 +7,6 @@ use Rattle.canon3.proofs.message_writer.MessageWriter.write_verifier.Goals as go
 pub returns : goal.returns
 returns g c = record {
   ok = still_ok c.write_verf.result
-      (adds_verifier c.args.self.now c.write_verf.new.self c.number_of.new.self c.args.name.now c.args.bytes.now c.write_u64.new.buf c.in-Ok.number (c.write_u64.ensures ∙ ap (λ n. big_bytes 8 n ++ []) c.from.ensures) c.in-Ok.ensures.number c.in-Ok.ensures.given)
+      (adds_verifier c.args.self.now c.write_verf.new.self c.number_of.new.self c.args.name.now c.args.bytes.now c.write_u64.new.buf c.in_ok-number.number (c.write_u64.ensures ∙ ap (λ n. big_bytes 8 n ++ []) c.from.ensures) c.in_ok-number.ensures.number c.in_ok-number.ensures.given)
       c.write_verf.ensures.ok;
 }

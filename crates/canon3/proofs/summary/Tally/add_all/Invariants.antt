@@ -1,5 +1,5 @@
 use Rattle.std.proofs.Common.{◌≡◌, ◌≤◌, ◌+◌, List, ℕ, None, Option}
-use Rattle.capture3.specs.Entries.{failure_of}
+use Rattle.capture3.specs.Entries.{failure_of, loan_of, source_of}
 use Rattle.capture3.specs.machinery.Entries.{entries_left}
 use Rattle.capture3.specs.Laws.{most_entries}
 use Rattle.canon3.specs.Passed.{passed_steps}
@@ -11,8 +11,8 @@ invariant-loop g l = record {
   going : failure_of l.entries ≡ None;
   room : passed_steps l.self.passed + entries_left l.entries ≤ most_entries;
   under_way : (first : Option (List ℕ)) → IsTallying g.R.Source.left first l.fn.entries l.fn.self → IsTallying g.R.Source.left first l.entries l.self;
-  read : g.R.Source.failures l.entries.source.now ≡ g.R.Source.failures l.fn.entries.source.now;
-  same_reference : l.entries.source.ghost_name ≡ l.fn.entries.source.ghost_name;
+  read : g.R.Source.failures (source_of l.entries) ≡ g.R.Source.failures (source_of l.fn.entries);
+  same_reference : loan_of l.entries ≡ loan_of l.fn.entries;
 }
 
 abbrev pub decreases-loop : goal.decreases-loop

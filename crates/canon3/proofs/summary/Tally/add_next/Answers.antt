@@ -1,22 +1,24 @@
 use Rattle.std.proofs.Common.{List, Ok, [], ◌∷◌, ◌++◌, subst, sym}
+use Rattle.std.proofs.lemmas.Result.{err_from_is_err_and}
 use Rattle.std.proofs.KnownBytes.{Consumes-trans}
 use Rattle.xdr3.specs.Item.{Item}
 use Rattle.xdr3.specs.Visit.{Adds}
+use Rattle.capture3.specs.Entries.{source_of}
 use Rattle.canon3.specs.HandleTable.{Gathers}
 use Rattle.canon3.specs.machinery.Summary.{all_items}
 use Rattle.capture3.specs.Handing.{HandsOut}
 use Rattle.canon3.proofs.SummaryLemmas.{items_behind}
 use Rattle.canon3.proofs.summary.Tally.add_next.Goals as goal
 
-pub returns-in-Ok-Some-clause-goes_on : goal.returns-in-Ok-Some-clause-goes_on
+pub returns-in-Some-clause-goes_on : goal.returns-in-Some-clause-goes_on
 unfolding Adds
-returns-in-Ok-Some-clause-goes_on g c first u =
-    let a = c.in-Ok-Some.ensures.answers u.given u.handed u.stands in
-    let (one, is, reached, adds, stands) = subst (λ next. HandsOut g.R.Source.left (λ table items. Gathers table.numbers items) c.next.new.self c.args.self.now.handles c.next.new.visitor (u.given ++ a.more) u.handed (Ok next)) c.in-Ok-Some.field-0-is a.hands_out in
+returns-in-Some-clause-goes_on g c first u =
+    let a = c.in_ok-kind.ensures.answers u.given u.handed u.stands in
+    let (one, is, reached, adds, stands) = subst (λ next. HandsOut g.R.Source.left (λ table items. Gathers table.numbers items) c.next.new.self c.args.self.now.handles c.next.new.visitor (u.given ++ a.more) u.handed (Ok next)) c.in-Some.is a.hands_out in
     record {
       given = u.given ++ a.more;
       handed = u.handed ++ one ∷ [];
-      consumed = Consumes-trans first (g.R.Source.left c.args.entries.now.source.now) (g.R.Source.left c.next.new.self.source.now) u.given a.more u.consumed a.consumed;
+      consumed = Consumes-trans first (g.R.Source.left (source_of c.args.entries.now)) (g.R.Source.left (source_of c.next.new.self)) u.given a.more u.consumed a.consumed;
       stands = stands;
       tallied = record {
         passed = c.add.ensures.passed u.handed one is u.tallied.passed;
@@ -24,12 +26,13 @@ returns-in-Ok-Some-clause-goes_on g c first u =
       };
     }
 
-pub returns-in-Err-clause-goes_on : goal.returns-in-Err-clause-goes_on
-returns-in-Err-clause-goes_on g c first u =
-    let a = c.in-Err.ensures.answers u.given u.handed u.stands in
-    record {
+pub returns-in_err-kind-clause-goes_on : goal.returns-in_err-kind-clause-goes_on
+returns-in_err-kind-clause-goes_on g c first u =
+    let a = c.in_err-kind.ensures.answers u.given u.handed u.stands in
+    let p = err_from_is_err_and c.from_residual.result c.from_residual.ensures.1 in
+    rw (p.1, p.2) (record {
       given = u.given ++ a.more;
       handed = u.handed;
-      consumed = Consumes-trans first (g.R.Source.left c.args.entries.now.source.now) (g.R.Source.left c.next.new.self.source.now) u.given a.more u.consumed a.consumed;
+      consumed = Consumes-trans first (g.R.Source.left (source_of c.args.entries.now)) (g.R.Source.left (source_of c.next.new.self)) u.given a.more u.consumed a.consumed;
       met = a.hands_out.0;
-    }
+    })
