@@ -1,5 +1,5 @@
 -- From what was handed out to what a capture has.
-use Rattle.std.proofs.Common.{◌≡◌, ◌≤◌, ⊎_elim, ℕ, ◌+◌, Bool, true, false, cond, min, Option, None, Some, Result, Ok, Err, IfOk, IfErr, List, [], ◌∷◌, ◌++◌, count_by, length, refl, sym, ap, subst, ◌∙◌, append-nil, arith}
+use Rattle.std.proofs.Common.{◌≡◌, ◌≤◌, ⊎_elim, ℕ, ◌+◌, Bool, true, false, cond, min, Option, None, Some, Result, Ok, Err, IfOk, List, [], ◌∷◌, ◌++◌, count_by, length, refl, sym, ap, subst, ◌∙◌, append-nil, arith}
 use Rattle.std.specs.Prelude.{bytes_eq}
 use Rattle.std.specs.Cmp.Lexicographic.{nat_list_eq_equiv}
 use Rattle.std.specs.Io.KnownBytes.{Consumes, IsAtEnd}
@@ -9,10 +9,10 @@ use Rattle.std.proofs.lemmas.List.Sums.{sum_by-append, sum_by-cons}
 use Rattle.std.specs.declared.hash.BuildHasher as BuildHasher
 use Rattle.std.specs.declared.hash.Hasher as Hasher
 use Rattle.xdr3.specs.Item.{Item}
+use Rattle.capture3.specs.Entries.{OnRefused}
 use Rattle.capture3.specs.declared.reader.entries.Entries.{Entries}
 use Rattle.capture3.specs.declared.fault.Error.{Error}
 use Rattle.capture3.specs.declared.fault.Error.TheVariants as errors
-use Rattle.capture3.specs.declared.fault.Fault.{Fault}
 use Rattle.capture3.specs.Entry.{Entry, Begin, Call, Turn, Reply, Close, End, items_of}
 use Rattle.capture3.specs.FirstFault.{FirstFault}
 use Rattle.capture3.specs.Reached.{Reached}
@@ -124,24 +124,18 @@ rest_of bytes given None consumed = absurd consumed
 rest_of bytes given (Some rest) consumed = (rest, refl, consumed)
 
 -- the fault that is met is the first of all bytes
-pub faults_of : (bytes : List ℕ) (old new : Option (List ℕ)) (result : Result Summary Error) → old ≡ Some bytes → ConcludesGiven old new result
-    → IfErr result (λ error. (fault : Fault) → error ≡ errors.Refused fault → FirstFault bytes fault)
+pub faults_of : (bytes : List ℕ) (old new : Option (List ℕ)) (result : Result Summary Error) → old ≡ Some bytes → ConcludesGiven old new result → OnRefused result (FirstFault bytes)
 faults_of bytes old new (Ok summary) tells c = tt
 faults_of bytes old new (Err (errors.Refused met)) tells (given, consumed, (entries, is)) =
     let from = subst (λ (o : Option (List ℕ)). Consumes o new given) tells consumed in
     let r = rest_of bytes given new from in
-    let first : FirstFault bytes met =
     ⊎_elim
     (λ (shown : (rest : List ℕ) → FirstFault (given ++ rest) met × Reached (given ++ rest) entries). subst (λ (b : List ℕ). FirstFault b met) (sym r.2) (shown r.0).0)
     (λ (shown : IsAtEnd new × FirstFault given met × Reached given entries). subst (λ (b : List ℕ). FirstFault b met) (Consumes-all (Some bytes) new given [] given from shown.0 refl) shown.1)
-    is in
-    λ fault e. subst (λ (f : Fault). FirstFault bytes f) (refused_is met fault e) first
-  where
-    refused_is : (met fault : Fault) → errors.Refused met ≡ errors.Refused fault → met ≡ fault
-    refused_is met fault e = cc
-faults_of bytes old new (Err errors.Read) tells c = λ fault e. absurd (cc)
-faults_of bytes old new (Err errors.Write) tells c = λ fault e. absurd (cc)
-faults_of bytes old new (Err errors.Memory) tells c = λ fault e. absurd (cc)
+    is
+faults_of bytes old new (Err errors.Read) tells c = tt
+faults_of bytes old new (Err errors.Write) tells c = tt
+faults_of bytes old new (Err errors.Memory) tells c = tt
 
 -- before any byte was read
 pub nothing_concluded : (left : Option (List ℕ)) → ConcludesGiven left left (Err errors.Memory)

@@ -1,8 +1,7 @@
 // Whether a capture is well formed, and what it has.
 
 ghost use Rattle.std.specs.Prelude.{◌≡◌, ◌≢◌, ◌<◌, ◌≤◌, ◌+◌, ℕ, List, [], Option, None, Some, IfErr, IfOk, IsTrue, OnOk};
-ghost use Rattle.capture3.specs.declared.fault.Fault.{Fault};
-ghost use Rattle.capture3.specs.Entries.{CountsReading, CountsReads, failure_of, loan_of, source_of};
+ghost use Rattle.capture3.specs.Entries.{CountsReading, CountsReads, failure_of, loan_of, OnRefused, source_of};
 ghost use Rattle.capture3.specs.machinery.Entries.{entries_left, StandsFor};
 ghost use Rattle.capture3.specs.Entry as spec;
 ghost use Rattle.capture3.specs.FirstFault.{FirstFault};
@@ -41,8 +40,7 @@ pub fn check<R: Source, S: BuildHasher + Drop>(
 ) -> Result<Summary, Error>
     ensures ok { (bytes : List ℕ) → R.left source.old ≡ Some bytes → IfOk result (IsSummary bytes) }
     ensures refused { (bytes : List ℕ) → R.left source.old ≡ Some bytes
-        → IfErr result (λ error. (fault : Fault) → error ≡ Error.Refused fault
-        → FirstFault bytes fault) }
+        → OnRefused result (FirstFault bytes) }
     ensures concludes { ConcludesGiven (R.left source.old) (R.left source.new) result }
     ensures read { CountsReading (R.failures source.old) (R.failures source.new) result }
     ensures write { IfErr result (λ error. error ≢ Error.Write) }

@@ -22,7 +22,6 @@ use Rattle.capture3.specs.declared.container.position.Event.{Event}
 use Rattle.capture3.specs.declared.container.position.Event.TheVariants.{Begin, Record, Turn, Close}
 use Rattle.capture3.specs.declared.container.position.Position.{Position}
 use Rattle.capture3.specs.declared.container.position.Spot.{Spot}
-use Rattle.capture3.specs.declared.container.position.Spot.TheVariants as spots
 use Rattle.capture3.specs.Bodies.{ReplyItems, procedure_of, xid_in}
 use Rattle.capture3.specs.machinery.Calls.{found, with_numbered_call}
 use Rattle.capture3.specs.Connections.{refusal}

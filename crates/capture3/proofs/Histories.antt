@@ -26,7 +26,7 @@ use Rattle.capture3.specs.declared.container.position.Spot.{Spot}
 use Rattle.capture3.specs.declared.container.position.Spot.TheVariants as spots
 use Rattle.capture3.specs.declared.container.Container.{Container}
 use Rattle.capture3.specs.declared.container.Cursor.{Cursor}
-use Rattle.capture3.specs.Capture.{Version, One, Two, max_connections}
+use Rattle.capture3.specs.Capture.{Two, max_connections}
 use Rattle.capture3.specs.machinery.Container.{AreStored, IsReady, IsStored, room_in, unpacking_of}
 use Rattle.capture3.specs.declared.fault.Fault.{Fault}
 use Rattle.capture3.specs.Entries.{AreAllBeforeEnd, IsMetBy, IsShownBy, failure_in, failure_of}

@@ -1,5 +1,5 @@
 -- A whole file: from where its machine stands to what is to be said of it.
-use Rattle.std.proofs.Common.{◌≡◌, ◌≢◌, ℕ, zero, suc, ◌+◌, ◌-◌, Option, Some, None, take-append-drop, List, [], ◌∷◌, ◌++◌, length, take, take_all, drop, length-drop, append-nil, arith, refl, sym, ap, ◌∙◌, subst, Ok, Err, Bool, false, is_some}
+use Rattle.std.proofs.Common.{Result, ◌≡◌, ℕ, zero, suc, ◌+◌, ◌-◌, Option, Some, None, take-append-drop, List, [], ◌∷◌, ◌++◌, length, take, take_all, drop, length-drop, append-nil, arith, refl, sym, ap, ◌∙◌, subst, Ok, Err, Bool, false, is_some}
 use Rattle.xdr3.specs.declared.reason.Reason.TheVariants.{CaptureCut}
 use Rattle.xdr3.specs.Item.{AreBytes, Item}
 use Rattle.record_mark.specs.Joining.{Joining}
@@ -10,7 +10,6 @@ use Rattle.capture3.specs.declared.reader.entry.Entry.TheVariants as variants
 use Rattle.capture3.specs.declared.reader.entry.Kind.{Kind}
 use Rattle.capture3.specs.declared.fault.Error.{Error}
 use Rattle.capture3.specs.declared.fault.Error.TheVariants as errors
-use Rattle.capture3.specs.declared.fault.Fault.{Fault}
 use Rattle.capture3.specs.declared.fault.Side.TheVariants.{Client, Server}
 use Rattle.capture3.specs.declared.container.position.Position.{Position}
 use Rattle.capture3.specs.declared.container.position.Spot.{Spot}
@@ -26,6 +25,7 @@ use Rattle.capture3.specs.machinery.Judges.{StandsAt, StandsOrRecalls, HasCome, 
 use Rattle.capture3.specs.Kept.{IsKept, AreKept, begun}
 use Rattle.capture3.specs.Laws.{begins}
 use Rattle.capture3.specs.Parsing.{concluded, verdict_of}
+use Rattle.capture3.specs.Entries.{OnRefused}
 use Rattle.capture3.specs.machinery.Position.{opened_at, version_of, IsEnded}
 use Rattle.capture3.specs.machinery.Recalled.{ShowsFirst}
 use Rattle.capture3.specs.machinery.Resumed.{Judged, resumed_at, emitted_at}
@@ -118,9 +118,6 @@ module _ (bytes : List ℕ) (p : Position) (t : Taking) (streams : Streams) (tab
       (ap (verdict_of (length bytes)) s.stands
       ∙ cut_concludes (length bytes) p.at p.total p.connections (unpacking_of p t streams).joining opened_here s.so_far (λ version e. not (ended_only version streams p.spot p.at e)))
 
-pub refused_is : (fault other : Fault) → errors.Refused fault ≡ errors.Refused other → fault ≡ other
-refused_is fault other e = cc
-
 -- the bytes taken, and the rest
 taken_whole : (bytes : List ℕ) (n : ℕ) → take n bytes ++ take (length bytes - n) (drop n bytes) ≡ bytes
 taken_whole bytes n =
@@ -128,25 +125,16 @@ taken_whole bytes n =
     ap (λ (b : List ℕ). take n bytes ++ b) rest ∙ take-append-drop n bytes
 
 -- a fault along the bytes at hand is the file's first
-pub first_fault : (bytes : List ℕ) (n : ℕ) (entries : List Entry) (error : Error) (fault : Fault) → AreBytes bytes → FailsAt (take n bytes ++ take (length bytes - n) (drop n bytes)) entries error → error ≡ errors.Refused fault → FirstFault bytes fault
-first_fault bytes n entries (errors.Refused met) fault are f e =
-    let shows : ShowsFirst bytes entries met = subst (λ (b : List ℕ). ShowsFirst b entries met) (taken_whole bytes n) f in
-    subst (λ (b : List ℕ). FirstFault b fault) (append-nil bytes) (subst (FirstFault (bytes ++ [])) (refused_is met fault e) (first_of bytes [] entries met are shows).0)
-first_fault bytes n entries errors.Read fault are f e = absurd (cc)
-first_fault bytes n entries errors.Write fault are f e = absurd (cc)
-first_fault bytes n entries errors.Memory fault are f e = absurd (cc)
-
-pub never_reads : (bytes : List ℕ) (entries : List Entry) (error : Error) → FailsAt bytes entries error → error ≢ errors.Read
-never_reads bytes entries (errors.Refused met) f = λ e. cc
-never_reads bytes entries errors.Read f = absurd f
-never_reads bytes entries errors.Write f = absurd f
-never_reads bytes entries errors.Memory f = λ e. cc
-
-pub never_writes : (bytes : List ℕ) (entries : List Entry) (error : Error) → FailsAt bytes entries error → error ≢ errors.Write
-never_writes bytes entries (errors.Refused met) f = λ e. cc
-never_writes bytes entries errors.Read f = absurd f
-never_writes bytes entries errors.Write f = absurd f
-never_writes bytes entries errors.Memory f = λ e. cc
+pub first_fault : {X : Type 0} (r : Result X Error) (bytes : List ℕ) (n : ℕ) (entries : List Entry) (error : Error) → r ≡ Err error → AreBytes bytes → FailsAt (take n bytes ++ take (length bytes - n) (drop n bytes)) entries error → OnRefused r (FirstFault bytes)
+first_fault (Ok x) bytes n entries error is are f = tt
+first_fault (Err (errors.Refused fault)) bytes n entries error is are f =
+    let same : error ≡ errors.Refused fault = cc in
+    let met : FailsAt (take n bytes ++ take (length bytes - n) (drop n bytes)) entries (errors.Refused fault) = subst (λ (e : Error). FailsAt (take n bytes ++ take (length bytes - n) (drop n bytes)) entries e) same f in
+    let shows : ShowsFirst bytes entries fault = subst (λ (b : List ℕ). ShowsFirst b entries fault) (taken_whole bytes n) met in
+    subst (λ (b : List ℕ). FirstFault b fault) (append-nil bytes) (first_of bytes [] entries fault are shows).0
+first_fault (Err errors.Read) bytes n entries error is are f = tt
+first_fault (Err errors.Write) bytes n entries error is are f = tt
+first_fault (Err errors.Memory) bytes n entries error is are f = tt
 
 -- ---- along the bytes
 

@@ -2,7 +2,7 @@
 use Rattle.std.proofs.Math.Seq.{drop-cons, take-suc}
 use Rattle.std.proofs.lemmas.Bool.{ne_eqb}
 use Rattle.record_mark.proofs.Machines.{after-append}
-use Rattle.std.proofs.Common.{◌≢◌, drop, get_or, add-one, eq-eqb, Result, Ok, Err, IfOk, ◌≡◌, ℕ, zero, suc, ◌+◌, ◌<◌, ◌≤◌, List, [], ◌∷◌, length, take, refl, ap, ◌∙◌, arith, length-take, cond, lt-ltb, le-ltb}
+use Rattle.std.proofs.Common.{◌≢◌, drop, get_or, add-one, eq-eqb, Result, Ok, Err, IfOk, ◌≡◌, ℕ, zero, suc, ◌+◌, ◌<◌, ◌≤◌, List, [], ◌∷◌, length, take, refl, ap, ◌∙◌, arith, cond, lt-ltb, le-ltb}
 use Rattle.xdr3.specs.declared.reason.Reason.TheVariants.{BadMagic, BadMark, TooManyBytes, TooManyConnections}
 use Rattle.record_mark.specs.Machine.{Next, Goes, Ends, Runs, after, landed}
 use Rattle.record_mark.specs.Joining.{Joining}

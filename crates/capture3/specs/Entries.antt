@@ -21,6 +21,11 @@ abbrev pub CountsReading : {X : Type 0} → ℕ → ℕ → Result X Error → T
 CountsReading old new (Err errors.Read) = new ≡ min (old + 1) (2 ^ 64 - 1)
 CountsReading old new _ = new ≡ old
 
+-- what a refusal says of its fault; no other answer says anything
+abbrev pub OnRefused : {X : Type 0} → Result X Error → (Fault → Type 0) → Type 0
+OnRefused (Err (errors.Refused fault)) Says = Says fault
+OnRefused _ Says = Unit {0}
+
 -- all entries that the bytes reach, without the capture's end
 abbrev pub AreAllBeforeEnd : List ℕ → List Entry → Type 0
 AreAllBeforeEnd bytes entries = Typed bytes (entries ++ End ∷ []) ⊎ ((IsWellFormed bytes → ⊥) × Reached bytes entries)

@@ -1,5 +1,5 @@
 -- The limits that a position keeps, and what each of its steps does.
-use Rattle.std.specs.Prelude.{◌≡◌, ◌≢◌, ◌≤◌, ◌<◌, ℕ, ◌+◌, ◌-◌, ◌*◌, Option, Some, None, Result, Ok, Err, List, [], ◌++◌, length, take, drop}
+use Rattle.std.specs.Prelude.{◌≡◌, ◌≢◌, ◌≤◌, ◌<◌, ℕ, ◌+◌, ◌-◌, ◌*◌, Option, Some, None, Result, Ok, Err, List, [], length, take, drop}
 use Rattle.record_mark.specs.Machine.{Next, Ends, Run, Runs, Stops, after, landed}
 use Rattle.record_mark.specs.Joining.{Joining, Between}
 use Rattle.record_mark.specs.Taking.{joined_body}

@@ -1,9 +1,9 @@
 // A whole capture in memory.
 
 ghost use Rattle.std.specs.Prelude.{◌≡◌, ◌≢◌, ◌≤◌, ℕ, List, IfErr, IfOk, vec_len};
-ghost use Rattle.capture3.specs.declared.fault.Fault.{Fault};
 ghost use Rattle.capture3.specs.Capture.{max_connections};
 ghost use Rattle.capture3.specs.Chunks.{max_bytes};
+ghost use Rattle.capture3.specs.Entries.{OnRefused};
 ghost use Rattle.capture3.specs.Entry as spec;
 ghost use Rattle.capture3.specs.FirstFault.{FirstFault};
 ghost use Rattle.capture3.specs.Kept.{AreKept, begun};
@@ -28,8 +28,7 @@ pub fn parse(alloc: Global, bytes: &[u8]) -> Result<Vec<Entry>, Error>
     ensures entries { IfOk result
         (λ kept. (entries : List spec.Entry) × Typed bytes.now entries
         × AreKept kept.items entries) }
-    ensures fault { IfErr result (λ error. (fault : Fault) → error ≡ Error.Refused fault
-        → FirstFault bytes.now fault) }
+    ensures fault { OnRefused result (FirstFault bytes.now) }
     ensures read { IfErr result (λ error. error ≢ Error.Read) }
     ensures write { IfErr result (λ error. error ≢ Error.Write) }
     ensures connections { IfOk result (λ kept. begun kept.items ≤ max_connections) }

@@ -1,12 +1,10 @@
-use Rattle.std.proofs.Common.{Option, arith, ap, subst, sym, ◌≡◌, ◌∙◌, ◌++◌, ◌-◌, [], ◌∷◌, take, take_all, drop, length, length-take, length-drop, refl}
-use Rattle.capture3.specs.declared.fault.Fault.{Fault}
+use Rattle.std.proofs.Common.{Err, Option, arith, ap, subst, ◌≡◌, ◌∙◌, ◌++◌, ◌-◌, [], ◌∷◌, take, take_all, drop, length, length-take, length-drop, refl}
 use Rattle.capture3.specs.Entry.{End}
-use Rattle.capture3.specs.FirstFault.{FirstFault}
 use Rattle.capture3.specs.declared.reader.entry.Kind.{Kind}
 use Rattle.capture3.specs.machinery.Judges.{entry_cost, SpellsLast}
 use Rattle.capture3.proofs.Limits.{typed_within}
 use Rattle.capture3.proofs.PassedOn.{error_is}
-use Rattle.capture3.proofs.Parsed.{begun_is, cut_at, first_fault, judged_all, kept_snoc, keeps_more, keeps_on, never_reads, never_writes, not_recalling, refused_is, typed_at}
+use Rattle.capture3.proofs.Parsed.{begun_is, cut_at, first_fault, judged_all, kept_snoc, keeps_more, keeps_on, not_recalling, typed_at}
 use Rattle.capture3.proofs.reader.whole.parse.Goals as goal
 
 pub loop-taken-preserved-in-Continue-branch-3 : goal.loop-taken-preserved-in-Continue-branch-3
@@ -46,9 +44,8 @@ loop-taken-preserved c =
 
 pub returns-in_err-count-clause-fault : goal.returns-in_err-count-clause-fault
 returns-in_err-count-clause-fault c =
-    rw (error_is _ _ c.from_residual.ensures)
-    (λ fault e. first_fault c.args.bytes.now c.loop-taken.taken c.loop-taken.invariant.machine.0 c.in_err-count.field-0.0 fault (λ i. omega (arith, c.type_inv.bytes i))
-    (c.in_err-count.ensures.fault (take c.loop-taken.taken c.args.bytes.now) c.loop-taken.invariant.machine.0 c.loop-taken.invariant.machine.1) e)
+    first_fault c.from_residual.result c.args.bytes.now c.loop-taken.taken c.loop-taken.invariant.machine.0 c.in_err-count.field-0.0 (error_is _ _ c.from_residual.ensures) (λ i. omega (arith, c.type_inv.bytes i))
+    (c.in_err-count.ensures.fault (take c.loop-taken.taken c.args.bytes.now) c.loop-taken.invariant.machine.0 c.loop-taken.invariant.machine.1)
 
 pub returns-clause-entries : goal.returns-clause-entries
 returns-clause-entries c =
@@ -72,8 +69,7 @@ returns-in_err-end-clause-fault c =
     let invariant = c.loop-taken.invariant in
     let all : take c.loop-taken.taken c.args.bytes.now ≡ c.args.bytes.now = take_all c.loop-taken.taken c.args.bytes.now (omega (arith, c.if-taken-bytes.false)) in
     let met = cut_at c.args.bytes.now _ _ _ _ invariant.machine.0 (λ i. omega (arith, c.type_inv.bytes i)) (judged_all _ _ _ _ _ all (not_recalling _ _ c.is_recalling.ensures c.if-is_recalling.false) invariant.machine.1) c.in_err-end.ensures.err.0 in
-    rw (error_is _ _ c.from_residual-in_err-end.ensures)
-    (λ fault e. subst (λ (f : Fault). FirstFault c.args.bytes.now f) (refused_is _ fault (sym c.in_err-end.ensures.err.1 ∙ e)) met)
+    rw (error_is _ _ c.from_residual-in_err-end.ensures ∙ ap Err c.in_err-end.ensures.err.1) met
 
 pub lend-requires : goal.lend-requires
 lend-requires c =
