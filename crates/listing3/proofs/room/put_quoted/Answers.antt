@@ -1,7 +1,7 @@
 use Rattle.std.proofs.Common.{◌∙◌, arith}
 use Rattle.std.proofs.lemmas.Grind.{common_steps}
 use Rattle.listing3.proofs.Rooms.{kept_below}
-use Rattle.listing3.proofs.text.put_quoted.Goals as goal
+use Rattle.listing3.proofs.room.put_quoted.Goals as goal
 
 pub loop-byte-preserved : goal.loop-byte-preserved
 loop-byte-preserved c =
