@@ -2,11 +2,10 @@
 #![tactic(auto)]
 
 pub mod examples;
-mod head_text;
-mod item_text;
 pub mod laws;
+mod line_text;
 mod line_writer;
 mod listing;
-mod text;
+mod room;
 
 pub use listing::show;

@@ -18,8 +18,7 @@ ghost use Rattle.canon3.specs.SinkWrites.{AppendsFront};
 ghost use Rattle.listing3.specs.machinery.LineWriter.{after_front, LineStands};
 ghost use Rattle.listing3.specs.Listing.{entry_line, line, opening, prefix, procedure_name};
 
-use crate::head_text::HeadText;
-use crate::item_text::ItemText;
+use crate::line_text::LineText;
 use canon3::{EntryWriter, HandleTable, Passed, Sink, write_all};
 use capture3::{DeviceFailed, Error, Kind};
 use procs3::proc_name;
@@ -35,8 +34,9 @@ pub(crate) struct LineWriter<S: BuildHasher + Drop> {
     pub(crate) handles: HandleTable<S>,
     // The xid, once it was told, and the text of the items after it.
     xid: Option<u32>,
-    items: ItemText,
-    head: HeadText,
+    items: LineText,
+    // The text before the items.
+    head: LineText,
 }
 
 /// The procedure's name, and `RAW` where it has none.
@@ -69,8 +69,8 @@ impl<S: BuildHasher + Drop> LineWriter<S> {
         LineWriter {
             handles: HandleTable::new(alloc, hasher),
             xid: None,
-            items: ItemText::new(alloc),
-            head: HeadText::new(alloc),
+            items: LineText::new(alloc),
+            head: LineText::new(alloc),
         }
     }
 
@@ -91,13 +91,9 @@ impl<S: BuildHasher + Drop> LineWriter<S> {
         ensures err { OnErr result (Keeps LineStands self.old self.new) }
     {
         let before = self.items.bytes().len();
-        match self.items.append_hex(name, bytes) {
-            Ok(()) => {
-                let gathered = self.handles.handle(name, bytes);
-                self.items.settle(before, gathered)
-            }
-            Err(error) => Err(error),
-        }
+        self.items.append_hex(name, bytes)?;
+        let gathered = self.handles.handle(name, bytes);
+        self.items.settle(before, gathered)
     }
 
     /// Composes the line of the message whose items were told.
@@ -116,7 +112,10 @@ impl<S: BuildHasher + Drop> LineWriter<S> {
             ++ ((opening (codes "xid") ++ decimal xid) ++ (32 ∷ procedure_name id))) }
         ensures items { OnOk result (self.new.items ≡ self.old.items ++ 10 ∷ []) }
     {
-        self.head.write(passed, side, xid, name_of_procedure(id))?;
+        self.head.forget();
+        self.head
+            .append_prefix(passed.connections(), side, passed.records() + 1)?;
+        self.head.append_xid_and_name(xid, name_of_procedure(id))?;
         self.items.end_line()
     }
 

@@ -2,6 +2,7 @@ use Rattle.std.proofs.Common.{[], ◌∷◌, ◌++◌, ap, length}
 use Rattle.hex.specs.Hex.{encode_lower}
 use Rattle.xdr3.specs.Item.{Handle, Opaque}
 use Rattle.xdr3.specs.Visit.{Adds, Keeps}
+use Rattle.xdr3.proofs.Walks.{on_err}
 use Rattle.canon3.proofs.HandleTableLemmas.{still_ok}
 use Rattle.canon3.proofs.Visiting.{settled}
 use Rattle.listing3.specs.machinery.LineWriter.{LineStands}
@@ -9,22 +10,23 @@ use Rattle.listing3.specs.Listing.{opening}
 use Rattle.listing3.proofs.LineLemmas.{adds_both, keeps_same, keeps_text, settled_err}
 use Rattle.listing3.proofs.line_writer.LineWriter.add_handle.Goals as goal
 
-pub returns-in-Ok-clause-ok : goal.returns-in-Ok-clause-ok
+pub returns-clause-ok : goal.returns-clause-ok
 unfolding Adds
-returns-in-Ok-clause-ok g c =
+returns-clause-ok g c =
     let w = c.args.self.now in
     let table = c.handle-gathered.new.self.numbers in
     let name = c.args.name.now in
     let bytes = c.args.bytes.now in
     settled (λ t. Adds (LineStands {S = g.row.S.Denot} {H = g.row.S-Hasher.Denot}) w (record { handles = record { numbers = table }; xid = w.xid; items = t; head = w.head }) (Opaque Handle name bytes ∷ []))
     c.handle-gathered.result c.settle.result c.append_hex.new.self c.settle.new.self c.settle.ensures.result c.settle.ensures.ok
-    (still_ok c.handle-gathered.result (adds_both w c.append_hex.new.self table name bytes c.in-Ok.ensures.ok) c.handle-gathered.ensures.ok)
+    (still_ok c.handle-gathered.result (adds_both w c.append_hex.new.self table name bytes c.in_ok-append_hex.ensures.ok) c.handle-gathered.ensures.ok)
 
-pub returns-in-Ok-clause-err : goal.returns-in-Ok-clause-err
+pub returns-clause-err : goal.returns-clause-err
 unfolding Keeps
-returns-in-Ok-clause-err g c =
+returns-clause-err g c =
     settled_err c.args.self.now c.handle-gathered.new.self.numbers c.settle.new.self c.handle-gathered.result c.settle.result c.append_hex.new.self (opening c.args.name.now ++ encode_lower c.args.bytes.now) (length c.bytes-before.result.now)
-    c.settle.ensures.result c.settle.ensures.err (ap length c.bytes-before.ensures) c.in-Ok.ensures.ok c.handle-gathered.ensures.err
+    c.settle.ensures.result c.settle.ensures.err (ap length c.bytes-before.ensures) c.in_ok-append_hex.ensures.ok c.handle-gathered.ensures.err
 
-pub returns-in-Err-clause-err : goal.returns-in-Err-clause-err
-returns-in-Err-clause-err g c = keeps_text c.args.self.now c.append_hex.new.self (keeps_same c.args.self.now.items c.append_hex.new.self c.in-Err.ensures.err)
+pub returns-in_err-append_hex-clause-err : goal.returns-in_err-append_hex-clause-err
+returns-in_err-append_hex-clause-err g c =
+    on_err c.from_residual.result (keeps_text c.args.self.now c.append_hex.new.self (keeps_same c.args.self.now.items c.append_hex.new.self c.in_err-append_hex.ensures.err))

@@ -2,6 +2,7 @@
 // start, and each function answers the place after what it wrote.
 
 ghost use Rattle.std.specs.Prelude.{◌≡◌, ◌≤◌, ◌+◌, ◌*◌, ◌++◌, ◌∷◌, [], length, take, decimal, vec_len, IfOk, OnOk, OnErr};
+ghost use Rattle.std.specs.List.{flat_map};
 ghost use Rattle.hex.specs.Hex.{encode_lower};
 ghost use Rattle.xdr3.specs.Visit.{body_limit};
 ghost use Rattle.listing3.specs.Listing.{opening, quoted, quoted_byte};
@@ -12,6 +13,9 @@ use std::alloc::AllocError;
 
 /// How many digits a number has at most.
 pub(crate) const DIGITS: usize = 20;
+
+/// How many bytes of a string are written after one test of the room.
+const PIECE: usize = 256;
 
 /// Makes the room longer where it has fewer than `count` bytes after the place.
 pub(crate) fn make_room(room: &mut Vec<u8>, at: usize, count: usize) -> Result<(), AllocError>
@@ -115,6 +119,7 @@ pub(crate) fn put_hex(room: &mut [u8], at: usize, bytes: &[u8]) -> usize
     let end = at + 2 * bytes.len();
     match encode_to_slice(bytes, &mut room[at..end]) {
         Ok(()) => end,
+        // The room has two digits for each byte, and nothing else is refused.
         Err(_) => unreachable!(),
     }
 }
@@ -131,27 +136,41 @@ pub(crate) fn put_quoted(room: &mut Vec<u8>, at: usize, bytes: &[u8]) -> Result<
 {
     make_room(room, at, 1)?;
     let mut end = put_bytes(room, at, b"\"");
-    for &byte in bytes {
-        end = put_quoted_byte(room, end, byte)?;
+    for piece in bytes.chunks(PIECE) {
+        make_room(room, end, 4 * piece.len())?;
+        end = put_inside(room, end, piece);
     }
     make_room(room, end, 1)?;
     Ok(put_bytes(room, end, b"\""))
 }
 
-fn put_quoted_byte(room: &mut Vec<u8>, at: usize, byte: u8) -> Result<usize, AllocError>
-    requires { at ≤ vec_len room.old }
-    ensures within { IfOk result (λ end. (at ≤ end) × (end ≤ vec_len room.new)) }
-    ensures ok { IfOk result (λ end. take end room.new.items
-        ≡ take at room.old.items ++ quoted_byte byte) }
-    ensures kept { take at room.new.items ≡ take at room.old.items }
-    ensures len { vec_len room.old ≤ vec_len room.new }
+/// Writes what stands for the bytes between quotation marks.
+fn put_inside(room: &mut [u8], at: usize, bytes: &[u8]) -> usize
+    requires { at + 4 * length bytes.now ≤ length room.old }
+    ensures within { (at ≤ result) × (result ≤ at + 4 * length bytes.now) }
+    ensures written { take result room.new ≡ take at room.old ++ flat_map quoted_byte bytes.now }
+    ensures kept { take at room.new ≡ take at room.old }
+    ensures len { length room.new ≡ length room.old }
 {
-    make_room(room, at, 4)?;
+    let mut end = at;
+    for &byte in bytes {
+        end = put_quoted_byte(room, end, byte);
+    }
+    end
+}
+
+fn put_quoted_byte(room: &mut [u8], at: usize, byte: u8) -> usize
+    requires { at + 4 ≤ length room.old }
+    ensures within { (at ≤ result) × (result ≤ at + 4) }
+    ensures written { take result room.new ≡ take at room.old ++ quoted_byte byte }
+    ensures kept { take at room.new ≡ take at room.old }
+    ensures len { length room.new ≡ length room.old }
+{
     if (32..=126).contains(&byte) && byte != 34 && byte != 92 {
         room[at] = byte;
-        Ok(at + 1)
+        at + 1
     } else {
         let start = put_bytes(room, at, b"\\x");
-        Ok(put_hex(room, start, &[byte]))
+        put_hex(room, start, &[byte])
     }
 }

@@ -1,25 +1,25 @@
-// The items of a message, as a line has them.
+// The text of a line, as it grows.
 
-ghost use Rattle.std.specs.Prelude.{◌≡◌, ◌≤◌, ◌++◌, ◌∷◌, [], length, take, decimal, OnOk, OnErr};
+ghost use Rattle.std.specs.Prelude.{◌≡◌, ◌≤◌, ◌+◌, ◌*◌, ◌++◌, ◌∷◌, [], codes, length, take, decimal, OnOk, OnErr};
 ghost use Rattle.hex.specs.Hex.{encode_lower};
 ghost use Rattle.xdr3.specs.Visit.{body_limit};
-ghost use Rattle.listing3.specs.Listing.{opening, quoted};
+ghost use Rattle.listing3.specs.Listing.{opening, prefix, quoted};
 
-use crate::text::{DIGITS, make_room, put_bytes, put_decimal, put_hex, put_name, put_quoted};
+use crate::room::{DIGITS, make_room, put_bytes, put_decimal, put_hex, put_name, put_quoted};
 use std::alloc::{AllocError, Global};
 use std::marker::Model;
 use xdr3::Visit;
 
-/// A visitor that appends ` name=value` for each item. What it holds is the text of the items that were
-/// visited since `new` or `forget`. A call that fails appends nothing.
+/// The text of a line or of a part of it: what was appended since `new` or `forget`. A call that fails
+/// appends nothing. As a visitor it appends ` name=value` for each item.
 #[derive(Drop)]
-pub(crate) struct ItemText {
+pub(crate) struct LineText {
     // It begins with the text, and what stands after the text means nothing.
     room: Vec<u8>,
     end: usize,
 }
 
-impl Model for ItemText {
+impl Model for LineText {
     ghost use Rattle.std.specs.Prelude.{List, ℕ, ◌≤◌, take, vec_len};
 
     ghost Value = { List ℕ };
@@ -29,11 +29,11 @@ impl Model for ItemText {
     ghost invariant = { λ t. t.end ≤ vec_len t.room };
 }
 
-impl ItemText {
-    pub(crate) fn new(alloc: Global) -> ItemText
+impl LineText {
+    pub(crate) fn new(alloc: Global) -> LineText
         ensures { result ≡ [] }
     {
-        ItemText {
+        LineText {
             room: Vec::new(alloc),
             end: 0,
         }
@@ -68,9 +68,43 @@ impl ItemText {
         written
     }
 
+    /// Appends the connection's number, the side, and the record's number in its stream.
+    pub(crate) fn append_prefix(
+        &mut self,
+        connection: u32,
+        side: &'static str,
+        number: u32,
+    ) -> Result<(), AllocError>
+        ensures ok { OnOk result (self.new ≡ self.old ++ prefix connection side.now number) }
+        ensures err { OnErr result (self.new ≡ self.old) }
+    {
+        make_room(&mut self.room, self.end, side.len() + (2 * DIGITS + 2))?;
+        self.end = put_prefix(&mut self.room, self.end, connection, side, number);
+        Ok(())
+    }
+
+    /// Appends ` xid=` and the xid, a space and the procedure's name.
+    pub(crate) fn append_xid_and_name(
+        &mut self,
+        xid: u32,
+        name: &'static str,
+    ) -> Result<(), AllocError>
+        ensures ok { OnOk result
+            (self.new ≡ self.old ++ ((opening (codes "xid") ++ decimal xid) ++ (32 ∷ name.now))) }
+        ensures err { OnErr result (self.new ≡ self.old) }
+    {
+        make_room(&mut self.room, self.end, name.len() + (DIGITS + 6))?;
+        let end = put_name(&mut self.room, self.end, "xid");
+        let end = put_decimal(&mut self.room, end, u64::from(xid));
+        let end = put_bytes(&mut self.room, end, b" ");
+        self.end = put_bytes(&mut self.room, end, name.as_bytes());
+        Ok(())
+    }
+
     /// Ends the line.
     pub(crate) fn end_line(&mut self) -> Result<(), AllocError>
-        ensures { OnOk result (self.new ≡ self.old ++ 10 ∷ []) }
+        ensures ok { OnOk result (self.new ≡ self.old ++ 10 ∷ []) }
+        ensures err { OnErr result (self.new ≡ self.old) }
     {
         make_room(&mut self.room, self.end, 1)?;
         self.end = put_bytes(&mut self.room, self.end, b"\n");
@@ -110,8 +144,23 @@ impl ItemText {
     }
 }
 
+/// Writes the connection's number, the side, and the record's number in its stream.
+fn put_prefix(room: &mut [u8], at: usize, connection: u32, side: &'static str, number: u32) -> usize
+    requires { at + (length side.now + (2 * DIGITS + 2)) ≤ length room.old }
+    ensures within { (at ≤ result) × (result ≤ at + (length side.now + (2 * DIGITS + 2))) }
+    ensures written { take result room.new ≡
+        take at room.old ++ prefix connection side.now number }
+    ensures len { length room.new ≡ length room.old }
+{
+    let end = put_decimal(room, at, u64::from(connection));
+    let end = put_bytes(room, end, b" ");
+    let end = put_bytes(room, end, side.as_bytes());
+    let end = put_bytes(room, end, b" ");
+    put_decimal(room, end, u64::from(number))
+}
+
 #[tactic(auto, unfolding(xdr3::specs::Visit::Adds, xdr3::specs::Visit::Keeps))]
-impl Visit for ItemText {
+impl Visit for LineText {
     ghost use Rattle.std.specs.Prelude.{◌≡◌};
     ghost use Rattle.listing3.specs.Listing.{shown_items};
 

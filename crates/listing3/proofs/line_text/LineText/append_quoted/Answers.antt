@@ -2,7 +2,7 @@ use Rattle.std.proofs.Common.{◌∙◌, arith}
 use Rattle.std.proofs.lemmas.Grind.{common_steps}
 use Rattle.xdr3.proofs.Walks.{on_err}
 use Rattle.listing3.proofs.Rooms.{kept_below}
-use Rattle.listing3.proofs.item_text.ItemText.append_quoted.Goals as goal
+use Rattle.listing3.proofs.line_text.LineText.append_quoted.Goals as goal
 
 pub returns-in_err-self-inside-clause-err : goal.returns-in_err-self-inside-clause-err
 returns-in_err-self-inside-clause-err c =
