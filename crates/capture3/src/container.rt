@@ -109,20 +109,18 @@ impl Container {
             (λ r. room_in self.new + cost_of r.1 self.new.streams ≤ room_in self.old) }
     {
         match self.cursor {
-            Some(cursor) => {
-                let event = self.recall(cursor)?;
-                Ok((0, Some(event)))
-            }
-            None => {
-                let (count, came) = self.advance(piece)?;
-                match came {
-                    Some(Event::Streams) => {
-                        let event = self.first_recalled()?;
-                        Ok((count, Some(event)))
-                    }
-                    _ => Ok((count, came)),
-                }
-            }
+            Some(cursor) => match self.recall(cursor) {
+                Ok(event) => Ok((0, Some(event))),
+                Err(error) => Err(error),
+            },
+            None => match self.advance(piece) {
+                Ok((count, Some(Event::Streams))) => match self.first_recalled() {
+                    Ok(event) => Ok((count, Some(event))),
+                    Err(error) => Err(error),
+                },
+                Ok((count, event)) => Ok((count, event)),
+                Err(error) => Err(error),
+            },
         }
     }
 
@@ -171,11 +169,15 @@ impl Container {
     {
         let mut taken = 0;
         while taken < piece.len() {
-            let step = self.step(&piece[taken..])?;
-            taken += step.count;
-            self.position = step.position;
-            if step.event.is_some() {
-                return Ok((taken, step.event));
+            match self.step(&piece[taken..]) {
+                Ok(step) => {
+                    taken += step.count;
+                    self.position = step.position;
+                    if step.event.is_some() {
+                        return Ok((taken, step.event));
+                    }
+                }
+                Err(error) => return Err(error),
             }
         }
         Ok((taken, None))

@@ -181,8 +181,10 @@ impl<'r, R: Source, S: BuildHasher + Drop> Entries<'r, R, S> {
         ensures same_reference { loan_of self.new ≡ loan_of self.old }
     {
         while self.judged <= MOST_JUDGED {
-            if let Some(kind) = self.turn(visitor)? {
-                return Ok(Some(kind));
+            match self.turn(visitor) {
+                Ok(None) => {}
+                Ok(Some(kind)) => return Ok(Some(kind)),
+                Err(error) => return Err(error),
             }
         }
         let error = file_fault(self.judged, Reason::AfterEnd);
@@ -216,10 +218,15 @@ impl<'r, R: Source, S: BuildHasher + Drop> Entries<'r, R, S> {
         ensures same_reference { loan_of self.new ≡ loan_of self.old }
     {
         if self.is_used_up() {
-            let is_more = self.refill()?;
-            if !is_more {
-                self.finish()?;
-                return Ok(Some(Kind::End));
+            match self.refill() {
+                Ok(true) => {}
+                Ok(false) => {
+                    return match self.finish() {
+                        Ok(()) => Ok(Some(Kind::End)),
+                        Err(error) => Err(error),
+                    };
+                }
+                Err(error) => return Err(error),
             }
         }
         self.judge(visitor)

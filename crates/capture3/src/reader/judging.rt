@@ -81,13 +81,13 @@ impl<C: CallTable + Drop> Capture<C> {
         ensures device { IfErr result IsOfBytes }
     {
         self.container.release();
-        let (count, came) = self.container.next(piece)?;
-        match came {
-            Some(event) => {
-                let kind = self.entry(event, visitor)?;
-                Ok((count, Some(kind)))
-            }
-            None => Ok((count, None)),
+        match self.container.next(piece) {
+            Ok((count, Some(event))) => match self.entry(event, visitor) {
+                Ok(kind) => Ok((count, Some(kind))),
+                Err(error) => Err(error),
+            },
+            Ok((count, None)) => Ok((count, None)),
+            Err(error) => Err(error),
         }
     }
 
@@ -180,14 +180,14 @@ impl<C: CallTable + Drop> Capture<C> {
         ensures device { IfErr result IsOfBytes }
     {
         match side {
-            Side::Client => {
-                let id = self.call(visitor)?;
-                Ok(Kind::Call(id))
-            }
-            Side::Server => {
-                let id = self.reply(visitor)?;
-                Ok(Kind::Reply(id))
-            }
+            Side::Client => match self.call(visitor) {
+                Ok(id) => Ok(Kind::Call(id)),
+                Err(error) => Err(error),
+            },
+            Side::Server => match self.reply(visitor) {
+                Ok(id) => Ok(Kind::Reply(id)),
+                Err(error) => Err(error),
+            },
         }
     }
 
