@@ -16,7 +16,7 @@ use Rattle.canon3.specs.machinery.CanonicalForm.{are_some, magic_unless}
 use Rattle.canon3.specs.machinery.Progress.{side_in}
 use Rattle.canon3.proofs.Ends.{ends_too, past}
 use Rattle.canon3.proofs.First.{first_in_order, parts_where_forms_do, same_from_bytes}
-use Rattle.canon3.specs.machinery.Spelling.{bytes_behind}
+use Rattle.canon3.specs.machinery.Spelling.{bytes_after}
 use Rattle.canon3.proofs.Growing.{first_front, form_grows}
 use Rattle.canon3.proofs.OneFormLemmas.{canonical-same}
 use Rattle.canon3.proofs.Places.{place_from_parting}
@@ -34,22 +34,22 @@ module _ (a b : List Entry) (e f : Entry) (first : AreFirst (a ++ e ∷ [])) (se
   fronts : bytes_of (canonical a) ++ magic_unless (are_some a) ≡ bytes_of (canonical b) ++ magic_unless (are_some b)
   fronts = ap₂ (λ (x y : List ℕ). x ++ y) g.bytes (ap magic_unless (same_some a b g.many))
 
-  pub agree_more : bytes_behind a (e ∷ []) ≡ bytes_behind b (f ∷ []) → Agree (a ++ e ∷ []) (b ++ f ∷ [])
+  pub agree_more : bytes_after a (e ∷ []) ≡ bytes_after b (f ∷ []) → Agree (a ++ e ∷ []) (b ++ f ∷ [])
   agree_more same = record {
     many = omega (arith, g.many, length-append a (e ∷ []), length-append b (f ∷ []));
     bytes = form_grows a e first ∙ (ap₂ (λ (x y : List ℕ). x ++ y) fronts same ∙ sym (form_grows b f second));
   }
 
-  pub differ_here : bytes_behind a (e ∷ []) ≢ bytes_behind b (f ∷ []) → bytes_of (canonical (a ++ e ∷ [])) ≢ bytes_of (canonical (b ++ f ∷ []))
+  pub differ_here : bytes_after a (e ∷ []) ≢ bytes_after b (f ∷ []) → bytes_of (canonical (a ++ e ∷ [])) ≢ bytes_of (canonical (b ++ f ∷ []))
   differ_here differ is =
-      differ (append_cancel_left (bytes_of (canonical a) ++ magic_unless (are_some a)) (bytes_behind a (e ∷ [])) (bytes_behind b (f ∷ []))
-      (sym (form_grows a e first) ∙ (is ∙ (form_grows b f second ∙ ap (λ (l : List ℕ). l ++ bytes_behind b (f ∷ [])) (sym fronts)))))
+      differ (append_cancel_left (bytes_of (canonical a) ++ magic_unless (are_some a)) (bytes_after a (e ∷ [])) (bytes_after b (f ∷ []))
+      (sym (form_grows a e first) ∙ (is ∙ (form_grows b f second ∙ ap (λ (l : List ℕ). l ++ bytes_after b (f ∷ [])) (sym fronts)))))
 
   pub same_so_far : Same a b
   same_so_far = same_from_bytes a b (first_front a (e ∷ []) first) (first_front b (f ∷ []) second) g.bytes
 
 -- an entry that is no message is written as itself
-pub mark_alike : (a b : List Entry) (e : Entry) → side_in e ≡ None → bytes_behind a (e ∷ []) ≡ bytes_behind b (e ∷ [])
+pub mark_alike : (a b : List Entry) (e : Entry) → side_in e ≡ None → bytes_after a (e ∷ []) ≡ bytes_after b (e ∷ [])
 mark_alike a b Begin none = refl
 mark_alike a b (Call m) none = absurd (cc)
 mark_alike a b Turn none = refl

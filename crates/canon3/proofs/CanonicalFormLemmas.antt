@@ -16,7 +16,7 @@ use Rattle.canon3.specs.machinery.MessageWriter.{IsGoing, WriterStands}
 use Rattle.canon3.specs.Parting.{connections}
 use Rattle.canon3.specs.CanonicalForm.{canonical_bytes}
 use Rattle.canon3.specs.machinery.CanonicalForm.{are_some, Follows, magic_before, magic_unless, values_before}
-use Rattle.canon3.specs.machinery.Spelling.{bytes_behind}
+use Rattle.canon3.specs.machinery.Spelling.{bytes_after}
 use Rattle.canon3.specs.SinkWrites.{AppendsFront}
 use Rattle.canon3.proofs.First.{first_in_order}
 use Rattle.canon3.proofs.Growing.{form_grows}
@@ -65,14 +65,14 @@ module _ {S H : Type 0} (n : MessageWriter S H) (old before between after : Opti
     going,
     stands,
     subst (Appends old after) (sym (form_grows entries one first))
-        (Appends-trans old between after (bytes_of (canonical entries) ++ magic_unless (are_some entries)) (bytes_behind entries (one ∷ [])) (with_magic magic) followed),
+        (Appends-trans old between after (bytes_of (canonical entries) ++ magic_unless (are_some entries)) (bytes_after entries (one ∷ [])) (with_magic magic) followed),
   )
   written_or_cut (Err error) magic cut =
-      front_of_second old between after (bytes_of (canonical entries) ++ magic_unless (are_some entries)) (bytes_behind entries (one ∷ [])) (bytes_of (canonical (entries ++ one ∷ []))) (form_grows entries one first) (with_magic magic) cut
+      front_of_second old between after (bytes_of (canonical entries) ++ magic_unless (are_some entries)) (bytes_after entries (one ∷ [])) (bytes_of (canonical (entries ++ one ∷ []))) (form_grows entries one first) (with_magic magic) cut
 
   -- the magic was cut
   pub cut_in_magic : AppendsFront before between (magic_before count) → AppendsFront old between (bytes_of (canonical (entries ++ one ∷ [])))
   cut_in_magic cut =
-      front_of_first old between (bytes_of (canonical entries) ++ magic_unless (are_some entries)) (bytes_behind entries (one ∷ [])) (bytes_of (canonical (entries ++ one ∷ []))) (form_grows entries one first)
+      front_of_first old between (bytes_of (canonical entries) ++ magic_unless (are_some entries)) (bytes_after entries (one ∷ [])) (bytes_of (canonical (entries ++ one ∷ []))) (form_grows entries one first)
       (front_of_second old before between (bytes_of (canonical entries)) (magic_unless (are_some entries)) (bytes_of (canonical entries) ++ magic_unless (are_some entries)) refl so_far
       (subst (AppendsFront before between) (the_magic entries one count first counted) cut))

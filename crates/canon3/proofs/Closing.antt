@@ -22,7 +22,7 @@ use Rattle.canon3.proofs.Files.{all_of, total_weight, AreCapture, all_regrouped,
 module _ {A : Type 0} where
   -- a front of two joined lists ends in the first, or goes on into the second
   abbrev Splits : (x t p more : List A) → Type 0
-  Splits x t p more = ((rest : List A) × (x ≡ p ++ rest)) ⊎ ((y : A) × (behind : List A) × (p ≡ x ++ y ∷ behind) × (t ≡ y ∷ (behind ++ more)))
+  Splits x t p more = ((rest : List A) × (x ≡ p ++ rest)) ⊎ ((y : A) × (told_after : List A) × (p ≡ x ++ y ∷ told_after) × (t ≡ y ∷ (told_after ++ more)))
 
   splits : (x t p more : List A) → x ++ t ≡ p ++ more → Splits x t p more
   splits x t [] more e = inl (x, refl)
@@ -31,7 +31,7 @@ module _ {A : Type 0} where
       let first : z ≡ y = cc in
       let tail : x ++ t ≡ p ++ more = cc in
       ⊎_elim (λ (s : (rest : List A) × (x ≡ p ++ rest)). inl (s.0, ap₂ (λ (w : A) (l : List A). w ∷ l) first s.1))
-      (λ (s : (w : A) × (behind : List A) × (p ≡ x ++ w ∷ behind) × (t ≡ w ∷ (behind ++ more))). inr (s.0, s.1, ap₂ (λ (w : A) (l : List A). w ∷ l) (sym first) s.2, s.3))
+      (λ (s : (w : A) × (told_after : List A) × (p ≡ x ++ w ∷ told_after) × (t ≡ w ∷ (told_after ++ more))). inr (s.0, s.1, ap₂ (λ (w : A) (l : List A). w ∷ l) (sym first) s.2, s.3))
       (splits x t p more tail)
 
   all_front : (P : A → Type 0) (l m : List A) → AllByRecursion P (l ++ m) → AllByRecursion P l

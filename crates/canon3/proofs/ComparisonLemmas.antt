@@ -33,9 +33,9 @@ use Rattle.canon3.specs.declared.verdict.Which.TheVariants.{First, Second}
 use Rattle.canon3.specs.Comparison.{DecidesSame, StopsComparing}
 use Rattle.canon3.specs.machinery.Comparison.{Agree, Compares, HasGiven, HasGivenOn, HaveEnded, HaveParted, IsCompared, IsFound, IsReadAfter, IsReadOut, SaysOfFile, IsTold, Meets, met_second, PartWith, ReadsOn, StepsOn}
 use Rattle.canon3.specs.Laws.{AreFirst}
-use Rattle.canon3.specs.machinery.MessageWriter.{Before, behind, WriterStands, values_of}
+use Rattle.canon3.specs.machinery.MessageWriter.{Before, told_after, WriterStands, values_of}
 use Rattle.canon3.specs.Renaming.{Same}
-use Rattle.canon3.specs.machinery.Spelling.{bytes_behind, HasSpelled, spelling_of}
+use Rattle.canon3.specs.machinery.Spelling.{bytes_after, HasSpelled, spelling_of}
 use Rattle.capture3.specs.Kept.{IsOfKind}
 use Rattle.canon3.specs.Progress.{HasPassed}
 use Rattle.canon3.specs.machinery.Progress.{place_from, side_in}
@@ -43,7 +43,7 @@ use Rattle.canon3.proofs.AgreementLemmas.{agree_more, differ_here, mark_alike, n
 use Rattle.canon3.proofs.First.{same_from_bytes}
 use Rattle.canon3.proofs.Reaching.{first_reached}
 use Rattle.canon3.proofs.ProgressLemmas.{place_is}
-use Rattle.canon3.proofs.Visiting.{behind-append}
+use Rattle.canon3.proofs.Visiting.{told_after-append}
 
 -- ---- an entry of each
 
@@ -52,12 +52,12 @@ module _ {S H : Type 0} (n m : MessageWriter S H) (form other_form : Spelling) (
   agree_on alike = agree_more a b e f first second g (sym s.spelled ∙ (alike ∙ t.spelled))
 
   pub parts_here : (progress : Progress) (place : Place) → spelling_of form n.writer ≢ spelling_of other_form m.writer → HasPassed progress a → place ≡ place_from progress (side_in e) (side_in f) → PartWith a b e f place
-  parts_here progress place unlike behind is =
-      let differ : bytes_behind a (e ∷ []) ≢ bytes_behind b (f ∷ []) = λ same. unlike (s.spelled ∙ (same ∙ sym t.spelled)) in
+  parts_here progress place unlike told_after is =
+      let differ : bytes_after a (e ∷ []) ≢ bytes_after b (f ∷ []) = λ same. unlike (s.spelled ∙ (same ∙ sym t.spelled)) in
       record {
         agree = g;
         differ = differ_here a b e f first second g differ;
-        place_is = rw is (place_is progress a behind e f (λ same none. differ (mark_alike a b e none ∙ ap (λ k. bytes_behind b (k ∷ [])) same)) (place_there a b e f first second g));
+        place_is = rw is (place_is progress a told_after e f (λ same none. differ (mark_alike a b e none ∙ ap (λ k. bytes_after b (k ∷ [])) same)) (place_there a b e f first second g));
       }
 
 -- ---- a comparison whose numberings are told items
@@ -69,9 +69,9 @@ abbrev pub with_second : {S H : Type 0} → Comparison S H → MessageWriter S H
 with_second comparison n = record { first = comparison.first; second = n; progress = comparison.progress }
 
 -- the items told stand after the values
-told : {S H : Type 0} (was now : MessageWriter S H) (before : Before) (items : List Item) → Adds WriterStands was now items → WriterStands was (behind before []) → WriterStands now (behind before items)
+told : {S H : Type 0} (was now : MessageWriter S H) (before : Before) (items : List Item) → Adds WriterStands was now items → WriterStands was (told_after before []) → WriterStands now (told_after before items)
 unfolding Adds
-told was now before items adds stands = subst (WriterStands now) (sym (behind-append before [] items)) (adds (behind before []) stands)
+told was now before items adds stands = subst (WriterStands now) (sym (told_after-append before [] items)) (adds (told_after before []) stands)
 
 module _ {S H : Type 0} (comparison : Comparison S H) (a b : List Entry) (n : MessageWriter S H) where
   pub told_first : (items : List Item) → Adds WriterStands comparison.first n items → IsCompared comparison a b → IsTold (with_first comparison n) a b items []

@@ -208,10 +208,10 @@ module _ (hs vs : List (List ℕ)) where
   numbered-all (c ∷ cs) xs =
       let own = xids_of c.calls in
       let d = numbered_conversation hs vs c in
-      let behind : List Entry = map reply_entry c.replies ++ (Close ∷ all_of cs) in
+      let told_after : List Entry = map reply_entry c.replies ++ (Close ∷ all_of cs) in
       ap (numbered hs vs xs) (all_regrouped c cs)
-      ∙ (ap (λ (l : List ℕ). Begin ∷ numbered hs vs l (map Call c.calls ++ (Turn ∷ behind))) (own_xids c cs)
-      ∙ (ap (λ (l : List Entry). Begin ∷ l) (numbered-calls own c.calls (Turn ∷ behind)
+      ∙ (ap (λ (l : List ℕ). Begin ∷ numbered hs vs l (map Call c.calls ++ (Turn ∷ told_after))) (own_xids c cs)
+      ∙ (ap (λ (l : List Entry). Begin ∷ l) (numbered-calls own c.calls (Turn ∷ told_after)
       ∙ ap (λ (l : List Entry). map Call d.calls ++ (Turn ∷ l)) (numbered-replies own c.replies (Close ∷ all_of cs)
       ∙ ap (λ (l : List Entry). map reply_entry d.replies ++ (Close ∷ l)) (numbered-all cs own)))
       ∙ sym (all_regrouped d (map (numbered_conversation hs vs) cs))))

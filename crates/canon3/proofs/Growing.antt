@@ -12,7 +12,7 @@ use Rattle.canon3.specs.machinery.CanonicalStream.{open_xids}
 use Rattle.canon3.specs.Laws.{AreFirst}
 use Rattle.canon3.specs.machinery.CanonicalForm.{are_some, magic_unless}
 use Rattle.canon3.specs.Values.{handles, handles_in, verifiers, verifiers_in, xid_of}
-use Rattle.canon3.specs.machinery.Spelling.{bytes_behind}
+use Rattle.canon3.specs.machinery.Spelling.{bytes_after}
 use Rattle.canon3.proofs.First.{first_in_order}
 use Rattle.canon3.proofs.CanonicalStreamLemmas.{canonical-after, entries_after-append}
 use Rattle.canon3.proofs.Nesting.{Paired, paired}
@@ -58,17 +58,17 @@ few_xids a one few = omega (arith, few, few_open (a ++ one ∷ []) [], ap length
 
 -- ---- a message's xid
 
-paired_behind : (a b : List Entry) (xs : List ℕ) → Paired xs (a ++ b) → Paired (open_xids xs a) b
-paired_behind [] b xs p = p
-paired_behind (Begin ∷ a) b xs p = paired_behind a b [] p
-paired_behind (Call m ∷ a) b xs p = paired_behind a b (xs ++ xid_of m) p.1
-paired_behind (Turn ∷ a) b xs p = paired_behind a b xs p
-paired_behind (Reply id m ∷ a) b xs p = paired_behind a b xs p.1
-paired_behind (Close ∷ a) b xs p = paired_behind a b xs p
-paired_behind (End ∷ a) b xs p = paired_behind a b xs p
+paired_after : (a b : List Entry) (xs : List ℕ) → Paired xs (a ++ b) → Paired (open_xids xs a) b
+paired_after [] b xs p = p
+paired_after (Begin ∷ a) b xs p = paired_after a b [] p
+paired_after (Call m ∷ a) b xs p = paired_after a b (xs ++ xid_of m) p.1
+paired_after (Turn ∷ a) b xs p = paired_after a b xs p
+paired_after (Reply id m ∷ a) b xs p = paired_after a b xs p.1
+paired_after (Close ∷ a) b xs p = paired_after a b xs p
+paired_after (End ∷ a) b xs p = paired_after a b xs p
 
 pub last_paired : (a : List Entry) (one : Entry) → AreFirst (a ++ one ∷ []) → Paired (open_xids [] a) (one ∷ [])
-last_paired a one f = paired_behind a (one ∷ []) [] (paired (first_in_order (a ++ one ∷ []) f).run [] tt)
+last_paired a one f = paired_after a (one ∷ []) [] (paired (first_in_order (a ++ one ∷ []) f).run [] tt)
 
 -- ---- bytes
 
@@ -92,7 +92,7 @@ bytes_with [] m some = absurd cc
 bytes_with (e ∷ l) m some =
     ap (λ (b : List ℕ). magic One ++ b) (flat_map-append entry_bytes (e ∷ l) m) ∙ sym (append_assoc (magic One) (flat_map entry_bytes (e ∷ l)) (flat_map entry_bytes m))
 
-form_some : (e : Entry) (a b : List Entry) → AreFirst ((e ∷ a) ++ b) → bytes_of (canonical ((e ∷ a) ++ b)) ≡ bytes_of (canonical (e ∷ a)) ++ bytes_behind (e ∷ a) b
+form_some : (e : Entry) (a b : List Entry) → AreFirst ((e ∷ a) ++ b) → bytes_of (canonical ((e ∷ a) ++ b)) ≡ bytes_of (canonical (e ∷ a)) ++ bytes_after (e ∷ a) b
 form_some e a b f =
     let front : canonical (e ∷ a) ≡ entries_after [] [] [] (e ∷ a) = canonical-after (e ∷ a) (first_in_order (e ∷ a) (first_front (e ∷ a) b f)) in
     let after : List Entry = entries_after (handles (e ∷ a)) (verifiers (e ∷ a)) (open_xids [] (e ∷ a)) b in
@@ -100,13 +100,13 @@ form_some e a b f =
     canonical-after ((e ∷ a) ++ b) (first_in_order ((e ∷ a) ++ b) f) ∙ (entries_after-append (e ∷ a) b [] [] [] ∙ ap (λ (l : List Entry). l ++ after) (sym front)) in
     ap bytes_of whole ∙ bytes_with (canonical (e ∷ a)) after (some_canonical e a)
 
-pub form_grows : (a : List Entry) (one : Entry) → AreFirst (a ++ one ∷ []) → bytes_of (canonical (a ++ one ∷ [])) ≡ (bytes_of (canonical a) ++ magic_unless (are_some a)) ++ bytes_behind a (one ∷ [])
+pub form_grows : (a : List Entry) (one : Entry) → AreFirst (a ++ one ∷ []) → bytes_of (canonical (a ++ one ∷ [])) ≡ (bytes_of (canonical a) ++ magic_unless (are_some a)) ++ bytes_after a (one ∷ [])
 form_grows [] one f =
     bytes_some (canonical (one ∷ [])) (some_canonical one []) ∙ ap (λ (l : List Entry). magic One ++ flat_map entry_bytes l) (canonical-after (one ∷ []) (first_in_order (one ∷ []) f))
 form_grows (e ∷ a) one f =
-    form_some e a (one ∷ []) f ∙ ap (λ (l : List ℕ). l ++ bytes_behind (e ∷ a) (one ∷ [])) (sym (append-nil (bytes_of (canonical (e ∷ a)))))
+    form_some e a (one ∷ []) f ∙ ap (λ (l : List ℕ). l ++ bytes_after (e ∷ a) (one ∷ [])) (sym (append-nil (bytes_of (canonical (e ∷ a)))))
 
 -- the form of the first entries is a front of the form of all
 pub form_fronts : (a b : List Entry) → AreFirst (a ++ b) → (back : List ℕ) × (bytes_of (canonical (a ++ b)) ≡ bytes_of (canonical a) ++ back)
 form_fronts [] b f = (bytes_of (canonical b), refl)
-form_fronts (e ∷ a) b f = (bytes_behind (e ∷ a) b, form_some e a b f)
+form_fronts (e ∷ a) b f = (bytes_after (e ∷ a) b, form_some e a b f)

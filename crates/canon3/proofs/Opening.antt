@@ -8,16 +8,16 @@ use Rattle.canon3.specs.declared.message_writer.MessageWriter.{MessageWriter}
 use Rattle.canon3.specs.declared.message_writer.Stage.TheVariants.{Begins}
 use Rattle.canon3.specs.CanonicalStream.{items_after, message_after}
 use Rattle.canon3.specs.HandleTable.{HoldsHandles}
-use Rattle.canon3.specs.machinery.MessageWriter.{AreFew, Before, behind, HoldsBefore, IsGoing, IsWithinMessage, WriterStands}
+use Rattle.canon3.specs.machinery.MessageWriter.{AreFew, Before, told_after, HoldsBefore, IsGoing, IsWithinMessage, WriterStands}
 use Rattle.canon3.specs.Pairing.{Member, here, there}
 use Rattle.canon3.specs.Rank.{distinct, HoldsDistinct}
 use Rattle.canon3.specs.Values.{handles_in, verifiers_in}
 use Rattle.canon3.proofs.RankLemmas.{any-distinct, distinct-push, equivalence, itself, rank-append}
-use Rattle.canon3.proofs.Visiting.{behind-same}
+use Rattle.canon3.proofs.Visiting.{told_after-same}
 
 module _ {S H : Type 0} (n : MessageWriter S H) (before : Before) where
   -- the tables hold what was there before, and no message is begun
-  pub begins : HoldsBefore n before → n.stage ≡ Begins → n.writer ≡ [] → WriterStands n (behind before [])
+  pub begins : HoldsBefore n before → n.stage ≡ Begins → n.writer ≡ [] → WriterStands n (told_after before [])
   begins h stage none going = record {
     before = before;
     items = [];
@@ -29,15 +29,15 @@ module _ {S H : Type 0} (n : MessageWriter S H) (before : Before) where
     };
   }
 
-  pub is_under_way : (items : List Item) → IsGoing n → WriterStands n (behind before items) → IsWithinMessage n before items
+  pub is_under_way : (items : List Item) → IsGoing n → WriterStands n (told_after before items) → IsWithinMessage n before items
   is_under_way items going stands =
       let b = stands going in
-      let same = behind-same before b.before items b.items b.are in
+      let same = told_after-same before b.before items b.items b.are in
       subst (λ k. IsWithinMessage n k items) (sym same.0) (subst (IsWithinMessage n b.before) (sym same.1) b.under_way)
 
   -- ---- no message
 
-  pub nothing_held : IsGoing n → WriterStands n (behind before []) → HoldsBefore n before
+  pub nothing_held : IsGoing n → WriterStands n (told_after before []) → HoldsBefore n before
   nothing_held going stands =
       let u = is_under_way [] going stands in
       record {

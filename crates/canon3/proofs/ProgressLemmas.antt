@@ -34,19 +34,19 @@ records-append n (Close ∷ a) b = records-append n a b
 records-append n (End ∷ a) b = records-append n a b
 
 module _ (progress : Progress) (entries : List Entry) (b : HasPassed progress entries) where
-  behind_one : (now : Progress) (one : Entry) → now.connections ≡ progress.connections + connections (one ∷ []) → now.records ≡ records_after progress.records (one ∷ []) → HasPassed now (entries ++ one ∷ [])
-  behind_one now one more is = record {
+  after_one : (now : Progress) (one : Entry) → now.connections ≡ progress.connections + connections (one ∷ []) → now.records ≡ records_after progress.records (one ∷ []) → HasPassed now (entries ++ one ∷ [])
+  after_one now one more is = record {
     connections_are = omega (arith, more, b.connections_are, connections-append entries (one ∷ []));
     records_are = is ∙ (ap (λ n. records_after n (one ∷ [])) b.records_are ∙ sym (records-append 0 entries (one ∷ [])));
   }
 
-  pub behind_more : (kind : Kind) (one : Entry) → IsOfKind kind one → HasPassed (progress_after progress kind) (entries ++ one ∷ [])
-  behind_more kinds.Begin one is = rw is (behind_one (progress_after progress kinds.Begin) Begin refl refl)
-  behind_more (kinds.Call id) one (items, asks, is) = rw is (behind_one (progress_after progress (kinds.Call id)) (Call items) (omega arith) refl)
-  behind_more kinds.Turn one is = rw is (behind_one (progress_after progress kinds.Turn) Turn (omega arith) refl)
-  behind_more (kinds.Reply id) one (items, is) = rw is (behind_one (progress_after progress (kinds.Reply id)) (Reply id items) (omega arith) refl)
-  behind_more kinds.Close one is = rw is (behind_one progress Close (omega arith) refl)
-  behind_more kinds.End one is = rw is (behind_one progress End (omega arith) refl)
+  pub after_more : (kind : Kind) (one : Entry) → IsOfKind kind one → HasPassed (progress_after progress kind) (entries ++ one ∷ [])
+  after_more kinds.Begin one is = rw is (after_one (progress_after progress kinds.Begin) Begin refl refl)
+  after_more (kinds.Call id) one (items, asks, is) = rw is (after_one (progress_after progress (kinds.Call id)) (Call items) (omega arith) refl)
+  after_more kinds.Turn one is = rw is (after_one (progress_after progress kinds.Turn) Turn (omega arith) refl)
+  after_more (kinds.Reply id) one (items, is) = rw is (after_one (progress_after progress (kinds.Reply id)) (Reply id items) (omega arith) refl)
+  after_more kinds.Close one is = rw is (after_one progress Close (omega arith) refl)
+  after_more kinds.End one is = rw is (after_one progress End (omega arith) refl)
 
 pub side_same : (kind : Kind) (one : Entry) → IsOfKind kind one → side_of_kind kind ≡ side_in one
 side_same kinds.Begin one is = sym (ap side_in is)

@@ -10,7 +10,7 @@ use Rattle.capture3.specs.Reached.{AreFirstReached, AreWhole, InMagic, BetweenCo
 use Rattle.capture3.specs.Typed.{Converses, HaveEntries, connection_entries, reply_entry}
 use Rattle.capture3.proofs.Converses.{conversed}
 use Rattle.capture3.proofs.Limits.{begun_size}
-use Rattle.capture3.proofs.Behind.{reached_more}
+use Rattle.capture3.proofs.ReachedMore.{reached_more}
 use Rattle.canon3.specs.Bytes.{bytes_of}
 use Rattle.canon3.specs.Laws.{AreFirst}
 use Rattle.canon3.proofs.Conversations.{AreConversing, Conversation, weight}
@@ -92,7 +92,7 @@ reached_first bytes entries (inr h) =
     let (bad, front, whole, more, longest, is_whole, is) = h in
     elim (reached_more bytes front whole more longest is_whole) [
       | inl none ↦ subst AreFirst (sym (is ∙ ap (λ (l : List Entry). whole ++ l) none ∙ append-nil whole)) (whole_first front whole is_whole)
-      | inr behind ↦ subst AreFirst (sym (is ∙ behind.is)) (open_first behind.connections behind.before behind.streams behind.calls behind.replies behind.inside behind.rest behind.messages behind.converses behind.few behind.small behind.split)
+      | inr told_after ↦ subst AreFirst (sym (is ∙ told_after.is)) (open_first told_after.connections told_after.before told_after.streams told_after.calls told_after.replies told_after.inside told_after.rest told_after.messages told_after.converses told_after.few told_after.small told_after.split)
     ]
 
 -- the first of what they reach are so too

@@ -13,7 +13,7 @@ use Rattle.canon3.specs.CanonicalStream.{message_after}
 use Rattle.canon3.specs.machinery.CanonicalStream.{open_xids}
 use Rattle.canon3.specs.HandleTable.{HoldsHandles}
 use Rattle.canon3.specs.Laws.{AreFirst}
-use Rattle.canon3.specs.machinery.MessageWriter.{AreFew, behind, HoldsBefore, IsGoing, WriterStands, values_of}
+use Rattle.canon3.specs.machinery.MessageWriter.{AreFew, told_after, HoldsBefore, IsGoing, WriterStands, values_of}
 use Rattle.canon3.specs.Rank.{HoldsDistinct}
 use Rattle.canon3.specs.machinery.Spelling.{HasSpelled}
 use Rattle.capture3.specs.Kept.{IsOfKind}
@@ -60,7 +60,7 @@ module _ {S H : Type 0} (n : MessageWriter S H) (entries : List Entry) where
 
   -- ---- a message
 
-  call_spelled : (items : List Item) → BeginsWithXid items → AreFirst (entries ++ Call items ∷ []) → length (entries ++ Call items ∷ []) < 2 ^ 32 → IsGoing n → WriterStands n (behind (values_of entries) items) → HasSpelled n Message entries (Call items)
+  call_spelled : (items : List Item) → BeginsWithXid items → AreFirst (entries ++ Call items ∷ []) → length (entries ++ Call items ∷ []) < 2 ^ 32 → IsGoing n → WriterStands n (told_after (values_of entries) items) → HasSpelled n Message entries (Call items)
   call_spelled (Word name xid ∷ rest) begins first few going stands =
       let items : List Item = Word name xid ∷ rest in
       let xs = open_xids [] entries ++ xid ∷ [] in
@@ -73,7 +73,7 @@ module _ {S H : Type 0} (n : MessageWriter S H) (entries : List Entry) where
   call_spelled _ begins first few going stands = absurd begins
 
   reply_spelled : (id : ProcId) (items : List Item) → IsAnswering (open_xids [] entries) items → AreFirst (entries ++ Reply id items ∷ []) → length (entries ++ Reply id items ∷ []) < 2 ^ 32 → IsGoing n
-      → WriterStands n (behind (values_of entries) items) → HasSpelled n Message entries (Reply id items)
+      → WriterStands n (told_after (values_of entries) items) → HasSpelled n Message entries (Reply id items)
   reply_spelled id (Word name xid ∷ rest) known first few going stands =
       let items : List Item = Word name xid ∷ rest in
       let xs = open_xids [] entries in
@@ -88,19 +88,19 @@ module _ {S H : Type 0} (n : MessageWriter S H) (entries : List Entry) where
 
   -- ---- an entry of each kind
 
-  pub word_spelled : (kind : Kind) (one : Entry) → (kind ≡ kinds.Turn) ⊎ ((kind ≡ kinds.Close) ⊎ (kind ≡ kinds.End)) → IsOfKind kind one → IsGoing n → WriterStands n (behind (values_of entries) (items_of one)) → HasSpelled n Zero entries one
+  pub word_spelled : (kind : Kind) (one : Entry) → (kind ≡ kinds.Turn) ⊎ ((kind ≡ kinds.Close) ⊎ (kind ≡ kinds.End)) → IsOfKind kind one → IsGoing n → WriterStands n (told_after (values_of entries) (items_of one)) → HasSpelled n Zero entries one
   word_spelled kind one (inl is) of going stands =
       let this : one ≡ Turn = subst (λ k. IsOfKind k one) is of in
-      rw this (turn_spelled (nothing_held n (values_of entries) going (subst (λ (e : Entry). WriterStands n (behind (values_of entries) (items_of e))) this stands)))
+      rw this (turn_spelled (nothing_held n (values_of entries) going (subst (λ (e : Entry). WriterStands n (told_after (values_of entries) (items_of e))) this stands)))
   word_spelled kind one (inr (inl is)) of going stands =
       let this : one ≡ Close = subst (λ k. IsOfKind k one) is of in
-      rw this (close_spelled (nothing_held n (values_of entries) going (subst (λ (e : Entry). WriterStands n (behind (values_of entries) (items_of e))) this stands)))
+      rw this (close_spelled (nothing_held n (values_of entries) going (subst (λ (e : Entry). WriterStands n (told_after (values_of entries) (items_of e))) this stands)))
   word_spelled kind one (inr (inr is)) of going stands =
       let this : one ≡ End = subst (λ k. IsOfKind k one) is of in
-      rw this (end_spelled (nothing_held n (values_of entries) going (subst (λ (e : Entry). WriterStands n (behind (values_of entries) (items_of e))) this stands)))
+      rw this (end_spelled (nothing_held n (values_of entries) going (subst (λ (e : Entry). WriterStands n (told_after (values_of entries) (items_of e))) this stands)))
 
   pub message_spelled : (kind : Kind) (one : Entry) → ((id : ProcId) × (kind ≡ kinds.Call id)) ⊎ ((id : ProcId) × (kind ≡ kinds.Reply id)) → IsOfKind kind one → AreFirst (entries ++ one ∷ []) → length (entries ++ one ∷ []) < 2 ^ 32 → IsGoing n
-      → WriterStands n (behind (values_of entries) (items_of one)) → HasSpelled n Message entries one
+      → WriterStands n (told_after (values_of entries) (items_of one)) → HasSpelled n Message entries one
   message_spelled kind one (inl (id, is)) of =
       let (items, asks, this) = subst (λ k. IsOfKind k one) is of in
       rw this (λ first few going stands. call_spelled items (last_paired entries (Call items) first).0 first few going stands)

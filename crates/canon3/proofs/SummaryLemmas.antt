@@ -37,14 +37,14 @@ use Rattle.canon3.proofs.InOrder.{typed_in_order}
 use Rattle.canon3.proofs.RankLemmas.{length-with_keys}
 
 -- one more is counted where it is one of them
-pub counts_behind : {X : Type 0} (p : X → Bool) (n m : ℕ) (items : List X) (one : X) → m ≡ n + cond (p one) 1 0 → n ≡ count_by p items → m ≡ count_by p (items ++ one ∷ [])
-counts_behind p n m items one more is =
+pub counts_after : {X : Type 0} (p : X → Bool) (n m : ℕ) (items : List X) (one : X) → m ≡ n + cond (p one) 1 0 → n ≡ count_by p items → m ≡ count_by p (items ++ one ∷ [])
+counts_after p n m items one more is =
     let whole : count_by p (items ++ one ∷ []) ≡ count_by p items + count_by p (one ∷ []) = sum_by-append (λ x. cond (p x) 1 0) items (one ∷ []) in
     let last : count_by p (one ∷ []) ≡ cond (p one) 1 0 + count_by p [] = sum_by-cons (λ x. cond (p x) 1 0) one [] in
     omega (arith, more, is, whole, last)
 
-pub items_behind : (front : List Entry) (last : Entry) → all_items (front ++ last ∷ []) ≡ all_items front ++ items_of last
-items_behind front last = flat_map-append items_of front (last ∷ []) ∙ ap (λ (l : List Item). all_items front ++ l) (append-nil (items_of last))
+pub items_with_last : (front : List Entry) (last : Entry) → all_items (front ++ last ∷ []) ≡ all_items front ++ items_of last
+items_with_last front last = flat_map-append items_of front (last ∷ []) ∙ ap (λ (l : List Item). all_items front ++ l) (append-nil (items_of last))
 
 call_same : (kind : Kind) (entry : Entry) → IsOfKind kind entry → calls kind ≡ is_call entry
 call_same kinds.Begin entry is = sym (ap is_call is)
@@ -67,8 +67,8 @@ pub passed_more : (old new : Passed) (kind : Kind) (entry : Entry) (entries : Li
     → new.calls ≡ old.calls + cond (calls kind) 1 0 → new.replies ≡ old.replies + cond (replies kind) 1 0 → ArePassed old entries → ArePassed new (entries ++ entry ∷ [])
 passed_more old new kind entry entries is progress called replied t = record {
   progress = progress;
-  calls_are = counts_behind is_call old.calls new.calls entries entry (called ∙ ap (λ b. old.calls + cond b 1 0) (call_same kind entry is)) t.calls_are;
-  replies_are = counts_behind is_reply old.replies new.replies entries entry (replied ∙ ap (λ b. old.replies + cond b 1 0) (reply_same kind entry is)) t.replies_are;
+  calls_are = counts_after is_call old.calls new.calls entries entry (called ∙ ap (λ b. old.calls + cond b 1 0) (call_same kind entry is)) t.calls_are;
+  replies_are = counts_after is_reply old.replies new.replies entries entry (replied ∙ ap (λ b. old.replies + cond b 1 0) (reply_same kind entry is)) t.replies_are;
 }
 
 -- an entry is a call or a reply at most

@@ -20,7 +20,7 @@ use Rattle.canon3.specs.declared.message_writer.Stage.TheVariants.{Begins, Goes,
 use Rattle.canon3.specs.Canonical.{numbered_item}
 use Rattle.canon3.specs.CanonicalStream.{items_after}
 use Rattle.canon3.specs.HandleTable.{HoldsHandles}
-use Rattle.canon3.specs.machinery.MessageWriter.{AreFew, Before, HasMessageUnderWay, IsSpelled, IsWithinMessage, in_front_of, behind, WriterStands}
+use Rattle.canon3.specs.machinery.MessageWriter.{AreFew, Before, HasMessageUnderWay, IsSpelled, IsWithinMessage, in_front_of, told_after, WriterStands}
 use Rattle.canon3.specs.Pairing.{here}
 use Rattle.canon3.specs.Rank.{number_limit, rank, HoldsDistinct}
 use Rattle.canon3.specs.Renaming.{IsPlain}
@@ -49,8 +49,8 @@ listed-append : (xs : List (List ℕ)) (items more : List Item) → in_front_of 
 listed-append [] items more = refl
 listed-append (x ∷ xs) items more = ap (λ (l : List Item). Rest [] x ∷ l) (listed-append xs items more)
 
-pub behind-append : (before : Before) (items more : List Item) → behind before (items ++ more) ≡ behind before items ++ more
-behind-append before items more =
+pub told_after-append : (before : Before) (items more : List Item) → told_after before (items ++ more) ≡ told_after before items ++ more
+told_after-append before items more =
     ap (λ (l : List Item). Rest [] before.xids ∷ l)
     (ap (in_front_of before.handles) (listed-append before.verifiers items more) ∙ listed-append before.handles (in_front_of before.verifiers items) more)
 
@@ -65,8 +65,8 @@ listed-same (x ∷ xs) (y ∷ ys) items more e =
     (ap₂ (λ a (b : List (List ℕ)). a ∷ b) head r.0, r.1)
 
 -- the items in front tell all
-pub behind-same : (a b : Before) (items more : List Item) → behind a items ≡ behind b more → (a ≡ b) × (items ≡ more)
-behind-same a b items more e =
+pub told_after-same : (a b : Before) (items more : List Item) → told_after a items ≡ told_after b more → (a ≡ b) × (items ≡ more)
+told_after-same a b items more e =
     let xids : a.xids ≡ b.xids = cc in
     let rest : in_front_of a.handles (in_front_of a.verifiers items) ≡ in_front_of b.handles (in_front_of b.verifiers more) = cc in
     let h = listed-same a.handles b.handles _ _ rest in
@@ -115,11 +115,11 @@ module _ {S H : Type 0} (old new : MessageWriter S H) (i : Item) where
     pub handles : (hs : List (List ℕ)) → HoldsHandles old.handles hs → HoldsHandles new.handles (hs ++ handle_in i)
     pub verifiers : (vs : List (List ℕ)) → HoldsDistinct bytes_eq old.verfs vs → HoldsDistinct bytes_eq new.verfs (vs ++ verifier_in i)
 
-  behind_by : Follows → ((before : Before) (items : List Item) → IsWithinMessage old before items → IsSpelled new.stage new.xids new.writer before (items ++ i ∷ [])) → (all : List Item) → HasMessageUnderWay old all → HasMessageUnderWay new (all ++ i ∷ [])
-  behind_by f spells all b = record {
+  after_by : Follows → ((before : Before) (items : List Item) → IsWithinMessage old before items → IsSpelled new.stage new.xids new.writer before (items ++ i ∷ [])) → (all : List Item) → HasMessageUnderWay old all → HasMessageUnderWay new (all ++ i ∷ [])
+  after_by f spells all b = record {
     before = b.before;
     items = b.items ++ i ∷ [];
-    are = ap (λ (l : List Item). l ++ i ∷ []) b.are ∙ sym (behind-append b.before b.items (i ∷ []));
+    are = ap (λ (l : List Item). l ++ i ∷ []) b.are ∙ sym (told_after-append b.before b.items (i ∷ []));
     under_way = record {
       handles = subst (HoldsHandles new.handles) (sym (values-push handle_in b.before.handles b.items i)) (f.handles (b.before.handles ++ handles_in b.items) b.under_way.handles);
       verifiers = subst (HoldsDistinct bytes_eq new.verfs) (sym (values-push verifier_in b.before.verifiers b.items i)) (f.verifiers (b.before.verifiers ++ verifiers_in b.items) b.under_way.verifiers);
@@ -132,7 +132,7 @@ module _ {S H : Type 0} (old new : MessageWriter S H) (i : Item) where
       → ((before : Before) (items : List Item) → new.stage ≢ Failed → IsWithinMessage old before items → IsSpelled new.stage new.xids new.writer before (items ++ i ∷ []))
       → Adds WriterStands old new (i ∷ [])
   unfolding Adds
-  adds_by f went spells all stands going = behind_by f (λ before items. spells before items going) all (stands (went going))
+  adds_by f went spells all stands going = after_by f (λ before items. spells before items going) all (stands (went going))
 
   -- the item with its number is written
   pub adds : (j : Item) → Follows → new.stage ≡ old.stage → new.xids ≡ old.xids
@@ -175,9 +175,9 @@ module _ {S H : Type 0} (n : MessageWriter S H) (bytes : List ℕ) where
   adds_plain i plain later =
       adds n with_writer i i (follows_plain i n.xids n.stage plain) refl refl later (λ hs vs h g few. sym (plain_numbered (hs ++ handle_in i) (vs ++ verifier_in i) i plain))
 
-  pub behind_xid : (n.stage ≡ Goes) ⊎ (n.stage ≡ Failed) → n.stage ≢ Begins
-  behind_xid (inl e) b = absurd cc
-  behind_xid (inr e) b = absurd cc
+  pub after_xid : (n.stage ≡ Goes) ⊎ (n.stage ≡ Failed) → n.stage ≢ Begins
+  after_xid (inl e) b = absurd cc
+  after_xid (inr e) b = absurd cc
 
   -- a word after the xid
   pub adds_word : (name : List ℕ) (x : ℕ) → n.stage ≢ Begins → Adds Spells n.writer bytes (Word name x ∷ []) → Adds WriterStands n with_writer (Word name x ∷ [])
@@ -271,7 +271,7 @@ module _ {S H : Type 0} where
   pub adds_xid_run : (n mid : MessageWriter S H) (bytes : List ℕ) (name : List ℕ) (all : List PlainField) (run : List ℕ) → Adds WriterStands n mid (Word name (big_number 4 run) ∷ []) → mid.stage ≡ Goes
       → Adds Spells mid.writer bytes (run_items all (drop 4 run)) → Adds WriterStands n (with_writer mid bytes) (Word name (big_number 4 run) ∷ run_items all (drop 4 run))
   adds_xid_run n mid bytes name all run first goes write =
-      adds_both WriterStands n mid (with_writer mid bytes) (Word name (big_number 4 run) ∷ []) (run_items all (drop 4 run)) first (adds_run mid bytes all (drop 4 run) (behind_xid mid bytes (inl goes)) write)
+      adds_both WriterStands n mid (with_writer mid bytes) (Word name (big_number 4 run) ∷ []) (run_items all (drop 4 run)) first (adds_run mid bytes all (drop 4 run) (after_xid mid bytes (inl goes)) write)
 
   number_spelled : (n : MessageWriter S H) (bytes : List ℕ) (name : List ℕ) (x : ℕ) (before : Before) (items : List Item) → n.stage ≡ Begins → IsSpelled n.stage n.xids n.writer before items → IsSpelled Goes n.xids bytes before (items ++ Hyper name x ∷ [])
   number_spelled n bytes name x before [] begins s = tt

@@ -5,7 +5,7 @@ ghost use Rattle.std.specs.Io.KnownBytes.{Appends};
 ghost use Rattle.capture3.specs.Entries.{CountsReading};
 ghost use Rattle.capture3.specs.Entry as spec;
 ghost use Rattle.canon3.specs.Laws.{AreFirst};
-ghost use Rattle.canon3.specs.machinery.MessageWriter.{behind, WriterStands, values_of};
+ghost use Rattle.canon3.specs.machinery.MessageWriter.{WriterStands, told_after, values_of};
 ghost use Rattle.canon3.specs.CanonicalForm.{RewritesGiven};
 ghost use Rattle.canon3.specs.machinery.CanonicalForm.{Follows, magic_before};
 ghost use Rattle.capture3.specs.Kept.{IsOfKind};
@@ -84,7 +84,7 @@ fn follow<S: BuildHasher + Drop, W: Sink>(
 ) -> Result<(), Error>
     ensures follows { (entries : List spec.Entry) (one : spec.Entry) → IsOfKind kind one
         → AreFirst (entries ++ one ∷ []) → length (entries ++ one ∷ []) < 2 ^ 32
-        → WriterStands message_writer.old (behind (values_of entries) (items_of one))
+        → WriterStands message_writer.old (told_after (values_of entries) (items_of one))
         → Follows message_writer.new (W.written sink.old) (W.written sink.new) entries one
         result }
     ensures count { CountsWriting (W.failures sink.old) (W.failures sink.new) result }

@@ -5,7 +5,7 @@ ghost use Rattle.xdr3.specs.Item.{Handle as HandleKind, Item, Opaque, Word, Writ
 ghost use Rattle.xdr3.specs.Plain.{run_items, run_size};
 ghost use Rattle.xdr3.specs.Visit.{Adds};
 ghost use Rattle.canon3.specs.HandleTable.{HoldsHandles};
-ghost use Rattle.canon3.specs.machinery.MessageWriter.{Before, behind, HoldsBefore, IsGoing, WriterStands, values_of};
+ghost use Rattle.canon3.specs.machinery.MessageWriter.{Before, HoldsBefore, IsGoing, WriterStands, told_after, values_of};
 ghost use Rattle.canon3.specs.Rank.{number_limit, rank};
 
 use crate::numbers::Numbers;
@@ -57,7 +57,7 @@ fn number_of_handle<S: BuildHasher + Drop>(
 impl<S: BuildHasher + Drop> MessageWriter<S> {
     /// Before a capture.
     pub(crate) fn new(alloc: Global, handles: S, verfs: S, xids: S) -> MessageWriter<S>
-        ensures stands { WriterStands result (behind (values_of []) []) }
+        ensures stands { WriterStands result (told_after (values_of []) []) }
         ensures going { IsGoing result }
     {
         MessageWriter {
@@ -85,7 +85,7 @@ impl<S: BuildHasher + Drop> MessageWriter<S> {
     /// Begins a message in place of the one before.
     pub(crate) fn begin_message(&mut self)
         ensures stands { (before : Before) → HoldsBefore self.old before
-            → WriterStands self.new (behind before []) }
+            → WriterStands self.new (told_after before []) }
         ensures going { IsGoing self.new }
     {
         self.writer.clear();

@@ -27,7 +27,7 @@ fn side_of(kind: Kind) -> Option<Side>
 impl Progress {
     /// Before any entry.
     pub fn new() -> Progress
-        ensures behind { HasPassed result [] }
+        ensures passed { HasPassed result [] }
         ensures none { steps_of result ≡ 0 }
     {
         Progress {

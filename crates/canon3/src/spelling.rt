@@ -3,7 +3,7 @@
 ghost use Rattle.std.specs.Prelude.{◌≡◌, ◌≢◌, ◌<◌, ◌^◌, ◌++◌, ◌∷◌, List, [], length, IfOk, MatchBool};
 ghost use Rattle.capture3.specs.Entry as spec;
 ghost use Rattle.canon3.specs.Laws.{AreFirst};
-ghost use Rattle.canon3.specs.machinery.MessageWriter.{behind, WriterStands, values_of};
+ghost use Rattle.canon3.specs.machinery.MessageWriter.{WriterStands, told_after, values_of};
 ghost use Rattle.canon3.specs.machinery.Spelling.{HasSpelled, spelling_of};
 ghost use Rattle.capture3.specs.Kept.{IsOfKind};
 ghost use Rattle.capture3.specs.Entry.{items_of};
@@ -31,7 +31,7 @@ pub(crate) fn spelling_of_entry<S: BuildHasher + Drop>(
 ) -> Result<Spelling, AllocError>
     ensures { (entries : List spec.Entry) (one : spec.Entry) → IsOfKind kind one
         → AreFirst (entries ++ one ∷ []) → length (entries ++ one ∷ []) < 2 ^ 32
-        → WriterStands message_writer.old (behind (values_of entries) (items_of one))
+        → WriterStands message_writer.old (told_after (values_of entries) (items_of one))
         → IfOk result (λ form. HasSpelled message_writer.new form entries one) }
 {
     message_writer.unless_failed()?;

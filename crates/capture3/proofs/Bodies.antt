@@ -20,7 +20,7 @@ use Rattle.procs3.specs.Table.{arguments_of, results_of}
 use Rattle.capture3.specs.Bodies.{ReplyItems, IsCall, IsReply, xid_in, procedure_of, Starts, LeavesMore, AcceptsCall, RefusesCall, AReply, BadCall, LongCall, OtherCall, AcceptsReply, RefusesReply, ACall, Unasked, BadReply, LongReply}
 use Rattle.capture3.specs.Bodies as bodies
 use Rattle.capture3.specs.Connections.{calls_in_turn, replies_to}
-use Rattle.capture3.specs.Judging.{read_whole, is_same, agrees, agreed, call_behind, answering, reply_behind, judge_call, judge_reply}
+use Rattle.capture3.specs.Judging.{read_whole, is_same, agrees, agreed, call_after, answering, reply_after, judge_call, judge_reply}
 use Rattle.capture3.specs.Opening.{judge_replies}
 use Rattle.capture3.proofs.Judged.{Judged}
 use Rattle.capture3.proofs.Layouts.{whole_read, refused_read, more_read, is_whole, is_refused}
@@ -156,21 +156,21 @@ not_same a b other = go (is_same a b) refl
 -- ---- the client stream
 
 -- a start with this mtype is read as its two words
-started : (body : List ℕ) (xid mtype : ℕ) {A : Type 0} (behind : List Item × ℕ → Result A Stop) → Starts body xid mtype → (to : ℕ) × ((reading message_start body 0 >>= behind) ≡ behind (start_of xid mtype, to))
-started body xid mtype behind s = let r = start_read body xid mtype s in (r.0, ap (λ x. x >>= behind) r.1)
+started : (body : List ℕ) (xid mtype : ℕ) {A : Type 0} (later : List Item × ℕ → Result A Stop) → Starts body xid mtype → (to : ℕ) × ((reading message_start body 0 >>= later) ≡ later (start_of xid mtype, to))
+started body xid mtype later s = let r = start_read body xid mtype s in (r.0, ap (λ x. x >>= later) r.1)
 
 -- after the start of a call it is the whole that is judged
 as_call : (before : List (List Item)) (body : List ℕ) (xid : ℕ) → Starts body xid 0 → judge_call before body ≡ (read_whole (call_layout arguments_of) body >>= agreed before)
 unfolding judge_call
-as_call before body xid s = (started body xid 0 (call_behind before body) s).1
+as_call before body xid s = (started body xid 0 (call_after before body) s).1
 
 pub judges_bad_start : (before : List (List Item)) (body : List ℕ) (stop : Stop) → reading message_start body 0 ≡ Err stop → judge_call before body ≡ Err stop
 unfolding judge_call
-judges_bad_start before body stop e = ap (λ x. x >>= call_behind before body) e
+judges_bad_start before body stop e = ap (λ x. x >>= call_after before body) e
 
 pub judges_reply : (before : List (List Item)) (body : List ℕ) (xid to : ℕ) → reading message_start body 0 ≡ Ok (start_of xid 1, to) → judge_call before body ≡ refused 4 WrongSide
 unfolding judge_call
-judges_reply before body xid to e = ap (λ x. x >>= call_behind before body) e
+judges_reply before body xid to e = ap (λ x. x >>= call_after before body) e
 
 agreed_ok : (before : List (List Item)) (items : List Item) (known : Option ProcId) → ((id : ProcId) → known ≡ Some id → id ≡ procedure_in items) → agrees known (procedure_in items) ≡ true
 agreed_ok before items None h = refl
@@ -254,15 +254,15 @@ the_calls = record {
 -- after the start of a reply it is the answer to a call with its xid that is judged
 as_reply : (calls : List (List Item)) (body : List ℕ) (xid : ℕ) → Starts body xid 1 → judge_reply calls body ≡ answering body (procedure_of calls xid)
 unfolding judge_reply
-as_reply calls body xid s = (started body xid 1 (reply_behind calls body) s).1
+as_reply calls body xid s = (started body xid 1 (reply_after calls body) s).1
 
 pub judges_bad_reply_start : (calls : List (List Item)) (body : List ℕ) (stop : Stop) → reading message_start body 0 ≡ Err stop → judge_reply calls body ≡ Err stop
 unfolding judge_reply
-judges_bad_reply_start calls body stop e = ap (λ x. x >>= reply_behind calls body) e
+judges_bad_reply_start calls body stop e = ap (λ x. x >>= reply_after calls body) e
 
 pub judges_call : (calls : List (List Item)) (body : List ℕ) (xid to : ℕ) → reading message_start body 0 ≡ Ok (start_of xid 0, to) → judge_reply calls body ≡ refused 4 WrongSide
 unfolding judge_reply
-judges_call calls body xid to e = ap (λ x. x >>= reply_behind calls body) e
+judges_call calls body xid to e = ap (λ x. x >>= reply_after calls body) e
 
 -- a reply of this procedure
 abbrev pub replying : ProcId → Result (List Item) Stop → Result ReplyItems Stop

@@ -28,7 +28,7 @@ use Rattle.capture3.specs.Connections.{refusal}
 use Rattle.capture3.specs.machinery.Container.{AreStored, Comes, ComesToFault, FirstKept, FromFile, InFile, InFirstKept, InNextKept, IsStored, Leaves, NextKept, Recalled, first_cursor, RecallFails, stream_of, unpacking_of, arrived, Arrives, ShowsError}
 use Rattle.capture3.specs.Entry.{Entry}
 use Rattle.capture3.specs.Entry as entries
-use Rattle.capture3.specs.machinery.Judges.{StandsAt, StandsOrRecalls, HasCome, behind_side_word, HasMet, MeetsEvent, met, met_in, GoesTo, FailsAt, JudgesCall, JudgesReply, RefusesBody}
+use Rattle.capture3.specs.machinery.Judges.{StandsAt, StandsOrRecalls, HasCome, after_side_word, HasMet, MeetsEvent, met, met_in, GoesTo, FailsAt, JudgesCall, JudgesReply, RefusesBody}
 use Rattle.capture3.specs.Reading as reading
 use Rattle.capture3.specs.machinery.Recalled.{Recalls, ShowsFirst}
 use Rattle.capture3.specs.Records.{fault_at}
@@ -125,7 +125,7 @@ stands_at_start position taking streams table at none = record {
 
 -- ---- bytes of the container
 
--- behind bytes that lead to a state
+-- after bytes that lead to a state
 led_on : (bytes piece : List ℕ) (s : Parsing) → parsed bytes ≡ Runs s → parsed (bytes ++ piece) ≡ after file_next (Runs s) piece
 led_on bytes piece s e = after-append file_next (Runs file_start) bytes piece ∙ ap (λ r. after file_next r piece) e
 
@@ -323,7 +323,7 @@ module _ {V : Type 0} (stands : V → List Item → Type 0) where
       )
   call_goes was now c table new bytes all id whole (inr m) tells =
       let k = tells m.stood.so_far.calls m.stood.calls in
-      let u : Unpacking = behind_side_word c.position in (
+      let u : Unpacking = after_side_word c.position in (
         entries.Call k.items,
         (k.items, whole, k.is_call, k.id_is, refl),
         k.adds,
@@ -357,7 +357,7 @@ module _ {V : Type 0} (stands : V → List Item → Type 0) where
   reply_goes was now c table bytes all id whole (inr m) tells =
       let k = tells m.stood.so_far.calls m.stood.calls in
       let answer : ReplyItems = record { id = id; items = k.items } in
-      let u : Unpacking = behind_side_word c.position in (
+      let u : Unpacking = after_side_word c.position in (
         entries.Reply id k.items,
         (k.items, whole, k.is_reply, refl),
         k.adds,
@@ -404,7 +404,7 @@ module _ (c : Container) (table : List NumberedCall) (bytes : List ℕ) (all : L
       let (stop, judged, is) = refuses m.stood.so_far.calls m.stood.calls in
       let same : suc (length m.stood.so_far.calls) ≡ c.position.records = omega (arith, m.records_are, m.stood.here.1) in
       subst (ShowsFirst bytes all) (ap (λ (n : ℕ). record { place = places.Record c.position.connections Client n stop.at; reason = stop.reason }) same ∙ sym is)
-      (call_refused (behind_side_word c.position) c.streams m.taken m.records table bytes all m.stood m.count (Whole (body_of c.joiner)) (fault_at m.stood.so_far.calls stop.at stop.reason) m.joins (ap (reading.judged m.stood.so_far.calls) judged))
+      (call_refused (after_side_word c.position) c.streams m.taken m.records table bytes all m.stood m.count (Whole (body_of c.joiner)) (fault_at m.stood.so_far.calls stop.at stop.reason) m.joins (ap (reading.judged m.stood.so_far.calls) judged))
   call_fails errors.Read (inl (none, m)) h = h m.so_far.calls m.calls
   call_fails errors.Read (inr m) h = h m.stood.so_far.calls m.stood.calls
   call_fails errors.Write (inl (none, m)) h = h m.so_far.calls m.calls
@@ -431,7 +431,7 @@ module _ (c : Container) (table : List NumberedCall) (bytes : List ℕ) (all : L
       let (stop, judged, is) = refuses m.stood.so_far.calls m.stood.calls in
       let same : suc (length m.stood.so_far.replies) ≡ c.position.records = omega (arith, m.records_are, m.stood.here.2) in
       subst (ShowsFirst bytes all) (ap (λ (n : ℕ). record { place = places.Record c.position.connections Server n stop.at; reason = stop.reason }) same ∙ sym is)
-      (reply_refused (behind_side_word c.position) c.streams m.taken m.records table bytes all m.stood m.count (Whole (body_of c.joiner)) (fault_at m.stood.so_far.replies stop.at stop.reason) m.joins (ap (reading.judged m.stood.so_far.replies) judged))
+      (reply_refused (after_side_word c.position) c.streams m.taken m.records table bytes all m.stood m.count (Whole (body_of c.joiner)) (fault_at m.stood.so_far.replies stop.at stop.reason) m.joins (ap (reading.judged m.stood.so_far.replies) judged))
   reply_fails errors.Read (inl (none, m)) h = h m.so_far.calls m.calls
   reply_fails errors.Read (inr m) h = h m.stood.so_far.calls m.stood.calls
   reply_fails errors.Write (inl (none, m)) h = h m.so_far.calls m.calls
@@ -495,7 +495,7 @@ module _ (cursor : Cursor) (old new : Container) (table : List NumberedCall) (by
 
   recalled_turn : Recalled cursor old.position new.position old.streams new.streams new.joiner new.cursor Turn → HasCome new table bytes (all ++ entries.Turn ∷ [])
   recalled_turn (side_is, streams_are, position_is, next_is, between, runs) =
-      let u : Unpacking = behind_side_word old.position in
+      let u : Unpacking = after_side_word old.position in
       let at : Recalls u old.streams Client cursor.taken old.position.records table bytes all = subst (λ (side : Side). Recalls u old.streams side cursor.taken old.position.records table bytes all) side_is s in
       let rest : after join_next (Runs Between) (drop cursor.taken old.streams.client) ≡ Runs Between = subst (λ (side : Side). after join_next (Runs Between) (drop cursor.taken (stream_of side old.streams)) ≡ Runs Between) side_is runs in
       rw (streams_are, position_is, next_is) (turn_recalled u old.streams cursor.taken old.position.records table bytes all at rest)
@@ -503,7 +503,7 @@ module _ (cursor : Cursor) (old new : Container) (table : List NumberedCall) (by
   recalled_close : IsRunning new.joiner → AreStored old.position (Some cursor) old.streams → Recalled cursor old.position new.position old.streams new.streams new.joiner new.cursor Close → HasCome new table bytes (all ++ entries.Close ∷ [])
   recalled_close running stored (side_is, empty, position_is, next_is, between, runs) =
       let p : Position = old.position in
-      let u : Unpacking = behind_side_word p in
+      let u : Unpacking = after_side_word p in
       let at : Recalls u old.streams Server cursor.taken p.records table bytes all = subst (λ (side : Side). Recalls u old.streams side cursor.taken p.records table bytes all) side_is s in
       let rest : after join_next (Runs Between) (drop cursor.taken old.streams.server) ≡ Runs Between = subst (λ (side : Side). after join_next (Runs Between) (drop cursor.taken (stream_of side old.streams)) ≡ Runs Between) side_is runs in
       let closes = close_recalled u old.streams cursor.taken p.records table bytes all at rest in
@@ -530,24 +530,24 @@ left_open messages Between h = absurd (h refl)
 left_open messages (Header body part) h = refl
 left_open messages (Bytes body last left) h = refl
 
-recall_fails_at : (side : Side) (taken : ℕ) (p : Position) (streams : Streams) (table : List NumberedCall) (bytes : List ℕ) (all : List Entry) (fault : Fault) → Recalls (behind_side_word p) streams side taken p.records table bytes all
+recall_fails_at : (side : Side) (taken : ℕ) (p : Position) (streams : Streams) (table : List NumberedCall) (bytes : List ℕ) (all : List Entry) (fault : Fault) → Recalls (after_side_word p) streams side taken p.records table bytes all
     → RecallFails (record { side = side; taken = taken }) p streams (errors.Refused fault) → ShowsFirst bytes all fault
 recall_fails_at Client taken p streams table bytes all fault r (inl (at, n, stops, is)) =
     let same : suc (length r.so_far.calls) ≡ p.records + 1 = omega (arith, r.here.1) in
     subst (ShowsFirst bytes all) (ap (λ (k : ℕ). record { place = places.Record p.connections Client k at; reason = RecordTooLong }) same ∙ sym is)
-    (call_refused (behind_side_word p) streams taken p.records table bytes all r n (TooLong at) (fault_at r.so_far.calls at RecordTooLong) stops refl)
+    (call_refused (after_side_word p) streams taken p.records table bytes all r n (TooLong at) (fault_at r.so_far.calls at RecordTooLong) stops refl)
 recall_fails_at Client taken p streams table bytes all fault r (inr (j, open_is, runs, is)) =
     let same : suc (length r.so_far.calls) ≡ p.records + 1 = omega (arith, r.here.1) in
     subst (ShowsFirst bytes all) (ap (λ (k : ℕ). record { place = places.Record p.connections Client k (length (joined_body j)); reason = RecordCut }) same ∙ sym is)
-    (call_cut (behind_side_word p) streams taken p.records table bytes all r j (fault_at r.so_far.calls (length (joined_body j)) RecordCut) runs (left_open r.so_far.calls j open_is))
+    (call_cut (after_side_word p) streams taken p.records table bytes all r j (fault_at r.so_far.calls (length (joined_body j)) RecordCut) runs (left_open r.so_far.calls j open_is))
 recall_fails_at Server taken p streams table bytes all fault r (inl (at, n, stops, is)) =
     let same : suc (length r.so_far.replies) ≡ p.records + 1 = omega (arith, r.here.2) in
     subst (ShowsFirst bytes all) (ap (λ (k : ℕ). record { place = places.Record p.connections Server k at; reason = RecordTooLong }) same ∙ sym is)
-    (reply_refused (behind_side_word p) streams taken p.records table bytes all r n (TooLong at) (fault_at r.so_far.replies at RecordTooLong) stops refl)
+    (reply_refused (after_side_word p) streams taken p.records table bytes all r n (TooLong at) (fault_at r.so_far.replies at RecordTooLong) stops refl)
 recall_fails_at Server taken p streams table bytes all fault r (inr (j, open_is, runs, is)) =
     let same : suc (length r.so_far.replies) ≡ p.records + 1 = omega (arith, r.here.2) in
     subst (ShowsFirst bytes all) (ap (λ (k : ℕ). record { place = places.Record p.connections Server k (length (joined_body j)); reason = RecordCut }) same ∙ sym is)
-    (reply_cut (behind_side_word p) streams taken p.records table bytes all r j (fault_at r.so_far.replies (length (joined_body j)) RecordCut) runs (left_open r.so_far.replies j open_is))
+    (reply_cut (after_side_word p) streams taken p.records table bytes all r j (fault_at r.so_far.replies (length (joined_body j)) RecordCut) runs (left_open r.so_far.replies j open_is))
 
 recall_fails : (cursor : Cursor) (p : Position) (t : Taking) (streams : Streams) (table : List NumberedCall) (bytes : List ℕ) (all : List Entry) (error : Error) → StandsOrRecalls (Some cursor) p t streams table bytes all
     → RecallFails cursor p streams error → FailsAt bytes all error

@@ -29,8 +29,8 @@ stopped_entries : (shown : ShownFault) (back : List ℕ) → last_entries (after
 stopped_entries shown [] = refl
 stopped_entries shown (byte ∷ back) = ap last_entries (after_stopped file_next shown back)
 
-behind_entries : (bytes front : List ℕ) (s : Parsing) (byte : ℕ) (back : List ℕ) (shown : ShownFault) → bytes ≡ front ++ byte ∷ back → parsed front ≡ Runs s → file_next s byte ≡ Ends shown → last_entries (parsed bytes) ≡ shown.more
-behind_entries bytes front s byte back shown split e ends =
+after_entries : (bytes front : List ℕ) (s : Parsing) (byte : ℕ) (back : List ℕ) (shown : ShownFault) → bytes ≡ front ++ byte ∷ back → parsed front ≡ Runs s → file_next s byte ≡ Ends shown → last_entries (parsed bytes) ≡ shown.more
+after_entries bytes front s byte back shown split e ends =
     ap last_entries (ap parsed split ∙ after-append file_next (Runs file_start) front (byte ∷ back) ∙ ap (λ r. after file_next r (byte ∷ back)) e ∙ ap (λ n. after file_next (landed n) back) ends)
     ∙ stopped_entries shown back
 
@@ -51,7 +51,7 @@ longest_is bytes front s more h are e = go h.longest
     go (inr r) =
         let ends = landed_ends r.2 (file_next s r.0) (sym (one_more front s r.0 e) ∙ stops_from_shows (front ++ r.0 ∷ []) r.2 (split_bytes bytes (front ++ r.0 ∷ []) r.1 (h.split ∙ ap (λ (b : List ℕ). front ++ b) r.3 ∙ sym (append_assoc front (r.0 ∷ []) r.1)) are).0 r.4) in (
           ap (last_running file_next s) r.3 ∙ ap (λ n. elim n [ Goes t ↦ last_running file_next t r.1 | Ends x ↦ s ]) ends,
-          behind_entries bytes front s r.0 r.1 r.2 (h.split ∙ ap (λ (b : List ℕ). front ++ b) r.3) e ends ∙ sym r.5,
+          after_entries bytes front s r.0 r.1 r.2 (h.split ∙ ap (λ (b : List ℕ). front ++ b) r.3) e ends ∙ sym r.5,
         )
 
 pub machine_reaches : (bytes : List ℕ) (entries : List Entry) → AreBytes bytes → Reached bytes entries → entries ≡ reached bytes
@@ -71,7 +71,7 @@ longest_cases : (bytes front : List ℕ) (s : Parsing) (rest : List ℕ) → Are
 longest_cases bytes front s [] are split e stops = inl (refl, ap last_entries (ap parsed (split ∙ append-nil front) ∙ e))
 longest_cases bytes front s (byte ∷ back) are split e stops =
     let stop = stops byte back refl in
-    inr (byte, back, stop.0, refl, shows_from_stops (front ++ byte ∷ []) stop.0 (split_bytes bytes (front ++ byte ∷ []) back (split ∙ sym (append_assoc front (byte ∷ []) back)) are).0 (one_more front s byte e ∙ ap landed stop.1), behind_entries bytes front s byte back stop.0 split e stop.1)
+    inr (byte, back, stop.0, refl, shows_from_stops (front ++ byte ∷ []) stop.0 (split_bytes bytes (front ++ byte ∷ []) back (split ∙ sym (append_assoc front (byte ∷ []) back)) are).0 (one_more front s byte e ∙ ap landed stop.1), after_entries bytes front s byte back stop.0 split e stop.1)
 
 reached_cases : (bytes : List ℕ) (v : Result (List Entry) Fault) → AreBytes bytes → verdict bytes ≡ v → Reached bytes (unwrap_or (result_ok v) (emitted (last_running file_next file_start bytes) ++ last_entries (parsed bytes)))
 reached_cases bytes (Ok entries) are e = inl (typed_from_verdict bytes entries are e)

@@ -14,7 +14,7 @@ use Rattle.capture3.specs.SidedChunks.{Streams, size, AreMixed}
 use Rattle.capture3.specs.Chunks.{IsStream}
 use Rattle.capture3.specs.Connections.{Context, ShownFault, refusal, client_refusal, server_refusal, client_position, server_position, calls_in_turn, replies_to, ServerShows, StreamsShow, InClientStream, InServerStream, ConnectionShows}
 use Rattle.capture3.specs.Entry.{Entry}
-use Rattle.capture3.specs.FirstFault.{BehindConnections, Rule, MagicDiffers, MarkIsBad, ConnectionIsTooMany, WithinConnection, ByteBehindEnd}
+use Rattle.capture3.specs.FirstFault.{AfterConnections, Rule, MagicDiffers, MarkIsBad, ConnectionIsTooMany, WithinConnection, ByteAfterEnd}
 use Rattle.capture3.specs.Judging.{judge_call}
 use Rattle.capture3.specs.Mixing.{MixedEnd, MixedCloses, MixedRefuses, mixed_next, mixing_from}
 use Rattle.capture3.specs.Opening.{judge_replies, Opening, InClient, InServer, InMixed, Closing, Closes, Refuses, turning, ending, server_said, client_said, conversing, opening_next, opened}
@@ -290,7 +290,7 @@ connections_or version (streams ∷ connections) at total number end sum count e
     go (inr gone) rest = inr (gone_more file_next AnyRefusal (after file_next (Runs (at_mark version at total number entries)) h.0) h.1 gone)
 
 -- after the magic and whole connections
-pub begun_or : (bytes : List ℕ) (b : BehindConnections bytes) → Marked b.version (length b.front) (total_size b.connections) (length b.connections) (parsed b.front)
+pub begun_or : (bytes : List ℕ) (b : AfterConnections bytes) → Marked b.version (length b.front) (total_size b.connections) (length b.connections) (parsed b.front)
 begun_or bytes b =
     subst (Marked b.version (length b.front) (total_size b.connections) (length b.connections))
     (sym (ap parsed b.begins ∙ after-append file_next (Runs file_start) (magic b.version) b.whole ∙ ap (λ run. after file_next run b.whole) (magics_run b.version)))
@@ -301,10 +301,10 @@ pub file_steps : (bytes front last : List ℕ) → bytes ≡ front ++ last → p
 file_steps bytes front last split = ap parsed split ∙ after-append file_next (Runs file_start) front last
 
 -- what comes after whole connections, from where the machine stands
-behind_over : (bytes : List ℕ) (b : BehindConnections bytes) (shown : ShownFault) → 0 < length (b.word ++ b.rest)
+after_over : (bytes : List ℕ) (b : AfterConnections bytes) (shown : ShownFault) → 0 < length (b.word ++ b.rest)
     → ((entries : List Entry) → Over AnyRefusal (after file_next (Runs (at_mark b.version (length b.front) (total_size b.connections) (length b.connections) entries)) (b.word ++ b.rest)) shown)
     → Over AnyRefusal (parsed bytes) shown
-behind_over bytes b shown some on = subst (λ run. Over AnyRefusal run shown) (sym (file_steps bytes b.front (b.word ++ b.rest) (b.split ∙ append_assoc b.front b.word b.rest))) (go (begun_or bytes b))
+after_over bytes b shown some on = subst (λ run. Over AnyRefusal run shown) (sym (file_steps bytes b.front (b.word ++ b.rest) (b.split ∙ append_assoc b.front b.word b.rest))) (go (begun_or bytes b))
   where
     go : Marked b.version (length b.front) (total_size b.connections) (length b.connections) (parsed b.front) → Over AnyRefusal (after file_next (parsed b.front) (b.word ++ b.rest)) shown
     go (inl r) = subst (λ run. Over AnyRefusal (after file_next run (b.word ++ b.rest)) shown) (sym r.1) (on r.0)
@@ -345,17 +345,17 @@ end_over version at total number entries word (byte ∷ other ∷ more) mark is 
 pub rule_over : (bytes : List ℕ) (shown : ShownFault) → Rule bytes shown → Over AnyRefusal (parsed bytes) shown
 rule_over bytes shown (MagicDiffers d same) = inl (magic_stops bytes shown.fault d ∙ ap (λ f. Stops f) (sym same))
 rule_over bytes shown (MarkIsBad b none bad is) =
-    behind_over bytes b shown (words_some b.word b.rest b.mark b.is_word)
+    after_over bytes b shown (words_some b.word b.rest b.mark b.is_word)
     (λ entries. inl (at_word b.version (length b.front) (total_size b.connections) (length b.connections) entries b.word b.rest b.mark b.mark b.is_word none refl
     ∙ bad_mark_stops b.version (length b.front) (total_size b.connections) (length b.connections) entries b.mark bad ∙ ap (λ f. Stops f) (sym is)))
 rule_over bytes shown (ConnectionIsTooMany b none one full is) =
-    behind_over bytes b shown (words_some b.word b.rest b.mark b.is_word)
+    after_over bytes b shown (words_some b.word b.rest b.mark b.is_word)
     (λ entries. inl (at_word b.version (length b.front) (total_size b.connections) (length b.connections) entries b.word b.rest b.mark 1 b.is_word none one
     ∙ ap (λ t. landed (cond t (Goes (inside_at b.version (length b.front + 4) (total_size b.connections) (suc (length b.connections)) entries (opened b.version (length b.front + 4) (total_size b.connections)))) (Ends (refusal (file_fault (length b.front) TooManyConnections)))))
     (le-ltb (length b.connections) max_connections (omega (arith, full))) ∙ ap (λ f. Stops f) (sym is)))
 rule_over bytes shown (WithinConnection b one shows) =
-    behind_over bytes b shown (words_some b.word b.rest b.mark b.is_word)
+    after_over bytes b shown (words_some b.word b.rest b.mark b.is_word)
     (λ entries. within_over b.version (length b.front) (total_size b.connections) (length b.connections) entries b.word b.rest shown (b.is_word.0, b.is_word.1 ∙ one) shows)
-rule_over bytes shown (ByteBehindEnd b none one is) =
-    behind_over bytes b shown (words_some b.word b.rest b.mark b.is_word)
+rule_over bytes shown (ByteAfterEnd b none one is) =
+    after_over bytes b shown (words_some b.word b.rest b.mark b.is_word)
     (λ entries. inl (end_over b.version (length b.front) (total_size b.connections) (length b.connections) entries b.word b.rest b.mark b.is_word none one ∙ ap (λ f. Stops f) (sym is)))

@@ -21,7 +21,7 @@ use Rattle.capture3.specs.Parsing.{Spot, Magic, Digit, Mark, Inside, Ended, Pars
 use Rattle.capture3.specs.Reached.{Opens}
 use Rattle.capture3.specs.Sides.{file_fault}
 use Rattle.capture3.specs.Typed.{connection_entries, HaveEntries}
-use Rattle.capture3.proofs.Strict.{ConnectionShows, BehindConnections, Rule, MagicDiffers, MarkIsBad, ConnectionIsTooMany, WithinConnection, ByteBehindEnd}
+use Rattle.capture3.proofs.Strict.{ConnectionShows, AfterConnections, Rule, MagicDiffers, MarkIsBad, ConnectionIsTooMany, WithinConnection, ByteAfterEnd}
 use Rattle.capture3.proofs.BytesOf.{split_bytes}
 use Rattle.capture3.proofs.Openings.{HasOpening, ClosesConnection, EndsConnection, opening_leads, opening_runs, opening_stops, nothing_opened}
 use Rattle.capture3.proofs.Telling.{tells_bytes}
@@ -258,7 +258,7 @@ spot_leads version bytes at total number entries (Inside o) byte are h =
     (λ x ends. closed_leads version (bytes ++ byte ∷ []) (h.rest ++ byte ∷ []) at total number entries o bytes h more x ends)
     (opening_next number o byte) (opening_leads version context h.rest o byte (split_bytes (bytes ++ byte ∷ []) (h.front ++ h.mark) (h.rest ++ byte ∷ []) more are).1 h.inside)
 spot_leads version bytes at total number entries Ended byte are h =
-    ByteBehindEnd (record { version = version; front = h.front; word = h.last; rest = byte ∷ []; connections = h.connections; entries = entries; mark = 0; split = ap (λ (b : List ℕ). b ++ byte ∷ []) h.split; opens = h.opens; is_word = h.closes }) refl refl
+    ByteAfterEnd (record { version = version; front = h.front; word = h.last; rest = byte ∷ []; connections = h.connections; entries = entries; mark = 0; split = ap (λ (b : List ℕ). b ++ byte ∷ []) h.split; opens = h.opens; is_word = h.closes }) refl refl
     (let at_is : at ≡ length h.front + 4 = omega (arith, h.at_is, ap length h.split, length-append h.front h.last, h.closes.0) in ap (λ n. refusal (file_fault n AfterEnd)) at_is)
 
 pub file_leads : (bytes : List ℕ) (s : Parsing) (byte : ℕ) → AreBytes (bytes ++ byte ∷ []) → Stands bytes s → Leads Stands Rule (bytes ++ byte ∷ []) (file_next s byte)
@@ -338,9 +338,9 @@ pub length_magic : (version : Version) → length (magic version) ≡ 8
 length_magic One = refl
 length_magic Two = refl
 
-behind : (version : Version) (bytes front back : List ℕ) (connections : List Streams) (entries : List Entry) → bytes ≡ front ++ back → Opens version front connections entries
+later : (version : Version) (bytes front back : List ℕ) (connections : List Streams) (entries : List Entry) → bytes ≡ front ++ back → Opens version front connections entries
     → parsed bytes ≡ after file_next (Runs (record { version = version; at = length front; total = total_size connections; number = length connections; entries = entries; spot = Mark [] })) back
-behind version bytes front back connections entries split opens =
+later version bytes front back connections entries split opens =
     ap parsed (split ∙ ap (λ (b : List ℕ). b ++ back) opens.split ∙ append_assoc (magic version) opens.rest back)
     ∙ after-append file_next (Runs file_start) (magic version) (opens.rest ++ back)
     ∙ ap (λ run. after file_next run (opens.rest ++ back)) (magics_run version)
@@ -365,16 +365,16 @@ spot_runs : (version : Version) (bytes : List ℕ) (at total number : ℕ) (entr
 spot_runs version bytes at total number entries (Magic due more) h = part_runs version bytes at total number entries (due ∷ more) h
 spot_runs version bytes at total number entries Digit h = part_runs version bytes at total number entries [] h
 spot_runs version bytes at total number entries (Mark part) h =
-    behind version bytes h.front part h.connections entries h.split h.opens
+    later version bytes h.front part h.connections entries h.split h.opens
     ∙ nested_runs word_next file_next (λ p. record { version = version; at = length h.front; total = total_size h.connections; number = length h.connections; entries = entries; spot = Mark p }) (marked version (length h.front) (total_size h.connections) (length h.connections) entries) (λ s byte. refl) part [] part (word_runs part h.short)
     ∙ same_state (sym h.at_is) (sym h.total_is) (sym h.number_is)
 spot_runs version bytes at total number entries (Inside o) h =
-    behind version bytes h.front (h.mark ++ h.rest) h.connections entries (h.split ∙ append_assoc h.front h.mark h.rest) h.opens
+    later version bytes h.front (h.mark ++ h.rest) h.connections entries (h.split ∙ append_assoc h.front h.mark h.rest) h.opens
     ∙ inside_runs version (length h.front) (total_size h.connections) (length h.connections) entries h.mark h.rest o h.one h.few (subst (λ (x : Context). HasOpening version x h.rest o) (context_is h.number_is h.at_is h.total_is) h.inside)
     ∙ same_state (sym h.at_is) (sym h.total_is) (sym h.number_is)
 spot_runs version bytes at total number entries Ended h =
     let at_is : length h.front + 4 ≡ at = omega (arith, h.at_is, ap length h.split, length-append h.front h.last, h.closes.0) in
-    behind version bytes h.front h.last h.connections entries h.split h.opens
+    later version bytes h.front h.last h.connections entries h.split h.opens
     ∙ mark_runs version (length h.front) (total_size h.connections) (length h.connections) entries h.last 0 h.closes
     ∙ same_state at_is (sym h.total_is) (sym h.number_is)
 
@@ -382,9 +382,9 @@ pub file_runs : (bytes : List ℕ) (s : Parsing) → Stands bytes s → parsed b
 file_runs bytes s h = spot_runs s.version bytes s.at s.total s.number s.entries s.spot h
 
 -- at a connection word that is the last of the bytes
-word_last : (bytes : List ℕ) (b : BehindConnections bytes) (n : ℕ) → b.rest ≡ [] → b.mark ≡ n → parsed bytes ≡ landed (marked b.version (length b.front) (total_size b.connections) (length b.connections) b.entries n)
+word_last : (bytes : List ℕ) (b : AfterConnections bytes) (n : ℕ) → b.rest ≡ [] → b.mark ≡ n → parsed bytes ≡ landed (marked b.version (length b.front) (total_size b.connections) (length b.connections) b.entries n)
 word_last bytes b n none is =
-    behind b.version bytes b.front b.word b.connections b.entries (b.split ∙ ap (λ (r : List ℕ). b.front ++ b.word ++ r) none ∙ append-nil (b.front ++ b.word)) b.opens
+    later b.version bytes b.front b.word b.connections b.entries (b.split ∙ ap (λ (r : List ℕ). b.front ++ b.word ++ r) none ∙ append-nil (b.front ++ b.word)) b.opens
     ∙ mark_runs b.version (length b.front) (total_size b.connections) (length b.connections) b.entries b.word n (b.is_word.0, b.is_word.1 ∙ is)
 
 pub bad_mark_stops : (version : Version) (at total count : ℕ) (entries : List Entry) (n : ℕ) → 1 < n → landed (marked version at total count entries n) ≡ Stops (refusal (file_fault at BadMark))
@@ -392,13 +392,13 @@ bad_mark_stops version at total count entries zero h = absurd (omega arith)
 bad_mark_stops version at total count entries (suc zero) h = absurd (omega arith)
 bad_mark_stops version at total count entries (suc (suc n)) h = refl
 
-behind_end : (bytes : List ℕ) (b : BehindConnections bytes) (rest : List ℕ) → b.rest ≡ rest → b.mark ≡ 0 → length rest ≡ 1 → parsed bytes ≡ Stops (refusal (file_fault (length b.front + 4) AfterEnd))
-behind_end bytes b [] same none one = absurd (omega arith)
-behind_end bytes b (byte ∷ []) same none one =
-    behind b.version bytes b.front (b.word ++ byte ∷ []) b.connections b.entries (b.split ∙ append_assoc b.front b.word b.rest ∙ ap (λ (r : List ℕ). b.front ++ (b.word ++ r)) same) b.opens
+byte_after_end : (bytes : List ℕ) (b : AfterConnections bytes) (rest : List ℕ) → b.rest ≡ rest → b.mark ≡ 0 → length rest ≡ 1 → parsed bytes ≡ Stops (refusal (file_fault (length b.front + 4) AfterEnd))
+byte_after_end bytes b [] same none one = absurd (omega arith)
+byte_after_end bytes b (byte ∷ []) same none one =
+    later b.version bytes b.front (b.word ++ byte ∷ []) b.connections b.entries (b.split ∙ append_assoc b.front b.word b.rest ∙ ap (λ (r : List ℕ). b.front ++ (b.word ++ r)) same) b.opens
     ∙ after-append file_next (Runs (record { version = b.version; at = length b.front; total = total_size b.connections; number = length b.connections; entries = b.entries; spot = Mark [] })) b.word (byte ∷ [])
     ∙ ap (λ run. after file_next run (byte ∷ [])) (mark_runs b.version (length b.front) (total_size b.connections) (length b.connections) b.entries b.word 0 (b.is_word.0, b.is_word.1 ∙ none))
-behind_end bytes b (byte ∷ other ∷ more) same none one = absurd (omega arith)
+byte_after_end bytes b (byte ∷ other ∷ more) same none one = absurd (omega arith)
 
 -- where a magic goes on, its front does, or its digit comes
 pub magic_split : (xs front : List ℕ) (y due : ℕ) (more : List ℕ) → xs ++ y ∷ [] ≡ front ++ due ∷ more → ((left : List ℕ) × (xs ≡ front ++ due ∷ left)) ⊎ (xs ≡ front)
@@ -443,6 +443,6 @@ rule_stops bytes shown (ConnectionIsTooMany b none one full is) =
     (le-ltb (length b.connections) max_connections (omega arith))
     ∙ ap (λ f. Stops f) (sym is)
 rule_stops bytes shown (WithinConnection b one few shows) =
-    behind b.version bytes b.front (b.word ++ b.rest) b.connections b.entries (b.split ∙ append_assoc b.front b.word b.rest) b.opens
+    later b.version bytes b.front (b.word ++ b.rest) b.connections b.entries (b.split ∙ append_assoc b.front b.word b.rest) b.opens
     ∙ inside_stops b.version (length b.front) (total_size b.connections) (length b.connections) b.entries b.word b.rest (Refuses shown) (b.is_word.0, b.is_word.1 ∙ one) few shows
-rule_stops bytes shown (ByteBehindEnd b none one is) = behind_end bytes b b.rest refl none one ∙ ap (λ f. Stops f) (sym is)
+rule_stops bytes shown (ByteAfterEnd b none one is) = byte_after_end bytes b b.rest refl none one ∙ ap (λ f. Stops f) (sym is)

@@ -45,59 +45,59 @@ abbrev pub Adds : List Entry → Parsing → Type 0
 Adds base s = (more : List Entry) × (emitted s ≡ base ++ more)
 
 -- the last state along the bytes, after one byte more
-abbrev pub last_behind : Parsing → List ℕ → Next Parsing ShownFault → Parsing
-last_behind old bytes n = elim n [ Goes t ↦ last_running file_next t bytes | Ends x ↦ old ]
+abbrev pub last_after : Parsing → List ℕ → Next Parsing ShownFault → Parsing
+last_after old bytes n = elim n [ Goes t ↦ last_running file_next t bytes | Ends x ↦ old ]
 
 adds_nothing : (u : Unpacking) (j : Judged) → Adds (emitted_at u.opened j) (parsing_at u j)
 adds_nothing u j = ([], emitted_here u j ∙ sym (append-nil (emitted_at u.opened j)))
 
 -- one entry more came first
-adds_behind : (base next : List Entry) (entry : Entry) (s : Parsing) → next ≡ base ++ entry ∷ [] → Adds next s → Adds base s
-adds_behind base next entry s is (more, e) = (entry ∷ more, e ∙ ap (λ (l : List Entry). l ++ more) is ∙ append_assoc base (entry ∷ []) more)
+adds_after : (base next : List Entry) (entry : Entry) (s : Parsing) → next ≡ base ++ entry ∷ [] → Adds next s → Adds base s
+adds_after base next entry s is (more, e) = (entry ∷ more, e ∙ ap (λ (l : List Entry). l ++ more) is ∙ append_assoc base (entry ∷ []) more)
 
 pub grows : (bytes : List ℕ) (u : Unpacking) (j : Judged) → Agrees u j → Adds (emitted_at u.opened j) (last_running file_next (parsing_at u j) bytes)
 grows [] u j agrees = adds_nothing u j
 grows (byte ∷ bytes) u j agrees =
-    subst (λ n. Adds (emitted_at u.opened j) (last_behind (parsing_at u j) bytes n)) (sym (follows u j byte agrees)) (on (unpack_next u byte) (agrees_on u j byte agrees) (emits u j byte) (grows bytes))
+    subst (λ n. Adds (emitted_at u.opened j) (last_after (parsing_at u j) bytes n)) (sym (follows u j byte agrees)) (on (unpack_next u byte) (agrees_on u j byte agrees) (emits u j byte) (grows bytes))
   where
     on : (n : Next Unpacking Unpacked) → AgreesOn j n → EmitsOn j (emitted_at u.opened j) n
-        → ((w : Unpacking) (k : Judged) → Agrees w k → Adds (emitted_at w.opened k) (last_running file_next (parsing_at w k) bytes)) → Adds (emitted_at u.opened j) (last_behind (parsing_at u j) bytes (resumed j n))
+        → ((w : Unpacking) (k : Judged) → Agrees w k → Adds (emitted_at w.opened k) (last_running file_next (parsing_at w k) bytes)) → Adds (emitted_at u.opened j) (last_after (parsing_at u j) bytes (resumed j n))
     on (Goes w) next is more = let g = more w j next in (g.0, g.1 ∙ ap (λ (l : List Entry). l ++ g.0) is)
-    on (Ends (Has Begin body w)) next is more = adds_behind (emitted_at u.opened j) (emitted_at w.opened (connection_begun w j)) entries.Begin (last_running file_next (parsing_at w (connection_begun w j)) bytes) is (more w (connection_begun w j) next)
+    on (Ends (Has Begin body w)) next is more = adds_after (emitted_at u.opened j) (emitted_at w.opened (connection_begun w j)) entries.Begin (last_running file_next (parsing_at w (connection_begun w j)) bytes) is (more w (connection_begun w j) next)
     on (Ends (Has (Record Client) body w)) next is more = by_call (judge_call j.calls body)
       where
-        by_call : (r : Result (List Item) Stop) → Adds (emitted_at u.opened j) (last_behind (parsing_at u j) bytes (call_judged w j r))
+        by_call : (r : Result (List Item) Stop) → Adds (emitted_at u.opened j) (last_after (parsing_at u j) bytes (call_judged w j r))
         by_call (Ok call) =
-            adds_behind (emitted_at u.opened j) (emitted_at w.opened (with_call j call)) (entries.Call call) (last_running file_next (parsing_at w (with_call j call)) bytes) (is call) (more w (with_call j call) (next.0 call))
+            adds_after (emitted_at u.opened j) (emitted_at w.opened (with_call j call)) (entries.Call call) (last_running file_next (parsing_at w (with_call j call)) bytes) (is call) (more w (with_call j call) (next.0 call))
         by_call (Err stop) = adds_nothing u j
     on (Ends (Has (Record Server) body w)) next is more = by_reply (judge_reply j.calls body)
       where
-        by_reply : (r : Result ReplyItems Stop) → Adds (emitted_at u.opened j) (last_behind (parsing_at u j) bytes (reply_judged w j r))
+        by_reply : (r : Result ReplyItems Stop) → Adds (emitted_at u.opened j) (last_after (parsing_at u j) bytes (reply_judged w j r))
         by_reply (Ok reply) =
-            adds_behind (emitted_at u.opened j) (emitted_at w.opened (with_reply j reply)) (reply_entry reply) (last_running file_next (parsing_at w (with_reply j reply)) bytes) (is reply) (more w (with_reply j reply) (next.0 reply))
+            adds_after (emitted_at u.opened j) (emitted_at w.opened (with_reply j reply)) (reply_entry reply) (last_running file_next (parsing_at w (with_reply j reply)) bytes) (is reply) (more w (with_reply j reply) (next.0 reply))
         by_reply (Err stop) = adds_nothing u j
-    on (Ends (Has Turn body w)) next is more = adds_behind (emitted_at u.opened j) (emitted_at w.opened (turned j)) entries.Turn (last_running file_next (parsing_at w (turned j)) bytes) is (more w (turned j) next)
-    on (Ends (Has Close body w)) next is more = adds_behind (emitted_at u.opened j) (emitted_at w.opened (connection_closed j)) entries.Close (last_running file_next (parsing_at w (connection_closed j)) bytes) is (more w (connection_closed j) next)
+    on (Ends (Has Turn body w)) next is more = adds_after (emitted_at u.opened j) (emitted_at w.opened (turned j)) entries.Turn (last_running file_next (parsing_at w (turned j)) bytes) is (more w (turned j) next)
+    on (Ends (Has Close body w)) next is more = adds_after (emitted_at u.opened j) (emitted_at w.opened (connection_closed j)) entries.Close (last_running file_next (parsing_at w (connection_closed j)) bytes) is (more w (connection_closed j) next)
     on (Ends (Has events.Streams body w)) next is more = let g = more w j next in (g.0, g.1 ∙ ap (λ (l : List Entry). l ++ g.0) is)
     on (Ends (HasStreams streams w)) next is more =
-        subst (λ (base : List Entry). Adds base (last_behind (parsing_at u j) bytes (conversed w j streams))) (sym is) (by_client (stream_end judge_call streams.client))
+        subst (λ (base : List Entry). Adds base (last_after (parsing_at u j) bytes (conversed w j streams))) (sym is) (by_client (stream_end judge_call streams.client))
       where
         emitted_before : emitted (parsing_at u j) ≡ j.entries ++ entries.Begin ∷ []
         emitted_before = emitted_here u j ∙ is
 
         by_server : (calls : List (List Item)) (x : StreamEnd ReplyItems)
-            → Adds (j.entries ++ entries.Begin ∷ []) (last_behind (parsing_at u j) bytes (within (λ p. parsing_in Two j.start j.before w.connections j.entries (parsing.Inside p)) (parsing.closed Two w.connections j.entries) (server_said w.connections w.at w.total calls x)))
+            → Adds (j.entries ++ entries.Begin ∷ []) (last_after (parsing_at u j) bytes (within (λ p. parsing_in Two j.start j.before w.connections j.entries (parsing.Inside p)) (parsing.closed Two w.connections j.entries) (server_said w.connections w.at w.total calls x)))
         by_server calls (Held replies) =
             let all : List Entry = j.entries ++ connection_entries calls replies in
             let v : Unpacking = record { at = w.at; total = w.total; connections = w.connections; records = 0; opened = Mark Two []; joining = Between } in
             let k : Judged = record { start = 0; before = 0; entries = all; calls = []; replies = [] } in
             let g = more v k refl in
-            let behind : List Entry = (map entries.Call calls ++ (entries.Turn ∷ map reply_entry replies)) ++ entries.Close ∷ [] in
-            (behind ++ g.0, g.1 ∙ ap (λ (l : List Entry). l ++ g.0) (sym (append_assoc j.entries (entries.Begin ∷ []) behind)) ∙ append_assoc (j.entries ++ entries.Begin ∷ []) behind g.0)
+            let later : List Entry = (map entries.Call calls ++ (entries.Turn ∷ map reply_entry replies)) ++ entries.Close ∷ [] in
+            (later ++ g.0, g.1 ∙ ap (λ (l : List Entry). l ++ g.0) (sym (append_assoc j.entries (entries.Begin ∷ []) later)) ∙ append_assoc (j.entries ++ entries.Begin ∷ []) later g.0)
         by_server calls (Faulty replies fault) = ([], emitted_before ∙ sym (append-nil (j.entries ++ entries.Begin ∷ [])))
 
         by_client : (x : StreamEnd (List Item))
-            → Adds (j.entries ++ entries.Begin ∷ []) (last_behind (parsing_at u j) bytes (within (λ p. parsing_in Two j.start j.before w.connections j.entries (parsing.Inside p)) (parsing.closed Two w.connections j.entries) (client_said w.connections w.at w.total streams.server x)))
+            → Adds (j.entries ++ entries.Begin ∷ []) (last_after (parsing_at u j) bytes (within (λ p. parsing_in Two j.start j.before w.connections j.entries (parsing.Inside p)) (parsing.closed Two w.connections j.entries) (client_said w.connections w.at w.total streams.server x)))
         by_client (Held calls) = by_server calls (stream_end (judge_replies calls) streams.server)
         by_client (Faulty calls fault) = ([], emitted_before ∙ sym (append-nil (j.entries ++ entries.Begin ∷ [])))
     on (Ends (Refuses fault)) next is more = adds_nothing u j

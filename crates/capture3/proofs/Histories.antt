@@ -34,7 +34,7 @@ use Rattle.capture3.specs.machinery.Entries.{entries_left_in, entries_left, unju
 use Rattle.capture3.specs.Handing.{HandsOut, HandsOutGiven}
 use Rattle.capture3.specs.Entry.{Entry, End}
 use Rattle.capture3.specs.FirstFault.{FirstFault, IsClean}
-use Rattle.capture3.specs.machinery.Judges.{StandsAt, StandsOrRecalls, HasCome, behind_side_word, GoesTo, FailsAt, IsHeld, IsOfBytes, entry_cost}
+use Rattle.capture3.specs.machinery.Judges.{StandsAt, StandsOrRecalls, HasCome, after_side_word, GoesTo, FailsAt, IsHeld, IsOfBytes, entry_cost}
 use Rattle.capture3.specs.Kept.{IsOfKind}
 use Rattle.capture3.specs.Laws.{begins, most_bytes}
 use Rattle.capture3.specs.Parsing.{Parsing, parsed, emitted}
@@ -45,7 +45,7 @@ use Rattle.capture3.specs.machinery.Resumed.{parsing_at}
 use Rattle.capture3.specs.SidedChunks.{Streams}
 use Rattle.capture3.specs.Sides.{file_fault}
 use Rattle.capture3.specs.Typed.{IsWellFormed, Typed}
-use Rattle.capture3.proofs.Behind.{reached_within}
+use Rattle.capture3.proofs.ReachedMore.{reached_within}
 use Rattle.capture3.proofs.BytesOf.{AreBytes-append, split_bytes}
 use Rattle.capture3.proofs.Captures.{untold}
 use Rattle.capture3.proofs.Limits.{begins-append, typed_within}
@@ -163,7 +163,7 @@ come_first c table bytes rest handed are h = by_cursor c.cursor h
   where
     by_cursor : (cursor : Option Cursor) → StandsOrRecalls cursor c.position (released c.joiner) c.streams table bytes handed → AreFirstReached (bytes ++ rest) handed
     by_cursor None s = subst (AreFirstReached (bytes ++ rest)) (sym s.emitted) (first_reached_at bytes rest (unpacking_of c.position (released c.joiner) c.streams) s.so_far are s.agrees s.stands)
-    by_cursor (Some cursor) r = recalled_first (behind_side_word c.position) c.streams cursor.side cursor.taken c.position.records table bytes rest handed are r
+    by_cursor (Some cursor) r = recalled_first (after_side_word c.position) c.streams cursor.side cursor.taken c.position.records table bytes rest handed are r
 
 -- no streams are judged
 stands_unopened : (c : Container) (table : List NumberedCall) (bytes : List ℕ) (handed : List Entry) → c.cursor ≡ None → HasCome c table bytes handed → StandsAt c.position (released c.joiner) c.streams table bytes handed

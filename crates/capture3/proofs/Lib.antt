@@ -38,7 +38,7 @@ pub mod Overs
 pub mod SideRules
 pub mod MixedRules
 pub mod FileRules
-pub mod Behind
+pub mod ReachedMore
 pub mod Loosened
 pub mod Parsed
 pub mod Histories

@@ -158,7 +158,7 @@ whole_within bytes entries (InConnection version front mark rest connections bef
 -- ---- after a connection whose streams have a fault
 
 -- whole connections, and the first entries of one whose messages so far have so many bytes
-pub record IsBehind (entries : List Entry) : Type 0 where
+pub record IsAfter (entries : List Entry) : Type 0 where
   pub connections : List Streams
   pub before : List Entry
   pub streams : Streams
@@ -173,8 +173,8 @@ pub record IsBehind (entries : List Entry) : Type 0 where
   pub split : connection_entries calls replies ≡ inside ++ rest
   pub is : entries ≡ before ++ inside
 
-pub behind_within : (entries : List Entry) → IsBehind entries → AreWithinLimits entries
-behind_within entries h = record {
+pub after_within : (entries : List Entry) → IsAfter entries → AreWithinLimits entries
+after_within entries h = record {
   few = omega (arith, ap begins h.is, begins-append h.before h.inside, have_begins h.connections h.before h.messages, connection_begins h.calls h.replies, ap begins h.split, begins-append h.inside h.rest, h.few);
   small =
       omega (
@@ -206,9 +206,9 @@ cut_server streams calls replies fault (RefusesNext front last rest body stop sp
 cut_server streams calls replies fault (NextIsTooLong front last rest at split holds long is) = (front, holds, omega (arith, ap length split, length-append (front ++ last) rest, length-append front last))
 cut_server streams calls replies fault (NextIsCut front last body split holds is_open is) = (front, holds, omega (arith, ap length split, length-append front last))
 
-pub streams_behind : (number : ℕ) (connections : List Streams) (before : List Entry) (bytes : List ℕ) (shown : ShownFault) → HaveEntries connections before → length connections < max_connections
-    → ((streams : Streams) → AreMixed bytes streams → total_size connections + size streams ≤ max_bytes) → StreamsShow number bytes shown → IsBehind ((before ++ Begin ∷ []) ++ shown.more)
-streams_behind number connections before bytes shown messages few fits (InClientStream streams calls fault mixed first same) =
+pub streams_after : (number : ℕ) (connections : List Streams) (before : List Entry) (bytes : List ℕ) (shown : ShownFault) → HaveEntries connections before → length connections < max_connections
+    → ((streams : Streams) → AreMixed bytes streams → total_size connections + size streams ≤ max_bytes) → StreamsShow number bytes shown → IsAfter ((before ++ Begin ∷ []) ++ shown.more)
+streams_after number connections before bytes shown messages few fits (InClientStream streams calls fault mixed first same) =
     let cut = cut_client streams calls fault first in
     record {
       connections = connections;
@@ -225,7 +225,7 @@ streams_behind number connections before bytes shown messages few fits (InClient
       split = append_assoc (Begin ∷ map Call calls) (Turn ∷ []) (Close ∷ []);
       is = append_assoc before (Begin ∷ []) shown.more ∙ ap (λ (r : ShownFault). before ++ (Begin ∷ r.more)) same;
     }
-streams_behind number connections before bytes shown messages few fits (InServerStream streams calls replies fault mixed holds first same) =
+streams_after number connections before bytes shown messages few fits (InServerStream streams calls replies fault mixed holds first same) =
     let cut = cut_server streams calls replies fault first in
     record {
       connections = connections;

@@ -3,8 +3,8 @@ use Rattle.std.proofs.Common.{◌≡◌, inl, inr, ℕ, suc, List, [], ◌∷◌
 use Rattle.xdr3.specs.declared.reason.Reason.TheVariants.{RecordCut, RecordTooLong}
 use Rattle.capture3.specs.declared.fault.Fault.{Fault}
 use Rattle.capture3.specs.Capture.{Version, One, Two}
-use Rattle.capture3.specs.Connections.{Context, ShownFault, calls_in_turn, replies_to, client_position, server_position, BehindLength, MixedShows, BadSide, NoLength, TooMuch, StreamsShow, InClientStream, InServerStream, ConnectionShows}
-use Rattle.capture3.specs.FirstFault.{BehindConnections, Rule, MagicDiffers, MarkIsBad, ConnectionIsTooMany, WithinConnection, ByteBehindEnd}
+use Rattle.capture3.specs.Connections.{Context, ShownFault, calls_in_turn, replies_to, client_position, server_position, AfterLength, MixedShows, BadSide, NoLength, TooMuch, StreamsShow, InClientStream, InServerStream, ConnectionShows}
+use Rattle.capture3.specs.FirstFault.{AfterConnections, Rule, MagicDiffers, MarkIsBad, ConnectionIsTooMany, WithinConnection, ByteAfterEnd}
 use Rattle.capture3.specs.Records.{Judgement, AreMessages, RecordFault, StreamShows, IsCut}
 use Rattle.capture3.specs.Sides.{Position, SideShows}
 use Rattle.capture3.proofs.Strict as strict
@@ -45,7 +45,7 @@ side_loosened judge position bytes fault (inr (inr h)) =
       is = h.is;
     }))
 
-abbrev length_loosened : (context : Context) (bytes : List ℕ) → strict.BehindLength context bytes → BehindLength bytes
+abbrev length_loosened : (context : Context) (bytes : List ℕ) → strict.AfterLength context bytes → AfterLength bytes
 length_loosened context bytes b =
     record { chunks = b.chunks; side = b.side; front = b.front; word = b.word; header = b.header; count = b.count; split = b.split; joined = b.joined; sided = b.sided; counts = b.counts }
 
@@ -66,13 +66,13 @@ connection_loosened One context bytes shown (same, inr h) =
 connection_loosened Two context bytes shown (inl (same, h)) = inl (same, mixed_loosened context bytes shown.fault h)
 connection_loosened Two context bytes shown (inr h) = inr (streams_loosened context bytes shown h)
 
-abbrev behind_loosened : (bytes : List ℕ) → strict.BehindConnections bytes → BehindConnections bytes
-behind_loosened bytes b =
+abbrev after_loosened : (bytes : List ℕ) → strict.AfterConnections bytes → AfterConnections bytes
+after_loosened bytes b =
     record { version = b.version; front = b.front; whole = b.opens.rest; word = b.word; rest = b.rest; connections = b.connections; mark = b.mark; split = b.split; begins = b.opens.split; joined = b.opens.joined; is_word = b.is_word }
 
 pub loosened : (bytes : List ℕ) (shown : ShownFault) → strict.Rule bytes shown → Rule bytes shown
 loosened bytes shown (strict.MagicDiffers d same) = MagicDiffers d same
-loosened bytes shown (strict.MarkIsBad b none bad is) = MarkIsBad (behind_loosened bytes b) none bad is
-loosened bytes shown (strict.ConnectionIsTooMany b none one full is) = ConnectionIsTooMany (behind_loosened bytes b) none one full is
-loosened bytes shown (strict.WithinConnection b one few shows) = WithinConnection (behind_loosened bytes b) one (connection_loosened b.version _ b.rest shown shows)
-loosened bytes shown (strict.ByteBehindEnd b none one is) = ByteBehindEnd (behind_loosened bytes b) none one is
+loosened bytes shown (strict.MarkIsBad b none bad is) = MarkIsBad (after_loosened bytes b) none bad is
+loosened bytes shown (strict.ConnectionIsTooMany b none one full is) = ConnectionIsTooMany (after_loosened bytes b) none one full is
+loosened bytes shown (strict.WithinConnection b one few shows) = WithinConnection (after_loosened bytes b) one (connection_loosened b.version _ b.rest shown shows)
+loosened bytes shown (strict.ByteAfterEnd b none one is) = ByteAfterEnd (after_loosened bytes b) none one is

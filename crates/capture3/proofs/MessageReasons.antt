@@ -73,11 +73,11 @@ unfolding call_start
 call_start_reasons = ((tt, λ n. tt), (tt, λ n. tt))
 
 -- call_body after its version
-abbrev behind_version : Shape
-behind_version = word head_names.prog then word head_names.vers then word head_names.proc then credential then verifier
+abbrev after_version : Shape
+after_version = word head_names.prog then word head_names.vers then word head_names.proc then credential then verifier
 
-behind_version_reasons : HasItemReasons behind_version
-behind_version_reasons = ((tt, λ n. tt), ((tt, λ n. tt), ((tt, λ n. tt), (credential_reasons, verifier_reasons))))
+after_version_reasons : HasItemReasons after_version
+after_version_reasons = ((tt, λ n. tt), ((tt, λ n. tt), ((tt, λ n. tt), (credential_reasons, verifier_reasons))))
 
 -- a call begins with two words
 start_size : (items : List Item) (front : List ℕ) → Fits call_start items → Spells items front → length front ≡ 8
@@ -95,5 +95,5 @@ call_refused_for bytes at reason (inl (inr p)) = version p.7
     version : Refuses call_head p.2 p.3 reason → IsOfItem reason ⊎ ((reason ≡ RpcVersion) × (at ≡ 8))
     version (inl (inl q)) = inl (subst IsOfItem (sym q.2) tt)
     version (inl (inr q)) = inr (q.6, omega (arith, start_size p.0 p.1 p.4 p.5, q.5, p.8))
-    version (inr (n, is, q)) = inl (refused_for behind_version behind_version_reasons q.2 q.3 reason q.7)
+    version (inr (n, is, q)) = inl (refused_for after_version after_version_reasons q.2 q.3 reason q.7)
 call_refused_for bytes at reason (inr (front, fits, p)) = inl (layout_refused_for (arguments_of (procedure_in front)) (arguments_have_reasons (procedure_in front)) p.2 p.3 reason p.7)

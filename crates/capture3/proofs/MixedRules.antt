@@ -8,11 +8,11 @@ use Rattle.capture3.specs.declared.fault.Fault.{Fault}
 use Rattle.capture3.specs.declared.fault.Side.{Side}
 use Rattle.capture3.specs.declared.fault.Side.TheVariants.{Client, Server}
 use Rattle.capture3.specs.Chunks.{max_bytes}
-use Rattle.capture3.specs.Connections.{Context, BehindLength, MixedShows, BadSide, NoLength, TooMuch}
+use Rattle.capture3.specs.Connections.{Context, AfterLength, MixedShows, BadSide, NoLength, TooMuch}
 use Rattle.capture3.specs.Mixing.{SideWord, SideLength, SideChunk, Mixing, MixedEnd, MixedCloses, MixedRefuses, awaiting_side, measured, mixed_next, mixing_from}
 use Rattle.capture3.specs.SidedChunks.{Streams, size, SidedChunk, IsSidedChunk, of_side, gathered, carried_by, with_more, AreMixed}
 use Rattle.capture3.specs.Sides.{file_fault}
-use Rattle.capture3.proofs.Mixes.{with_chunks, with_chunks_all, size_of, chunk_bytes, word_lands, header_lands, behind_side, bad_side}
+use Rattle.capture3.proofs.Mixes.{with_chunks, with_chunks_all, size_of, chunk_bytes, word_lands, header_lands, after_side, bad_side}
 use Rattle.capture3.proofs.Overs.{Gone, Over, gone_past, gone_more}
 
 abbrev pub RefusedMixed : MixedEnd → Type 0
@@ -46,7 +46,7 @@ chunk_or at total end sum streams chunk bytes h end_is sum_is =
     let c = h.chunked in
     let split : bytes ≡ h.word ++ (c.header ++ chunk.bytes) = h.split ∙ ap (λ (b : List ℕ). h.word ++ b) c.split in
     subst (Landed end sum (with_more streams chunk.side chunk.bytes))
-    (sym (ap (after mixed_next (Runs (mixing_at at total streams))) split ∙ behind_side at total streams chunk.side h.word (c.header ++ chunk.bytes) h.sided
+    (sym (ap (after mixed_next (Runs (mixing_at at total streams))) split ∙ after_side at total streams chunk.side h.word (c.header ++ chunk.bytes) h.sided
     ∙ after-append mixed_next (Runs (record { at = at + 4; total = total; streams = streams; point = SideLength chunk.side [] })) c.header chunk.bytes
     ∙ ap (λ r. after mixed_next r chunk.bytes) (header_lands (at + 4) total (length chunk.bytes) streams chunk.side c.header c.word)))
     (go (measured_or (at + 4) total (length chunk.bytes) streams chunk.side c.some))
@@ -96,10 +96,10 @@ begun_or context chunks front h =
     (chunks_or chunks context.start context.before (context.start + length front) (context.before + size (gathered chunks)) (gathered []) front h refl refl)
 
 -- after whole chunks comes more
-behind_or : (context : Context) (chunks : List SidedChunk) (bytes front back : List ℕ) (x : MixedEnd) → bytes ≡ front ++ back → 0 < length back → Joins IsSidedChunk front chunks
+after_or : (context : Context) (chunks : List SidedChunk) (bytes front back : List ℕ) (x : MixedEnd) → bytes ≡ front ++ back → 0 < length back → Joins IsSidedChunk front chunks
     → after mixed_next (Runs (mixing_at (context.start + length front) (context.before + size (gathered chunks)) (gathered chunks))) back ≡ Stops x
     → Over RefusedMixed (after mixed_next (Runs (mixing_from context.start context.before)) bytes) x
-behind_or context chunks bytes front back x split some h stops =
+after_or context chunks bytes front back x split some h stops =
     subst (λ run. Over RefusedMixed run x) (sym (ap (after mixed_next (Runs (mixing_from context.start context.before))) split ∙ after-append mixed_next (Runs (mixing_from context.start context.before)) front back)) (go (begun_or context chunks front h))
   where
     go : Landed (context.start + length front) (context.before + size (gathered chunks)) (gathered chunks) (after mixed_next (Runs (mixing_from context.start context.before)) front)
@@ -113,7 +113,7 @@ pub closes_over : (context : Context) (bytes : List ℕ) (streams : Streams) →
 closes_over context bytes streams h =
     let at_is : context.start + length h.front + 4 ≡ context.start + length bytes = omega (arith, ap length h.split, length-append h.front h.last, h.closes.0) in
     let sum_is : context.before + size (gathered h.chunks) ≡ context.before + size streams = ap (λ s. context.before + size s) (sym h.carried) in
-    behind_or context h.chunks bytes h.front h.last (MixedCloses (context.start + length bytes) (context.before + size streams) streams) h.split (omega (arith, h.closes.0)) h.joined
+    after_or context h.chunks bytes h.front h.last (MixedCloses (context.start + length bytes) (context.before + size streams) streams) h.split (omega (arith, h.closes.0)) h.joined
     (word_lands (context.start + length h.front) (context.before + size (gathered h.chunks)) 0 (gathered h.chunks) h.last h.closes
     ∙ (λ i. Stops (MixedCloses (at_is i) (sum_is i) (sym h.carried i))))
 
@@ -122,17 +122,17 @@ too_much_stops at total zero streams side some h = absurd (omega arith)
 too_much_stops at total (suc left) streams side some h =
     ap (λ b. landed (cond b (Ends (MixedRefuses (file_fault at TooManyBytes))) (Goes (record { at = at + 4 + suc left; total = total + suc left; streams = streams; point = SideChunk side left })))) (lt-ltb max_bytes (total + suc left) h)
 
-header_over : (context : Context) (bytes : List ℕ) (b : BehindLength bytes) (fault : Fault)
+header_over : (context : Context) (bytes : List ℕ) (b : AfterLength bytes) (fault : Fault)
     → landed (measured (context.start + length b.front + 4) (context.before + size (gathered b.chunks)) (gathered b.chunks) b.side b.count) ≡ Stops (MixedRefuses fault)
     → Over RefusedMixed (after mixed_next (Runs (mixing_from context.start context.before)) bytes) (MixedRefuses fault)
 header_over context bytes b fault stops =
-    behind_or context b.chunks bytes b.front (b.word ++ b.header) (MixedRefuses fault) (b.split ∙ append_assoc b.front b.word b.header) (omega (arith, length-append b.word b.header, b.sided.0)) b.joined
-    (behind_side (context.start + length b.front) (context.before + size (gathered b.chunks)) (gathered b.chunks) b.side b.word b.header b.sided
+    after_or context b.chunks bytes b.front (b.word ++ b.header) (MixedRefuses fault) (b.split ∙ append_assoc b.front b.word b.header) (omega (arith, length-append b.word b.header, b.sided.0)) b.joined
+    (after_side (context.start + length b.front) (context.before + size (gathered b.chunks)) (gathered b.chunks) b.side b.word b.header b.sided
     ∙ header_lands (context.start + length b.front + 4) (context.before + size (gathered b.chunks)) b.count (gathered b.chunks) b.side b.header b.counts ∙ stops)
 
 pub mixed_over : (context : Context) (bytes : List ℕ) (fault : Fault) → MixedShows context bytes fault → Over RefusedMixed (after mixed_next (Runs (mixing_from context.start context.before)) bytes) (MixedRefuses fault)
 mixed_over context bytes fault (BadSide h) =
-    behind_or context h.chunks bytes h.front h.word (MixedRefuses fault) h.split (omega (arith, h.is_word.0)) h.joined
+    after_or context h.chunks bytes h.front h.word (MixedRefuses fault) h.split (omega (arith, h.is_word.0)) h.joined
     (word_lands (context.start + length h.front) (context.before + size (gathered h.chunks)) h.count (gathered h.chunks) h.word h.is_word
     ∙ bad_side (context.start + length h.front) (context.before + size (gathered h.chunks)) h.count (gathered h.chunks) h.bad ∙ ap (λ f. Stops (MixedRefuses f)) (sym h.is))
 mixed_over context bytes fault (NoLength b none is) =

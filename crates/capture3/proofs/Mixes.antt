@@ -12,7 +12,7 @@ use Rattle.capture3.specs.Connections.{Context}
 use Rattle.capture3.specs.Mixing.{MixedPoint, SideWord, SideLength, SideChunk, Mixing, MixedEnd, MixedCloses, MixedRefuses, awaiting_side, sided, measured, mixed_step, mixed_next, mixing_from}
 use Rattle.capture3.specs.SidedChunks.{Streams, size, SidedChunk, IsSidedChunk, side_word, of_side, gathered, carried_by, with_more, AreMixed}
 use Rattle.capture3.specs.Sides.{file_fault}
-use Rattle.capture3.proofs.Strict.{BehindLength, MixedShows, BadSide, NoLength, TooMuch}
+use Rattle.capture3.proofs.Strict.{AfterLength, MixedShows, BadSide, NoLength, TooMuch}
 
 -- after whole chunks, in a side word
 pub record InSideWord (context : Context) (bytes : List ℕ) (at total : ℕ) (streams : Streams) (part : List ℕ) : Type 0 where
@@ -235,9 +235,9 @@ header_lands at total n streams side header is =
     nested_stops word_next mixed_next (λ p. record { at = at; total = total; streams = streams; point = SideLength side p }) (measured at total streams side) (λ s byte. refl) header [] (number header) (word_stops header is.0)
     ∙ ap (λ m. landed (measured at total streams side m)) is.1
 
-pub behind_side : (at total : ℕ) (streams : Streams) (side : Side) (word rest : List ℕ) → IsWord word (side_word side)
+pub after_side : (at total : ℕ) (streams : Streams) (side : Side) (word rest : List ℕ) → IsWord word (side_word side)
     → after mixed_next (Runs (record { at = at; total = total; streams = streams; point = SideWord [] })) (word ++ rest) ≡ after mixed_next (Runs (record { at = at + 4; total = total; streams = streams; point = SideLength side [] })) rest
-behind_side at total streams side word rest is =
+after_side at total streams side word rest is =
     after-append mixed_next (Runs (record { at = at; total = total; streams = streams; point = SideWord [] })) word rest
     ∙ ap (λ r. after mixed_next r rest) (word_lands at total (side_word side) streams word is ∙ side_lands at total streams side)
 
@@ -251,7 +251,7 @@ measures at total (suc left) streams side header is some fits =
 chunk_lands : (at total : ℕ) (streams : Streams) (side : Side) (word header got : List ℕ) (left : ℕ) → IsWord word (side_word side) → IsWord header (length got + left) → 0 < length got + left → total + (length got + left) ≤ max_bytes
     → after mixed_next (Runs (record { at = at; total = total; streams = streams; point = SideWord [] })) (word ++ (header ++ got)) ≡ Runs (record { at = at + 4 + 4 + (length got + left); total = total + (length got + left); streams = with_more streams side got; point = awaiting_side side left })
 chunk_lands at total streams side word header got left is counts some fits =
-    behind_side at total streams side word (header ++ got) is
+    after_side at total streams side word (header ++ got) is
     ∙ after-append mixed_next (Runs (record { at = at + 4; total = total; streams = streams; point = SideLength side [] })) header got
     ∙ ap (λ r. after mixed_next r got) (measures (at + 4) total (length got + left) streams side header counts some fits)
     ∙ chunk_bytes (at + 4 + 4 + (length got + left)) (total + (length got + left)) streams side got (length got + left) left refl
@@ -299,26 +299,26 @@ chunks_land (chunk ∷ chunks) at total end sum streams front h fits end_is sum_
     (omega (arith, ap length h.2, length-append h.0 h.1, ap length h.3.split, length-append h.3.word h.3.rest, ap length c.split, length-append c.header chunk.bytes, h.3.sided.0, c.word.0))
     (omega arith)
 
-behind : (context : Context) (bytes front back : List ℕ) (chunks : List SidedChunk) (at total : ℕ) → bytes ≡ front ++ back → Joins IsSidedChunk front chunks → context.before + size (gathered chunks) ≤ max_bytes → at ≡ context.start + length front → total ≡ context.before + size (gathered chunks)
+later : (context : Context) (bytes front back : List ℕ) (chunks : List SidedChunk) (at total : ℕ) → bytes ≡ front ++ back → Joins IsSidedChunk front chunks → context.before + size (gathered chunks) ≤ max_bytes → at ≡ context.start + length front → total ≡ context.before + size (gathered chunks)
     → after mixed_next (Runs (mixing_from context.start context.before)) bytes ≡ after mixed_next (Runs (record { at = at; total = total; streams = gathered chunks; point = SideWord [] })) back
-behind context bytes front back chunks at total split joined fits at_is total_is =
+later context bytes front back chunks at total split joined fits at_is total_is =
     ap (after mixed_next (Runs (mixing_from context.start context.before))) split ∙ after-append mixed_next (Runs (mixing_from context.start context.before)) front back
     ∙ ap (λ r. after mixed_next r back) (chunks_land chunks context.start context.before at total (gathered []) front joined fits at_is total_is
     ∙ ap (λ s. Runs (record { at = at; total = total; streams = s; point = SideWord [] })) (with_chunks_all chunks))
 
 mixed_point_runs : (context : Context) (bytes : List ℕ) (at total : ℕ) (streams : Streams) (point : MixedPoint) → HasMixedPoint context bytes at total streams point → after mixed_next (Runs (mixing_from context.start context.before)) bytes ≡ Runs (record { at = at; total = total; streams = streams; point = point })
 mixed_point_runs context bytes at total streams (SideWord part) h =
-    behind context bytes h.front part h.chunks at total h.split h.joined (omega (arith, h.fits, h.total_is)) h.at_is h.total_is
+    later context bytes h.front part h.chunks at total h.split h.joined (omega (arith, h.fits, h.total_is)) h.at_is h.total_is
     ∙ nested_runs word_next mixed_next (λ p. record { at = at; total = total; streams = gathered h.chunks; point = SideWord p }) (sided at total (gathered h.chunks)) (λ s byte. refl) part [] part (word_runs part h.short)
     ∙ ap (λ s. Runs (record { at = at; total = total; streams = s; point = SideWord part })) (sym h.streams_are)
 mixed_point_runs context bytes at total streams (SideLength side part) h =
-    behind context bytes h.front (h.word ++ part) h.chunks (context.start + length h.front) total (h.split ∙ append_assoc h.front h.word part) h.joined (omega (arith, h.fits, h.total_is)) refl h.total_is
-    ∙ behind_side (context.start + length h.front) total (gathered h.chunks) side h.word part h.sided
+    later context bytes h.front (h.word ++ part) h.chunks (context.start + length h.front) total (h.split ∙ append_assoc h.front h.word part) h.joined (omega (arith, h.fits, h.total_is)) refl h.total_is
+    ∙ after_side (context.start + length h.front) total (gathered h.chunks) side h.word part h.sided
     ∙ nested_runs word_next mixed_next (λ p. record { at = context.start + length h.front + 4; total = total; streams = gathered h.chunks; point = SideLength side p }) (measured (context.start + length h.front + 4) total (gathered h.chunks) side) (λ s byte. refl) part [] part (word_runs part h.short)
     ∙ ap₂ (λ n s. Runs (record { at = n; total = total; streams = s; point = SideLength side part })) (sym h.at_is) (sym h.streams_are)
 mixed_point_runs context bytes at total streams (SideChunk side left) h =
     let at_is : context.start + length h.front + 4 + 4 + (length h.got + suc left) ≡ at = omega (arith, h.at_is, ap length h.split, length-append (h.front ++ h.word ++ h.header) h.got, length-append (h.front ++ h.word) h.header, length-append h.front h.word, h.sided.0, h.counts.0) in
-    behind context bytes h.front (h.word ++ (h.header ++ h.got)) h.chunks (context.start + length h.front) (context.before + size (gathered h.chunks)) (h.split ∙ append_assoc (h.front ++ h.word) h.header h.got ∙ append_assoc h.front h.word (h.header ++ h.got)) h.joined (omega (arith, h.fits, h.total_is)) refl refl
+    later context bytes h.front (h.word ++ (h.header ++ h.got)) h.chunks (context.start + length h.front) (context.before + size (gathered h.chunks)) (h.split ∙ append_assoc (h.front ++ h.word) h.header h.got ∙ append_assoc h.front h.word (h.header ++ h.got)) h.joined (omega (arith, h.fits, h.total_is)) refl refl
     ∙ chunk_lands (context.start + length h.front) (context.before + size (gathered h.chunks)) (gathered h.chunks) side h.word h.header h.got (suc left) h.sided h.counts (omega arith) (omega (arith, h.fits, h.total_is))
     ∙ (λ i. Runs (record { at = at_is i; total = sym h.total_is i; streams = sym h.streams_are i; point = SideChunk side left }))
 
@@ -331,10 +331,10 @@ bad_side at total (suc zero) streams h = absurd (omega arith)
 bad_side at total (suc (suc zero)) streams h = absurd (omega arith)
 bad_side at total (suc (suc (suc n))) streams h = refl
 
-header_behind : (context : Context) (bytes : List ℕ) (b : BehindLength context bytes) (n : ℕ) → b.count ≡ n → after mixed_next (Runs (mixing_from context.start context.before)) bytes ≡ landed (measured (context.start + length b.front + 4) (context.before + size (gathered b.chunks)) (gathered b.chunks) b.side n)
-header_behind context bytes b n e =
-    behind context bytes b.front (b.word ++ b.header) b.chunks (context.start + length b.front) (context.before + size (gathered b.chunks)) (b.split ∙ append_assoc b.front b.word b.header) b.joined b.fits refl refl
-    ∙ behind_side (context.start + length b.front) (context.before + size (gathered b.chunks)) (gathered b.chunks) b.side b.word b.header b.sided
+header_after : (context : Context) (bytes : List ℕ) (b : AfterLength context bytes) (n : ℕ) → b.count ≡ n → after mixed_next (Runs (mixing_from context.start context.before)) bytes ≡ landed (measured (context.start + length b.front + 4) (context.before + size (gathered b.chunks)) (gathered b.chunks) b.side n)
+header_after context bytes b n e =
+    later context bytes b.front (b.word ++ b.header) b.chunks (context.start + length b.front) (context.before + size (gathered b.chunks)) (b.split ∙ append_assoc b.front b.word b.header) b.joined b.fits refl refl
+    ∙ after_side (context.start + length b.front) (context.before + size (gathered b.chunks)) (gathered b.chunks) b.side b.word b.header b.sided
     ∙ header_lands (context.start + length b.front + 4) (context.before + size (gathered b.chunks)) n (gathered b.chunks) b.side b.header (b.counts.0, b.counts.1 ∙ e)
 
 too_much : (at total n : ℕ) (streams : Streams) (side : Side) → total ≤ max_bytes → max_bytes < total + n → landed (measured at total streams side n) ≡ Stops (MixedRefuses (file_fault at TooManyBytes))
@@ -347,14 +347,14 @@ mixed_stops context bytes (MixedCloses at total streams) h =
     let m = h.mixed in
     let at_is : context.start + length m.front + 4 ≡ at = omega (arith, h.at_is, ap length m.split, length-append m.front m.last, m.closes.0) in
     let sum : total ≡ context.before + size (gathered m.chunks) = h.total_is ∙ ap (λ s. context.before + size s) m.carried in
-    behind context bytes m.front m.last m.chunks (context.start + length m.front) total m.split m.joined (omega (arith, h.fits)) refl sum
+    later context bytes m.front m.last m.chunks (context.start + length m.front) total m.split m.joined (omega (arith, h.fits)) refl sum
     ∙ word_lands (context.start + length m.front) total 0 (gathered m.chunks) m.last m.closes
     ∙ ap₂ (λ n s. Stops (MixedCloses n total s)) at_is (sym m.carried)
 mixed_stops context bytes (MixedRefuses fault) (BadSide b) =
-    behind context bytes b.front b.word b.chunks (context.start + length b.front) (context.before + size (gathered b.chunks)) b.split b.joined b.fits refl refl
+    later context bytes b.front b.word b.chunks (context.start + length b.front) (context.before + size (gathered b.chunks)) b.split b.joined b.fits refl refl
     ∙ word_lands (context.start + length b.front) (context.before + size (gathered b.chunks)) b.count (gathered b.chunks) b.word b.is_word
     ∙ bad_side (context.start + length b.front) (context.before + size (gathered b.chunks)) b.count (gathered b.chunks) b.bad
     ∙ ap (λ f. Stops (MixedRefuses f)) (sym b.is)
-mixed_stops context bytes (MixedRefuses fault) (NoLength b none is) = header_behind context bytes b 0 none ∙ ap (λ f. Stops (MixedRefuses f)) (sym is)
+mixed_stops context bytes (MixedRefuses fault) (NoLength b none is) = header_after context bytes b 0 none ∙ ap (λ f. Stops (MixedRefuses f)) (sym is)
 mixed_stops context bytes (MixedRefuses fault) (TooMuch b passes is) =
-    header_behind context bytes b b.count refl ∙ too_much (context.start + length b.front + 4) (context.before + size (gathered b.chunks)) b.count (gathered b.chunks) b.side b.fits passes ∙ ap (λ f. Stops (MixedRefuses f)) (sym is)
+    header_after context bytes b b.count refl ∙ too_much (context.start + length b.front + 4) (context.before + size (gathered b.chunks)) b.count (gathered b.chunks) b.side b.fits passes ∙ ap (λ f. Stops (MixedRefuses f)) (sym is)

@@ -13,7 +13,7 @@ use Rattle.capture3.specs.Bodies.{AReply, BadCall, LongCall, OtherCall, ACall, U
 use Rattle.capture3.specs.Bodies as bodies
 use Rattle.capture3.specs.Capture.{Version, One, Two}
 use Rattle.capture3.specs.Connections.{calls_in_turn, client_position, ConnectionShows, Context, MixedShows, BadSide, NoLength, TooMuch, ShownFault, replies_to, server_position, StreamsShow, InClientStream, InServerStream}
-use Rattle.capture3.specs.FirstFault.{BehindConnections, DiffersFromMagic, FirstFault, Rule, MagicDiffers, MarkIsBad, ConnectionIsTooMany, WithinConnection, ByteBehindEnd}
+use Rattle.capture3.specs.FirstFault.{AfterConnections, DiffersFromMagic, FirstFault, Rule, MagicDiffers, MarkIsBad, ConnectionIsTooMany, WithinConnection, ByteAfterEnd}
 use Rattle.capture3.specs.Laws.{HasItsPlace}
 use Rattle.capture3.specs.Records.{FirstRecordFault, Judgement, NextIsCut, NextIsTooLong, RecordFault, RefusesNext, StreamShows}
 use Rattle.capture3.specs.Sides.{place_at, place_in, Position, SideShows}
@@ -129,7 +129,7 @@ magic_in_place file bytes fault within d =
     (omega (arith, length_magic d.version, ap length d.begins, length-append d.front (d.due ∷ d.more)), omega (arith, within, ap length d.split, length-append d.front (d.byte ∷ [])))
 
 -- a connection word stands in the file, and what comes after it
-word_within : (file bytes : List ℕ) (b : BehindConnections bytes) → length bytes ≤ length file → length b.front + 4 + length b.rest ≤ length file
+word_within : (file bytes : List ℕ) (b : AfterConnections bytes) → length bytes ≤ length file → length b.front + 4 + length b.rest ≤ length file
 word_within file bytes b within = omega (arith, within, ap length b.split, length-append (b.front ++ b.word) b.rest, length-append b.front b.word, b.is_word.0)
 
 rule_in_place : (file bytes : List ℕ) (shown : ShownFault) → length bytes ≤ length file → Rule bytes shown → IsInPlace file shown.fault
@@ -137,7 +137,7 @@ rule_in_place file bytes shown within (MagicDiffers d e) = magic_in_place file b
 rule_in_place file bytes shown within (MarkIsBad b rest bad e) = fault_is file shown.fault _ (ap (λ (r : ShownFault). r.fault) e) (omega (arith, word_within file bytes b within))
 rule_in_place file bytes shown within (ConnectionIsTooMany b rest one many e) = fault_is file shown.fault _ (ap (λ (r : ShownFault). r.fault) e) (omega (arith, word_within file bytes b within))
 rule_in_place file bytes shown within (WithinConnection b one h) = connection_in_place b.version _ file b.rest shown (word_within file bytes b within) h
-rule_in_place file bytes shown within (ByteBehindEnd b zero one e) = fault_is file shown.fault _ (ap (λ (r : ShownFault). r.fault) e) (omega (arith, one, word_within file bytes b within))
+rule_in_place file bytes shown within (ByteAfterEnd b zero one e) = fault_is file shown.fault _ (ap (λ (r : ShownFault). r.fault) e) (omega (arith, one, word_within file bytes b within))
 
 pub in_its_place : (file : List ℕ) (fault : Fault) → FirstFault file fault → HasItsPlace file fault.reason fault.place
 in_its_place file fault (inl (front, rest, shown, split, shows, e)) =

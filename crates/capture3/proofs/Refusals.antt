@@ -19,12 +19,12 @@ use Rattle.capture3.proofs.Verdicts.{typed_from_verdict}
 
 -- ---- entries that are whole
 
-ended_behind : (entries : List Entry) (size : ℕ) (spot : Spot) (all : List Entry) → concluded size entries spot ≡ Ok all → all ≡ (entries ++ spot_entries spot) ++ End ∷ []
-ended_behind entries size (Magic due more) all e = absurd (cc)
-ended_behind entries size Digit all e = absurd (cc)
-ended_behind entries size (Mark part) all e = absurd (cc)
-ended_behind entries size (Inside o) all e = absurd (cc)
-ended_behind entries size Ended all e =
+ended_after : (entries : List Entry) (size : ℕ) (spot : Spot) (all : List Entry) → concluded size entries spot ≡ Ok all → all ≡ (entries ++ spot_entries spot) ++ End ∷ []
+ended_after entries size (Magic due more) all e = absurd (cc)
+ended_after entries size Digit all e = absurd (cc)
+ended_after entries size (Mark part) all e = absurd (cc)
+ended_after entries size (Inside o) all e = absurd (cc)
+ended_after entries size Ended all e =
     let same : entries ++ End ∷ [] ≡ all = cc in
     sym same ∙ ap (λ (l : List Entry). l ++ End ∷ []) (sym (append-nil entries))
 
@@ -47,7 +47,7 @@ module _ (front back : List ℕ) (u : Unpacking) (j : Judged) (are : AreBytes (f
 
   ended_run : (all : List Entry) (run : Run Parsing ShownFault) → parsed (front ++ back) ≡ run → verdict_of (length (front ++ back)) run ≡ Ok all → all ≡ emitted last_state ++ End ∷ []
   unfolding last_state
-  ended_run all (Runs s) runs e = ended_behind s.entries (length (front ++ back)) s.spot all e ∙ ap (λ (z : Parsing). emitted z ++ End ∷ []) (sym (last_is (front ++ back) s runs))
+  ended_run all (Runs s) runs e = ended_after s.entries (length (front ++ back)) s.spot all e ∙ ap (λ (z : Parsing). emitted z ++ End ∷ []) (sym (last_is (front ++ back) s runs))
   ended_run all (Stops shown) runs e = absurd (cc)
   ended_run all (Stopped shown) runs e = absurd (cc)
 

@@ -143,17 +143,17 @@ chunk_or {M} judge position at total r header got left word some = go (header_or
         (gone_more (side_next judge.decide (place_in position)) RefusedSide (after (side_next judge.decide (place_in position)) (Runs (at_length at total r)) header) got (SideRefuses (file_fault at TooManyBytes), tt, inl stops)))
 
 -- after whole chunks
-abbrev pub BehindChunks : {M : Type 0} → Judged M → Reading M → List ℕ → ℕ → ℕ → Run (Siding M) (SideEnd M) → Type 0
-BehindChunks {M} judge r stream end sum run = ((t : Reading M) × (after (stream_next judge.decide) (Runs r) stream ≡ Runs t) × (run ≡ Runs (at_length end sum t))) ⊎ Gone RefusedSide run
+abbrev pub AfterChunks : {M : Type 0} → Judged M → Reading M → List ℕ → ℕ → ℕ → Run (Siding M) (SideEnd M) → Type 0
+AfterChunks {M} judge r stream end sum run = ((t : Reading M) × (after (stream_next judge.decide) (Runs r) stream ≡ Runs t) × (run ≡ Runs (at_length end sum t))) ⊎ Gone RefusedSide run
 
 chunks_or : {M : Type 0} (judge : Judged M) (position : Position) (chunks : List (List ℕ)) (front : List ℕ) (at total end sum : ℕ) (r : Reading M) → Joins IsChunk front chunks → end ≡ at + length front → sum ≡ total + length (concat chunks)
-    → BehindChunks judge r (concat chunks) end sum (after (side_next judge.decide (place_in position)) (Runs (at_length at total r)) front)
+    → AfterChunks judge r (concat chunks) end sum (after (side_next judge.decide (place_in position)) (Runs (at_length at total r)) front)
 chunks_or judge position [] front at total end sum r h end_is sum_is =
     let at_end : at ≡ end = omega (arith, ap length h) in
     let all : total ≡ sum = omega arith in
     inl (r, refl, ap (after (side_next judge.decide (place_in position)) (Runs (at_length at total r))) h ∙ ap₂ (λ n m. Runs (at_length n m r)) at_end all)
 chunks_or {M} judge position (chunk ∷ chunks) front at total end sum r h end_is sum_is =
-    subst (λ run. BehindChunks judge r (chunk ++ concat chunks) end sum run) (sym steps) (go (chunk_or judge position at total r h.3.header chunk 0 (h.3.word.0, h.3.word.1 ∙ whole) (omega (arith, h.3.some)))
+    subst (λ run. AfterChunks judge r (chunk ++ concat chunks) end sum run) (sym steps) (go (chunk_or judge position at total r h.3.header chunk 0 (h.3.word.0, h.3.word.1 ∙ whole) (omega (arith, h.3.some)))
     (λ t. chunks_or judge position chunks h.1 (at + 4 + (length chunk + 0)) (total + (length chunk + 0)) end sum t h.4
     (omega (arith, ap length h.2, length-append h.0 h.1, ap length h.3.split, length-append h.3.header chunk, h.3.word.0)) (omega (arith, length-append chunk (concat chunks)))))
   where
@@ -165,22 +165,22 @@ chunks_or {M} judge position (chunk ∷ chunks) front at total end sum r h end_i
         ap (after (side_next judge.decide (place_in position)) (Runs (at_length at total r))) (h.2 ∙ ap (λ (b : List ℕ). b ++ h.1) h.3.split)
         ∙ after-append (side_next judge.decide (place_in position)) (Runs (at_length at total r)) (h.3.header ++ chunk) h.1
 
-    rest : (t : Reading M) → after (stream_next judge.decide) (Runs r) chunk ≡ Runs t → (run : Run (Siding M) (SideEnd M)) → BehindChunks judge t (concat chunks) end sum run → BehindChunks judge r (chunk ++ concat chunks) end sum run
+    rest : (t : Reading M) → after (stream_next judge.decide) (Runs r) chunk ≡ Runs t → (run : Run (Siding M) (SideEnd M)) → AfterChunks judge t (concat chunks) end sum run → AfterChunks judge r (chunk ++ concat chunks) end sum run
     rest t e run (inl m) = inl (m.0, after-append (stream_next judge.decide) (Runs r) chunk (concat chunks) ∙ ap (λ x. after (stream_next judge.decide) x (concat chunks)) e ∙ m.1, m.2)
     rest t e run (inr gone) = inr gone
 
     go : InsideChunk judge position at total r chunk 0 (after (side_next judge.decide (place_in position)) (Runs (at_length at total r)) (h.3.header ++ chunk))
-        → ((t : Reading M) → BehindChunks judge t (concat chunks) end sum (after (side_next judge.decide (place_in position)) (Runs (at_length (at + 4 + (length chunk + 0)) (total + (length chunk + 0)) t)) h.1))
-        → BehindChunks judge r (chunk ++ concat chunks) end sum (after (side_next judge.decide (place_in position)) (after (side_next judge.decide (place_in position)) (Runs (at_length at total r)) (h.3.header ++ chunk)) h.1)
+        → ((t : Reading M) → AfterChunks judge t (concat chunks) end sum (after (side_next judge.decide (place_in position)) (Runs (at_length (at + 4 + (length chunk + 0)) (total + (length chunk + 0)) t)) h.1))
+        → AfterChunks judge r (chunk ++ concat chunks) end sum (after (side_next judge.decide (place_in position)) (after (side_next judge.decide (place_in position)) (Runs (at_length at total r)) (h.3.header ++ chunk)) h.1)
     go (inl t) more =
-        subst (λ run. BehindChunks judge r (chunk ++ concat chunks) end sum (after (side_next judge.decide (place_in position)) run h.1)) (sym t.3)
+        subst (λ run. AfterChunks judge r (chunk ++ concat chunks) end sum (after (side_next judge.decide (place_in position)) run h.1)) (sym t.3)
         (rest t.0 t.2 (after (side_next judge.decide (place_in position)) (Runs (at_length (at + 4 + (length chunk + 0)) (total + (length chunk + 0)) t.0)) h.1) (more t.0))
     go (inr gone) more = inr (gone_more (side_next judge.decide (place_in position)) RefusedSide (after (side_next judge.decide (place_in position)) (Runs (at_length at total r)) (h.3.header ++ chunk)) h.1 gone)
 
 front_or : {M : Type 0} (judge : Judged M) (position : Position) (front stream : List ℕ) → AreChunks front stream
-    → BehindChunks judge unread stream (position.start + length front) (position.before + length stream) (after (side_next judge.decide (place_in position)) (Runs (side_start position)) front)
+    → AfterChunks judge unread stream (position.start + length front) (position.before + length stream) (after (side_next judge.decide (place_in position)) (Runs (side_start position)) front)
 front_or judge position front stream h =
-    subst (λ (b : List ℕ). BehindChunks judge unread b (position.start + length front) (position.before + length stream) (after (side_next judge.decide (place_in position)) (Runs (side_start position)) front)) (sym h.carried)
+    subst (λ (b : List ℕ). AfterChunks judge unread b (position.start + length front) (position.before + length stream) (after (side_next judge.decide (place_in position)) (Runs (side_start position)) front)) (sym h.carried)
     (chunks_or judge position h.chunks front position.start position.before (position.start + length front) (position.before + length stream) unread h.joined refl (ap (λ (b : List ℕ). position.before + length b) h.carried))
 
 side_steps : {M : Type 0} (judge : Judged M) (position : Position) (bytes front last : List ℕ) → bytes ≡ front ++ last
@@ -210,7 +210,7 @@ side_closed_or {M} judge position bytes stream h =
     end_is : position.start + length bytes ≡ position.start + length h.front + 4
     end_is = omega (arith, ap length h.split, length-append h.front h.last, h.closes.0)
 
-    go : BehindChunks judge unread stream (position.start + length h.front) (position.before + length stream) (after (side_next judge.decide (place_in position)) (Runs (side_start position)) h.front)
+    go : AfterChunks judge unread stream (position.start + length h.front) (position.before + length stream) (after (side_next judge.decide (place_in position)) (Runs (side_start position)) h.front)
         → ClosedSide judge stream (position.start + length bytes) (position.before + length stream) (after (side_next judge.decide (place_in position)) (after (side_next judge.decide (place_in position)) (Runs (side_start position)) h.front) h.last)
     go (inl r) =
         subst (ClosedSide judge stream (position.start + length bytes) (position.before + length stream))
@@ -228,7 +228,7 @@ passes_over : {M : Type 0} (judge : Judged M) (position : Position) (bytes : Lis
 passes_over {M} judge position bytes fault h =
     subst (λ run. Over RefusedSide run (SideRefuses fault)) (sym (side_steps judge position bytes h.front h.last h.split)) (go (front_or judge position h.front h.stream h.chunks))
   where
-    go : BehindChunks judge unread h.stream (position.start + length h.front) (position.before + length h.stream) (after (side_next judge.decide (place_in position)) (Runs (side_start position)) h.front)
+    go : AfterChunks judge unread h.stream (position.start + length h.front) (position.before + length h.stream) (after (side_next judge.decide (place_in position)) (Runs (side_start position)) h.front)
         → Over RefusedSide (after (side_next judge.decide (place_in position)) (after (side_next judge.decide (place_in position)) (Runs (side_start position)) h.front) h.last) (SideRefuses fault)
     go (inl r) =
         inl (ap (λ run. after (side_next judge.decide (place_in position)) run h.last) r.2 ∙ length_runs judge position (position.start + length h.front) (position.before + length h.stream) h.count r.0 h.last h.word
@@ -262,7 +262,7 @@ cuts_over {M} judge position bytes fault h =
         ∙ ap (λ f. SideRefuses f) (ap (place_in position) (sym h.cut.is) ∙ sym h.is)
     here t e (inr gone) = absurd (runs_not_gone AnyFault (after (stream_next judge.decide) (Runs unread) h.stream) t e gone)
 
-    go : BehindChunks judge unread h.stream (position.start + length h.closed.front) (position.before + length h.stream) (after (side_next judge.decide (place_in position)) (Runs (side_start position)) h.closed.front)
+    go : AfterChunks judge unread h.stream (position.start + length h.closed.front) (position.before + length h.stream) (after (side_next judge.decide (place_in position)) (Runs (side_start position)) h.closed.front)
         → Over RefusedSide (after (side_next judge.decide (place_in position)) (after (side_next judge.decide (place_in position)) (Runs (side_start position)) h.closed.front) h.closed.last) (SideRefuses fault)
     go (inl r) =
         inl (ap (λ run. after (side_next judge.decide (place_in position)) run h.closed.last) r.2 ∙ length_runs judge position (position.start + length h.closed.front) (position.before + length h.stream) 0 r.0 h.closed.last h.closed.closes
@@ -296,7 +296,7 @@ shows_over : {M : Type 0} (judge : Judged M) (position : Position) (bytes : List
 shows_over {M} judge position bytes fault h =
     subst (λ run. Over RefusedSide run (SideRefuses fault)) (sym (side_steps judge position bytes h.front (h.header ++ h.got) (h.split ∙ append_assoc h.front h.header h.got))) (go (front_or judge position h.front h.stream h.chunks))
   where
-    go : BehindChunks judge unread h.stream (position.start + length h.front) (position.before + length h.stream) (after (side_next judge.decide (place_in position)) (Runs (side_start position)) h.front)
+    go : AfterChunks judge unread h.stream (position.start + length h.front) (position.before + length h.stream) (after (side_next judge.decide (place_in position)) (Runs (side_start position)) h.front)
         → Over RefusedSide (after (side_next judge.decide (place_in position)) (after (side_next judge.decide (place_in position)) (Runs (side_start position)) h.front) (h.header ++ h.got)) (SideRefuses fault)
     go (inl r) =
         let over : Over AnyFault (after (stream_next judge.decide) (Runs r.0) h.got) h.shown =

@@ -287,17 +287,17 @@ stream_front judge position front stream reading at total chunks e fits at_is to
     let size = ap length chunks.carried in
     chunks_run judge position chunks.chunks position.start position.before at total unread reading front chunks.joined (ap (after (stream_next judge.decide) (Runs unread)) (sym chunks.carried) ∙ e) (omega arith) at_is (omega arith)
 
-behind : {M : Type 0} (judge : Judged M) (position : Position) (bytes front back stream : List ℕ) (reading : Reading M) (at total : ℕ) → bytes ≡ front ++ back → AreChunks front stream → after (stream_next judge.decide) (Runs unread) stream ≡ Runs reading → position.before + length stream ≤ max_bytes
+later : {M : Type 0} (judge : Judged M) (position : Position) (bytes front back stream : List ℕ) (reading : Reading M) (at total : ℕ) → bytes ≡ front ++ back → AreChunks front stream → after (stream_next judge.decide) (Runs unread) stream ≡ Runs reading → position.before + length stream ≤ max_bytes
     → at ≡ position.start + length front → total ≡ position.before + length stream
     → after (side_next judge.decide (place_in position)) (Runs (side_start position)) bytes ≡ after (side_next judge.decide (place_in position)) (Runs (record { at = at; total = total; reading = reading; point = Length [] })) back
-behind judge position bytes front back stream reading at total split chunks e fits at_is total_is =
+later judge position bytes front back stream reading at total split chunks e fits at_is total_is =
     ap (after (side_next judge.decide (place_in position)) (Runs (side_start position))) split ∙ after-append (side_next judge.decide (place_in position)) (Runs (side_start position)) front back
     ∙ ap (λ run. after (side_next judge.decide (place_in position)) run back) (stream_front judge position front stream reading at total chunks e fits at_is total_is)
 
 point_runs : {M : Type 0} (judge : Judged M) (position : Position) (bytes : List ℕ) (at total : ℕ) (reading : Reading M) (point : Point) → HasPoint judge.says position bytes at total reading point
     → after (side_next judge.decide (place_in position)) (Runs (side_start position)) bytes ≡ Runs (record { at = at; total = total; reading = reading; point = point })
 point_runs judge position bytes at total reading (Length part) h =
-    behind judge position bytes h.front part h.stream reading at total h.split h.chunks (stream_runs judge h.stream reading h.read) (omega (arith, h.fits, h.total_is)) h.at_is h.total_is
+    later judge position bytes h.front part h.stream reading at total h.split h.chunks (stream_runs judge h.stream reading h.read) (omega (arith, h.fits, h.total_is)) h.at_is h.total_is
     ∙ nested_runs word_next (side_next judge.decide (place_in position)) (λ p. record { at = at; total = total; reading = reading; point = Length p }) (counted (place_in position) at total reading) (λ s byte. refl) part [] part (word_runs part h.short)
 point_runs judge position bytes at total reading (Chunk left) h =
     let all = stream_runs judge (h.stream ++ h.got) reading h.read in
@@ -305,7 +305,7 @@ point_runs judge position bytes at total reading (Chunk left) h =
     let sizes = length-append h.stream h.got in
     let at_is : position.start + length h.front + 4 + (length h.got + suc left) ≡ at = omega (arith, h.at_is, ap length h.split, length-append (h.front ++ h.header) h.got, length-append h.front h.header, h.word.0) in
     let total_is : position.before + length h.stream + (length h.got + suc left) ≡ total = omega (arith, h.total_is) in
-    behind judge position bytes h.front (h.header ++ h.got) h.stream mid.0 (position.start + length h.front) (position.before + length h.stream) (h.split ∙ append_assoc h.front h.header h.got) h.chunks mid.1 (omega (arith, h.fits, h.total_is)) refl refl
+    later judge position bytes h.front (h.header ++ h.got) h.stream mid.0 (position.start + length h.front) (position.before + length h.stream) (h.split ∙ append_assoc h.front h.header h.got) h.chunks mid.1 (omega (arith, h.fits, h.total_is)) refl refl
     ∙ chunk_runs judge position (position.start + length h.front) (position.before + length h.stream) mid.0 reading h.header h.got (suc left) h.word (omega arith) (omega (arith, h.fits))
     (sym (after-append (stream_next judge.decide) (Runs unread) h.stream h.got ∙ ap (λ run. after (stream_next judge.decide) run h.got) mid.1) ∙ all)
     ∙ ap₂ (λ n m. Runs (record { at = n; total = m; reading = reading; point = Chunk left })) at_is total_is
@@ -317,7 +317,7 @@ side_runs judge position bytes s h = point_runs judge position bytes s.at s.tota
 closes_with : {M : Type 0} (judge : Judged M) (position : Position) (bytes stream : List ℕ) (reading : Reading M) (closed : IsStream bytes stream) → after (stream_next judge.decide) (Runs unread) stream ≡ Runs reading → position.before + length stream ≤ max_bytes
     → after (side_next judge.decide (place_in position)) (Runs (side_start position)) bytes ≡ Stops (closing (place_in position) (position.start + length closed.front) (position.before + length stream) reading.messages reading.joining)
 closes_with judge position bytes stream reading closed e fits =
-    behind judge position bytes closed.front closed.last stream reading (position.start + length closed.front) (position.before + length stream) closed.split closed.chunks e fits refl refl
+    later judge position bytes closed.front closed.last stream reading (position.start + length closed.front) (position.before + length stream) closed.split closed.chunks e fits refl refl
     ∙ length_runs judge position (position.start + length closed.front) (position.before + length stream) 0 reading closed.last closed.closes
 
 cut_stops : {M : Type 0} (judge : Judged M) (position : Position) (bytes : List ℕ) (fault : Fault) → CutsRecord judge.says position bytes fault → after (side_next judge.decide (place_in position)) (Runs (side_start position)) bytes ≡ Stops (SideRefuses fault)
@@ -338,7 +338,7 @@ passes_stops {M} judge position bytes fault zero h e = absurd (omega (arith, h.p
 passes_stops {M} judge position bytes fault (suc left) h e =
     let read = has_read judge.says h.stream h.messages h.holds in
     let reading : Reading M = record { messages = h.messages; joining = read.0 } in
-    behind judge position bytes h.front h.last h.stream reading (position.start + length h.front) (position.before + length h.stream) h.split h.chunks (stream_runs judge h.stream reading read.1) h.fits refl refl
+    later judge position bytes h.front h.last h.stream reading (position.start + length h.front) (position.before + length h.stream) h.split h.chunks (stream_runs judge h.stream reading read.1) h.fits refl refl
     ∙ length_runs judge position (position.start + length h.front) (position.before + length h.stream) (suc left) reading h.last (h.word.0, h.word.1 ∙ sym e)
     ∙ ap (λ b. landed (cond b (Ends (SideRefuses (file_fault (position.start + length h.front) TooManyBytes))) (Goes (record { at = position.start + length h.front + 4 + suc left; total = position.before + length h.stream + suc left; reading = reading; point = Chunk left }))))
     (lt-ltb max_bytes (position.before + length h.stream + suc left) (omega (arith, h.passes)))
@@ -349,7 +349,7 @@ shows_stops judge position bytes fault [] h e = absurd (omega (arith, h.some, ap
 shows_stops judge position bytes fault (byte ∷ more) h e =
     let all = stream_stops judge (h.stream ++ h.got) h.shown h.shows in
     let mid = ran_before (stream_next judge.decide) (Runs unread) h.stream byte more h.shown (ap (λ (b : List ℕ). after (stream_next judge.decide) (Runs unread) (h.stream ++ b)) e ∙ all) in
-    behind judge position bytes h.front (h.header ++ h.got) h.stream mid.0 (position.start + length h.front) (position.before + length h.stream) (h.split ∙ append_assoc h.front h.header h.got) h.chunks mid.1 (omega (arith, h.fits)) refl refl
+    later judge position bytes h.front (h.header ++ h.got) h.stream mid.0 (position.start + length h.front) (position.before + length h.stream) (h.split ∙ append_assoc h.front h.header h.got) h.chunks mid.1 (omega (arith, h.fits)) refl refl
     ∙ chunk_stops judge position (position.start + length h.front) (position.before + length h.stream) mid.0 h.header h.got h.left h.shown h.word (omega (arith, h.some)) h.fits
     (sym (after-append (stream_next judge.decide) (Runs unread) h.stream h.got ∙ ap (λ run. after (stream_next judge.decide) run h.got) mid.1) ∙ all)
     ∙ ap (λ f. Stops (SideRefuses f)) (sym h.is)

@@ -27,9 +27,9 @@ held_runs : {M : Type 0} (judge : Judged M) (front : List ℕ) (messages : List 
 held_runs judge front messages holds = stream_runs judge front (record { messages = messages; joining = Between }) (record { front = front; last = []; split = sym (append-nil front); holds = holds; joined = refl })
 
 -- before a record at fault the messages are whole
-last_behind : {M : Type 0} (judge : Judged M) (front last rest : List ℕ) (messages : List M) (x : Joined) (fault : RecordFault) → Holds judge.says front messages → after join_next (Runs Between) last ≡ Stops x → recorded judge.decide messages x ≡ Ends fault
+last_after : {M : Type 0} (judge : Judged M) (front last rest : List ℕ) (messages : List M) (x : Joined) (fault : RecordFault) → Holds judge.says front messages → after join_next (Runs Between) last ≡ Stops x → recorded judge.decide messages x ≡ Ends fault
     → rest_end judge.decide unread (front ++ last ++ rest) ≡ Faulty messages fault
-last_behind {M} judge front last rest messages x fault holds stops ends = ap (λ (ms : List M). end_of ms (after (stream_next judge.decide) (Runs unread) (front ++ last ++ rest))) last_is ∙ ap (end_of messages) run_is ∙ stays rest
+last_after {M} judge front last rest messages x fault holds stops ends = ap (λ (ms : List M). end_of ms (after (stream_next judge.decide) (Runs unread) (front ++ last ++ rest))) last_is ∙ ap (end_of messages) run_is ∙ stays rest
   where
     here : Reading M
     here = record { messages = messages; joining = Between }
@@ -61,10 +61,10 @@ pub stream_ends : {M : Type 0} (judge : Judged M) (stream : List ℕ) (x : Strea
 stream_ends {M} judge stream (Held messages) h = ap (end_of (last_running (stream_next judge.decide) unread stream).messages) (held_runs judge stream messages h)
 stream_ends {M} judge stream (Faulty messages fault) (RefusesNext front last rest body stop split holds whole refused is) =
     ap (stream_end judge.decide) split
-    ∙ last_behind judge front last rest messages (Whole body) (fault_at messages stop.at stop.reason) holds (record_stops last body whole) (ap (judged messages) (judge.refuses messages body stop refused))
+    ∙ last_after judge front last rest messages (Whole body) (fault_at messages stop.at stop.reason) holds (record_stops last body whole) (ap (judged messages) (judge.refuses messages body stop refused))
     ∙ ap (Faulty messages) (sym is)
 stream_ends {M} judge stream (Faulty messages fault) (NextIsTooLong front last rest at split holds long is) =
-    ap (stream_end judge.decide) split ∙ last_behind judge front last rest messages (TooLong at) (fault_at messages at RecordTooLong) holds (too_long_stops last at long) refl ∙ ap (Faulty messages) (sym is)
+    ap (stream_end judge.decide) split ∙ last_after judge front last rest messages (TooLong at) (fault_at messages at RecordTooLong) holds (too_long_stops last at long) refl ∙ ap (Faulty messages) (sym is)
 stream_ends {M} judge stream (Faulty messages fault) (NextIsCut front last body split holds is_open is) = go is_open
   where
     at_joining : (j : Joining) → HasRead judge.says stream (record { messages = messages; joining = j }) → stream_end judge.decide stream ≡ left_in messages j
@@ -105,8 +105,8 @@ ends_stream judge stream are =
 -- ---- from a record's start on
 
 -- what is said after bytes that the machine runs through is said of them all
-pub rest_behind : {M : Type 0} (judge : Judge M) (s t : Reading M) (front rest : List ℕ) → after (stream_next judge) (Runs s) front ≡ Runs t → rest_end judge s (front ++ rest) ≡ rest_end judge t rest
-rest_behind {M} judge s t front rest runs =
+pub rest_after : {M : Type 0} (judge : Judge M) (s t : Reading M) (front rest : List ℕ) → after (stream_next judge) (Runs s) front ≡ Runs t → rest_end judge s (front ++ rest) ≡ rest_end judge t rest
+rest_after {M} judge s t front rest runs =
     ap (λ (u : Reading M). end_of u.messages (after (stream_next judge) (Runs s) (front ++ rest))) (last_running-append (stream_next judge) s t front rest runs)
     ∙ ap (end_of (last_running (stream_next judge) t rest).messages) (after-append (stream_next judge) (Runs s) front rest ∙ ap (λ r. after (stream_next judge) r rest) runs)
 
@@ -117,7 +117,7 @@ between messages = record { messages = messages; joining = Between }
 pub rest_accepts : {M : Type 0} (judge : Judge M) (messages : List M) (front rest body : List ℕ) (m : M) → after join_next (Runs Between) front ≡ Stops (Whole body) → judge messages body ≡ Ok m
     → rest_end judge (between messages) (front ++ rest) ≡ rest_end judge (between (messages ++ m ∷ [])) rest
 rest_accepts judge messages front rest body m whole ok =
-    rest_behind judge (between messages) (between (messages ++ m ∷ [])) front rest
+    rest_after judge (between messages) (between (messages ++ m ∷ [])) front rest
     (nested_stops join_next (stream_next judge) (λ j. record { messages = messages; joining = j }) (recorded judge messages) (λ s byte. refl) front Between (Whole body) whole ∙ ap (λ r. landed (judged messages r)) ok)
 
 -- it is refused, or too long

@@ -87,25 +87,25 @@ records_run judge (body ∷ bodies) before messages stream h j =
     ∙ records_run judge bodies (before ++ j.0 ∷ []) j.1 h.1 h.4 j.4
     ∙ ap (λ ms. Runs (record { messages = ms; joining = Between })) (append_assoc before (j.0 ∷ []) j.1 ∙ ap (λ ms. before ++ ms) (sym j.2))
 
-behind : {M : Type 0} (judge : Judged M) (stream front last : List ℕ) (messages : List M) → stream ≡ front ++ last → Holds judge.says front messages
+later : {M : Type 0} (judge : Judged M) (stream front last : List ℕ) (messages : List M) → stream ≡ front ++ last → Holds judge.says front messages
     → after (stream_next judge.decide) (Runs unread) stream ≡ after (stream_next judge.decide) (Runs (record { messages = messages; joining = Between })) last
-behind judge stream front last messages split holds =
+later judge stream front last messages split holds =
     ap (after (stream_next judge.decide) (Runs unread)) split ∙ after-append (stream_next judge.decide) (Runs unread) front last
     ∙ ap (λ r. after (stream_next judge.decide) r last) (records_run judge holds.0 [] messages front holds.1 holds.2)
 
 pub stream_runs : {M : Type 0} (judge : Judged M) (stream : List ℕ) (s : Reading M) → HasRead judge.says stream s → after (stream_next judge.decide) (Runs unread) stream ≡ Runs s
 stream_runs judge stream s h =
-    behind judge stream h.front h.last s.messages h.split h.holds
+    later judge stream h.front h.last s.messages h.split h.holds
     ∙ nested_runs join_next (stream_next judge.decide) (λ j. record { messages = s.messages; joining = j }) (recorded judge.decide s.messages) (λ j byte. refl) h.last Between s.joining (joining_runs h.last s.joining h.joined)
 
 pub stream_stops : {M : Type 0} (judge : Judged M) (stream : List ℕ) (fault : RecordFault) → StreamShows judge.says stream fault → after (stream_next judge.decide) (Runs unread) stream ≡ Stops fault
 stream_stops judge stream fault (inl h) =
-    behind judge stream h.front h.last h.messages h.split h.holds
+    later judge stream h.front h.last h.messages h.split h.holds
     ∙ record_closes judge h.messages h.last (Whole h.body) (record_stops h.last h.body h.whole)
     ∙ ap (λ r. landed (judged h.messages r)) (judge.refuses h.messages h.body h.stop h.refused)
     ∙ ap (λ f. Stops f) (sym h.is)
 stream_stops judge stream fault (inr h) =
-    behind judge stream h.front h.last h.messages h.split h.holds
+    later judge stream h.front h.last h.messages h.split h.holds
     ∙ record_closes judge h.messages h.last (TooLong h.at) (too_long_stops h.last h.at h.long)
     ∙ ap (λ f. Stops f) (sym h.is)
 

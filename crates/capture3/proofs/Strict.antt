@@ -113,7 +113,7 @@ pub record SideIsBad (context : Context) (bytes : List ℕ) (fault : Fault) : Ty
   pub is : fault ≡ file_fault (context.start + length front) BadMark
 
 -- a side word, and a length word
-pub record BehindLength (context : Context) (bytes : List ℕ) : Type 0 where
+pub record AfterLength (context : Context) (bytes : List ℕ) : Type 0 where
   pub chunks : List SidedChunk
   pub side : Side
   pub front : List ℕ
@@ -129,8 +129,8 @@ pub record BehindLength (context : Context) (bytes : List ℕ) : Type 0 where
 -- the last byte of a connection's bytes shows this fault of its chunks
 pub data MixedShows (context : Context) (bytes : List ℕ) (fault : Fault) : Type 0 where
   BadSide : SideIsBad context bytes fault → MixedShows context bytes fault
-  NoLength : (b : BehindLength context bytes) → b.count ≡ 0 → fault ≡ file_fault (context.start + length b.front + 4) BadMark → MixedShows context bytes fault
-  TooMuch : (b : BehindLength context bytes) → max_bytes < context.before + size (gathered b.chunks) + b.count → fault ≡ file_fault (context.start + length b.front + 4) TooManyBytes → MixedShows context bytes fault
+  NoLength : (b : AfterLength context bytes) → b.count ≡ 0 → fault ≡ file_fault (context.start + length b.front + 4) BadMark → MixedShows context bytes fault
+  TooMuch : (b : AfterLength context bytes) → max_bytes < context.before + size (gathered b.chunks) + b.count → fault ≡ file_fault (context.start + length b.front + 4) TooManyBytes → MixedShows context bytes fault
 
 -- the side word 0, after streams of which one has a fault
 pub data StreamsShow (context : Context) (bytes : List ℕ) (shown : ShownFault) : Type 0 where
@@ -145,7 +145,7 @@ ConnectionShows One context bytes shown = (shown ≡ refusal shown.fault) × (Si
 ConnectionShows Two context bytes shown = ((shown ≡ refusal shown.fault) × MixedShows context bytes shown.fault) ⊎ StreamsShow context bytes shown
 
 -- whole connections, a connection word, and what comes after it
-pub record BehindConnections (bytes : List ℕ) : Type 0 where
+pub record AfterConnections (bytes : List ℕ) : Type 0 where
   pub version : Version
   pub front : List ℕ
   pub word : List ℕ
@@ -162,11 +162,11 @@ pub data Rule (bytes : List ℕ) (shown : ShownFault) : Type 0 where
   -- a byte among the first 8 differs from the magic's
   MagicDiffers : DiffersFromMagic bytes shown.fault → shown ≡ refusal shown.fault → Rule bytes shown
   -- a whole connection word is not 0 or 1
-  MarkIsBad : (b : BehindConnections bytes) → b.rest ≡ [] → 1 < b.mark → shown ≡ refusal (file_fault (length b.front) BadMark) → Rule bytes shown
+  MarkIsBad : (b : AfterConnections bytes) → b.rest ≡ [] → 1 < b.mark → shown ≡ refusal (file_fault (length b.front) BadMark) → Rule bytes shown
   -- it is 1 after 65,535 connections
-  ConnectionIsTooMany : (b : BehindConnections bytes) → b.rest ≡ [] → b.mark ≡ 1 → length b.connections ≡ max_connections → shown ≡ refusal (file_fault (length b.front) TooManyConnections) → Rule bytes shown
+  ConnectionIsTooMany : (b : AfterConnections bytes) → b.rest ≡ [] → b.mark ≡ 1 → length b.connections ≡ max_connections → shown ≡ refusal (file_fault (length b.front) TooManyConnections) → Rule bytes shown
   -- in a connection
-  WithinConnection : (b : BehindConnections bytes) → b.mark ≡ 1 → length b.connections < max_connections
+  WithinConnection : (b : AfterConnections bytes) → b.mark ≡ 1 → length b.connections < max_connections
       → ConnectionShows b.version (record { number = suc (length b.connections); start = length b.front + 4; before = total_size b.connections }) b.rest shown → Rule bytes shown
   -- a byte after the last word 0
-  ByteBehindEnd : (b : BehindConnections bytes) → b.mark ≡ 0 → length b.rest ≡ 1 → shown ≡ refusal (file_fault (length b.front + 4) AfterEnd) → Rule bytes shown
+  ByteAfterEnd : (b : AfterConnections bytes) → b.mark ≡ 0 → length b.rest ≡ 1 → shown ≡ refusal (file_fault (length b.front + 4) AfterEnd) → Rule bytes shown

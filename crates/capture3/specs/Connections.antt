@@ -70,7 +70,7 @@ pub record SideIsBad (context : Context) (bytes : List ℕ) (fault : Fault) : Ty
   pub is : fault ≡ file_fault (context.start + length front) BadMark
 
 -- whole chunks of both sides, a side word, and a length word
-pub record BehindLength (bytes : List ℕ) : Type 0 where
+pub record AfterLength (bytes : List ℕ) : Type 0 where
   pub chunks : List SidedChunk
   pub side : Side
   pub front : List ℕ
@@ -87,9 +87,9 @@ pub data MixedShows (context : Context) (bytes : List ℕ) (fault : Fault) : Typ
   -- a side word other than 0, 1 and 2
   BadSide : SideIsBad context bytes fault → MixedShows context bytes fault
   -- a length word 0
-  NoLength : (b : BehindLength bytes) → b.count ≡ 0 → fault ≡ file_fault (context.start + length b.front + 4) BadMark → MixedShows context bytes fault
+  NoLength : (b : AfterLength bytes) → b.count ≡ 0 → fault ≡ file_fault (context.start + length b.front + 4) BadMark → MixedShows context bytes fault
   -- a length word with which the capture's stream bytes would pass the limit
-  TooMuch : (b : BehindLength bytes) → 0 < b.count → max_bytes < context.before + size (gathered b.chunks) + b.count → fault ≡ file_fault (context.start + length b.front + 4) TooManyBytes → MixedShows context bytes fault
+  TooMuch : (b : AfterLength bytes) → 0 < b.count → max_bytes < context.before + size (gathered b.chunks) + b.count → fault ≡ file_fault (context.start + length b.front + 4) TooManyBytes → MixedShows context bytes fault
 
 -- a fault in the client stream: the calls before it are reached
 abbrev pub client_refusal : ℕ → List (List Item) → RecordFault → ShownFault

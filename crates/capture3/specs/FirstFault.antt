@@ -22,7 +22,7 @@ pub record DiffersFromMagic (bytes : List ℕ) (fault : Fault) : Type 0 where
   pub is : fault ≡ file_fault (length front) BadMagic
 
 -- the magic, whole connections, a connection word, and what comes after it
-pub record BehindConnections (bytes : List ℕ) : Type 0 where
+pub record AfterConnections (bytes : List ℕ) : Type 0 where
   pub version : Version
   pub front : List ℕ
   pub whole : List ℕ
@@ -40,14 +40,14 @@ pub data Rule (bytes : List ℕ) (shown : ShownFault) : Type 0 where
   -- a byte among the first 8 differs from that of both magics
   MagicDiffers : DiffersFromMagic bytes shown.fault → shown ≡ refusal shown.fault → Rule bytes shown
   -- a whole connection word is not 0 or 1
-  MarkIsBad : (b : BehindConnections bytes) → b.rest ≡ [] → 1 < b.mark → shown ≡ refusal (file_fault (length b.front) BadMark) → Rule bytes shown
+  MarkIsBad : (b : AfterConnections bytes) → b.rest ≡ [] → 1 < b.mark → shown ≡ refusal (file_fault (length b.front) BadMark) → Rule bytes shown
   -- it is 1 after 65,535 connections
-  ConnectionIsTooMany : (b : BehindConnections bytes) → b.rest ≡ [] → b.mark ≡ 1 → length b.connections ≡ max_connections → shown ≡ refusal (file_fault (length b.front) TooManyConnections) → Rule bytes shown
+  ConnectionIsTooMany : (b : AfterConnections bytes) → b.rest ≡ [] → b.mark ≡ 1 → length b.connections ≡ max_connections → shown ≡ refusal (file_fault (length b.front) TooManyConnections) → Rule bytes shown
   -- in a connection
-  WithinConnection : (b : BehindConnections bytes) → b.mark ≡ 1
+  WithinConnection : (b : AfterConnections bytes) → b.mark ≡ 1
       → ConnectionShows b.version (record { number = suc (length b.connections); start = length b.front + 4; before = total_size b.connections }) b.rest shown → Rule bytes shown
   -- a byte after the last word 0
-  ByteBehindEnd : (b : BehindConnections bytes) → b.mark ≡ 0 → length b.rest ≡ 1 → shown ≡ refusal (file_fault (length b.front + 4) AfterEnd) → Rule bytes shown
+  ByteAfterEnd : (b : AfterConnections bytes) → b.mark ≡ 0 → length b.rest ≡ 1 → shown ≡ refusal (file_fault (length b.front + 4) AfterEnd) → Rule bytes shown
 
 -- A rule holds of the bytes, and none of any shorter prefix.
 pub record Shows (bytes : List ℕ) (shown : ShownFault) : Type 0 where

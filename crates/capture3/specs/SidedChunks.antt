@@ -74,7 +74,7 @@ pub record BetweenSides (before : ℕ) (bytes : List ℕ) : Type 0 where
   pub fits : before + size (gathered chunks) ≤ max_bytes
 
 -- whole chunks within the limit, a side word, and a part of a length word that is not whole
-pub record BehindSide (before : ℕ) (bytes : List ℕ) : Type 0 where
+pub record AfterSide (before : ℕ) (bytes : List ℕ) : Type 0 where
   pub chunks : List SidedChunk
   pub side : Side
   pub front : List ℕ
@@ -103,4 +103,4 @@ pub record WithinSided (before : ℕ) (bytes : List ℕ) : Type 0 where
 
 -- a connection that is not whole, after its word 1
 abbrev pub BeginsMixed : ℕ → List ℕ → Type 0
-BeginsMixed before bytes = BetweenSides before bytes ⊎ BehindSide before bytes ⊎ WithinSided before bytes
+BeginsMixed before bytes = BetweenSides before bytes ⊎ AfterSide before bytes ⊎ WithinSided before bytes

@@ -155,6 +155,12 @@ fn a_read_fails_at_each_call(rt: HostRuntime) -> Result<(), Fail> {
     Ok(())
 }
 
+// One pair, and the end.
+fn packed(packing: &mut Packing<MemSink>) -> Result<(), Error> {
+    add(packing, &CALL, &REPLY, 99)?;
+    packing.finish()
+}
+
 // The calls of the sink: the magic, the word 1, for each stream a length word, its bytes and the
 // word 0, the last word 0, and the flush.
 #[test]
@@ -162,11 +168,7 @@ fn a_write_fails_at_each_call(rt: HostRuntime) -> Result<(), Fail> {
     let written = [8, 12, 16, 60, 64, 68, 96, 100, 104];
     for (fail, wanted) in written.iter().enumerate() {
         let mut packing = packing(rt.alloc(), 999, fail as u64 + 2)?;
-        let result = match add(&mut packing, &CALL, &REPLY, 99) {
-            Ok(()) => packing.finish(),
-            Err(error) => Err(error),
-        };
-        assert_eq!(rt; result, Err(Error::Write));
+        assert_eq!(rt; packed(&mut packing), Err(Error::Write));
         assert_eq!(rt; packing.sink().bytes().len(), *wanted);
         is_over(&rt, rt.alloc(), &mut packing, Err(Error::Write))?;
     }

@@ -61,23 +61,23 @@ same_front (x ∷ a) (y ∷ b) items more n e =
     (ap (λ (l : List Item). x ∷ l) r.0 ∙ ap (λ i. i ∷ b) head, r.1)
 
 module _ {S H : Type 0} (writer : LineWriter S H) where
-  pub is_behind : (front items : List Item) → LineStands writer (after_front front items) → HasLineUnderWay writer front items
-  is_behind front items (other, own, are, is) =
+  pub is_after : (front items : List Item) → LineStands writer (after_front front items) → HasLineUnderWay writer front items
+  is_after front items (other, own, are, is) =
       let many : length front ≡ length other = cc in
       let all : front ++ items ≡ other ++ own = cc in
       let same = same_front front other items own many all in
       subst (λ (l : List Item). HasLineUnderWay writer l items) (sym same.0) (subst (HasLineUnderWay writer other) (sym same.1) is)
 
-  pub stands_behind : (front items : List Item) → HasLineUnderWay writer front items → LineStands writer (after_front front items)
-  stands_behind front items is = (front, items, refl, is)
+  pub stands_after : (front items : List Item) → HasLineUnderWay writer front items → LineStands writer (after_front front items)
+  stands_after front items is = (front, items, refl, is)
 
 -- ---- one item more
 
 abbrev pub TextOf : List ℕ → List Item → Type 0
 TextOf text items = text ≡ shown_items items
 
-pub behind-append : (front items more : List Item) → after_front front items ++ more ≡ after_front front (items ++ more)
-behind-append front items more = ap (λ (l : List Item). Word [] (length front) ∷ l) (append_assoc front items more)
+pub after_front-append : (front items more : List Item) → after_front front items ++ more ≡ after_front front (items ++ more)
+after_front-append front items more = ap (λ (l : List Item). Word [] (length front) ∷ l) (append_assoc front items more)
 
 module _ {S H : Type 0} (old new : LineWriter S H) (i : Item) where
   pub adds : ((front : List Item) → Gathers old.handles.numbers front → Gathers new.handles.numbers (front ++ i ∷ []))
@@ -87,7 +87,7 @@ module _ {S H : Type 0} (old new : LineWriter S H) (i : Item) where
   adds gathers text all (front, items, are, is) = (
     front,
     items ++ i ∷ [],
-    ap (λ (l : List Item). l ++ i ∷ []) are ∙ behind-append front items (i ∷ []),
+    ap (λ (l : List Item). l ++ i ∷ []) are ∙ after_front-append front items (i ∷ []),
     record { gathered = subst (Gathers new.handles.numbers) (append_assoc front items (i ∷ [])) (gathers (front ++ items) is.gathered); text = text items is.text },
   )
 
@@ -185,13 +185,13 @@ module _ {S H : Type 0} (writer : LineWriter S H) (table : List handles.Handle) 
 
 pub no_xid : {S H : Type 0} (writer : LineWriter S H) (front rest : List Item) (n : ℕ) → writer.xid ≡ None → LineStands writer (after_front front (Word head_names.xid n ∷ rest)) → ⊥
 no_xid writer front rest n none stands =
-    let some : writer.xid ≡ Some n = (is_behind writer front (Word head_names.xid n ∷ rest) stands).text.0 in
+    let some : writer.xid ≡ Some n = (is_after writer front (Word head_names.xid n ∷ rest) stands).text.0 in
     absurd cc
 
 pub is_line : {S H : Type 0} (writer : LineWriter S H) (connection : ℕ) (side : List ℕ) (number xid : ℕ) (id : ProcId) (front rest : List Item) (n : ℕ) (head text : List ℕ) → writer.xid ≡ Some xid → LineStands writer (after_front front (Word head_names.xid n ∷ rest))
     → head ≡ prefix connection side number ++ (xid_text xid ++ (32 ∷ procedure_name id)) → text ≡ writer.items ++ 10 ∷ [] → head ++ text ≡ line connection side number id (Word head_names.xid n ∷ rest)
 is_line writer connection side number xid id front rest n head text told stands head_is text_is =
-    let b = (is_behind writer front (Word head_names.xid n ∷ rest) stands).text in
+    let b = (is_after writer front (Word head_names.xid n ∷ rest) stands).text in
     let some : writer.xid ≡ Some n = b.0 in
     let same : xid ≡ n = cc in
     composed connection side number n id rest head text (head_is ∙ ap (λ k. prefix connection side number ++ (xid_text k ++ (32 ∷ procedure_name id))) same) (text_is ∙ ap (λ (l : List ℕ). l ++ 10 ∷ []) b.1)

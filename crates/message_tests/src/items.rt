@@ -229,7 +229,7 @@ fn spelling_of_lists(rt: HostRuntime) -> Result<(), Fail> {
 }
 
 #[test]
-fn values_behind_a_word(rt: HostRuntime) -> Result<(), Fail> {
+fn values_after_a_word(rt: HostRuntime) -> Result<(), Fail> {
     let mut input = Input::new(&[
         0, 0, 0, 0, 0, 0, 0, 1, 0, 0, 0, 5, 0, 0, 0, 4, 0, 0, 0, 6, 0, 0, 0, 7,
     ]);

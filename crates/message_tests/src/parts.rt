@@ -185,9 +185,9 @@ fn handles_are_their_bytes(rt: HostRuntime) -> Result<(), Fail> {
     let empty = Handle::new(&[]).ok_or("over 64 bytes")?;
     assert!(rt; empty.is_public() && !longest.is_public());
     let one = Handle::new(&[1]).ok_or("over 64 bytes")?;
-    let zero_behind = Handle::new(&[1, 0]).ok_or("over 64 bytes")?;
-    assert!(rt; empty < one && one < zero_behind && zero_behind < longest);
-    assert!(rt; one == one && one != zero_behind);
+    let zero_after = Handle::new(&[1, 0]).ok_or("over 64 bytes")?;
+    assert!(rt; empty < one && one < zero_after && zero_after < longest);
+    assert!(rt; one == one && one != zero_after);
 
     Ok(())
 }

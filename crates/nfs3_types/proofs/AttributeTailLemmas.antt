@@ -4,16 +4,16 @@ use Rattle.xdr3.specs.declared.reason.GetError.{GetError}
 use Rattle.xdr3.specs.Item.{Item}
 use Rattle.xdr3.specs.Scan.{Scans, Stops}
 use Rattle.xdr3.specs.View.{View}
-use Rattle.nfs3_types.specs.machinery.AttributeTails.{behind_type, settable_times}
+use Rattle.nfs3_types.specs.machinery.AttributeTails.{after_type, settable_times}
 use Rattle.nfs3_types.specs.Shapes.{attributes, file_kind, ◌then◌, time_how}
 use Rattle.nfs3_types.specs.Names.{names}
 
-pub attributes_scanned : {V : Type 0} (stands : V → List Item → Type 0) (v0 v1 : View) (s0 s1 : V) → Scans stands (file_kind then behind_type) v0 v1 s0 s1 → Scans stands attributes v0 v1 s0 s1
-unfolding behind_type attributes
+pub attributes_scanned : {V : Type 0} (stands : V → List Item → Type 0) (v0 v1 : View) (s0 s1 : V) → Scans stands (file_kind then after_type) v0 v1 s0 s1 → Scans stands attributes v0 v1 s0 s1
+unfolding after_type attributes
 attributes_scanned stands v0 v1 s0 s1 h = h
 
-pub attributes_stop : (v0 : View) (error : GetError) → Stops (file_kind then behind_type) v0 error → Stops attributes v0 error
-unfolding behind_type attributes
+pub attributes_stop : (v0 : View) (error : GetError) → Stops (file_kind then after_type) v0 error → Stops attributes v0 error
+unfolding after_type attributes
 attributes_stop v0 error h = h
 
 pub ruleset whole_attributes = (attributes_scanned, attributes_stop)

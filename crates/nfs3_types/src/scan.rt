@@ -1,7 +1,7 @@
 // Parts that a visitor is told as they are read (RFC 1813, sections 2.5, 2.6 and 5).
 
 ghost use Rattle.std.specs.Prelude.{IfErr, OnOk};
-ghost use Rattle.nfs3_types.specs.machinery.AttributeTails.{behind_type, settable_times};
+ghost use Rattle.nfs3_types.specs.machinery.AttributeTails.{after_type, settable_times};
 ghost use Rattle.nfs3_types.specs.Shapes as shapes;
 ghost use Rattle.xdr3.specs.Item.{Text};
 ghost use Rattle.xdr3.specs.Scan.{Scans, Stops};
@@ -119,16 +119,16 @@ impl Scan for Fattr {
     #[tactic(auto, using(xdr3::proofs::ScanLemmas::scans, crate::proofs::AttributeTailLemmas::whole_attributes), unfolding(crate::specs::Shapes::file_kind, crate::specs::Names::names))]
     fn scan<V: Visit>(input: &mut Input, visitor: &mut V) -> Result<(), GetError> {
         scan_listed("type", &[1, 2, 3, 4, 5, 6, 7], input, visitor)?;
-        scan_behind_type(input, visitor)
+        scan_after_type(input, visitor)
     }
 }
 
 #[inline]
-#[tactic(auto, using(xdr3::proofs::FlatLemmas::flats), unfolding(crate::specs::machinery::AttributeTails::behind_type, crate::specs::Shapes::times, crate::specs::Shapes::time, crate::specs::Names::names))]
-fn scan_behind_type<V: Visit>(input: &mut Input, visitor: &mut V) -> Result<(), GetError>
+#[tactic(auto, using(xdr3::proofs::FlatLemmas::flats), unfolding(crate::specs::machinery::AttributeTails::after_type, crate::specs::Shapes::times, crate::specs::Shapes::time, crate::specs::Names::names))]
+fn scan_after_type<V: Visit>(input: &mut Input, visitor: &mut V) -> Result<(), GetError>
     ensures ok { OnOk result
-        (Scans V.stands behind_type input.old input.new visitor.old visitor.new) }
-    ensures err { IfErr result (λ error. Stops behind_type input.old error) }
+        (Scans V.stands after_type input.old input.new visitor.old visitor.new) }
+    ensures err { IfErr result (λ error. Stops after_type input.old error) }
 {
     scan_plain(&ATTRIBUTES, 80, input, visitor)?;
     Ok(())

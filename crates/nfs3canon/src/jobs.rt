@@ -86,10 +86,7 @@ pub fn rewritten(rt: &HostRuntime, input: &str, output: &str) -> Outcome {
         Err(_) => Err(Error::Memory),
     };
     Outcome::Counted(match result {
-        Ok(summary) => match made.keep(rt) {
-            Ok(()) => Ok(summary),
-            Err(error) => Err(error),
-        },
+        Ok(summary) => made.keep(rt).map(|()| summary),
         Err(error) => {
             made.discard(rt);
             Err(error)

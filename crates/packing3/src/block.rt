@@ -29,10 +29,7 @@ pub(crate) fn fill<R: Source>(source: &mut R, block: &mut [u8]) -> Result<usize,
 {
     let mut filled = 0;
     while filled < block.len() {
-        let count = match source.read_some(&mut block[filled..]) {
-            Ok(count) => count,
-            Err(error) => return Err(error),
-        };
+        let count = source.read_some(&mut block[filled..])?;
         if count == 0 {
             return Ok(filled);
         }

@@ -148,22 +148,22 @@ pub begins : (bytes : List ℕ) → 0 < length bytes → after join_next (Runs B
 begins [] h = absurd (omega arith)
 begins (byte ∷ bytes) h = refl
 
-behind : (fragments : List (List ℕ)) (bytes front back : List ℕ) → bytes ≡ front ++ back → 0 < length bytes → Joins (IsFragment false) front fragments → length (concat fragments) ≤ max_body
+later : (fragments : List (List ℕ)) (bytes front back : List ℕ) → bytes ≡ front ++ back → 0 < length bytes → Joins (IsFragment false) front fragments → length (concat fragments) ≤ max_body
     → after join_next (Runs Between) bytes ≡ after join_next (Runs (Header (concat fragments) [])) back
-behind fragments bytes front back split some joined fits =
+later fragments bytes front back split some joined fits =
     begins bytes some ∙ ap (after join_next (Runs (Header [] []))) split ∙ after-append join_next (Runs (Header [] [])) front back
     ∙ ap (λ r. after join_next r back) (fragments_run fragments [] front joined (omega arith))
 
 pub record_stops : (bytes body : List ℕ) → IsRecord bytes body → after join_next (Runs Between) bytes ≡ Stops (Whole body)
 record_stops bytes body h =
     let size = ap length h.carried ∙ length-append (concat h.fragments) h.last in
-    behind h.fragments bytes h.front h.back h.split (omega (arith, ap length h.split ∙ length-append h.front h.back, ap length h.closes.1 ∙ length-append h.closes.0 h.last, h.closes.2.word)) h.joined (omega (arith, h.fits))
+    later h.fragments bytes h.front h.back h.split (omega (arith, ap length h.split ∙ length-append h.front h.back, ap length h.closes.1 ∙ length-append h.closes.0 h.last, h.closes.2.word)) h.joined (omega (arith, h.fits))
     ∙ fragment_runs true (concat h.fragments) h.back h.last h.closes (omega (arith, h.fits))
     ∙ ap (λ (b : List ℕ). Stops (Whole b)) (sym h.carried)
 
 pub too_long_stops : (bytes : List ℕ) (at : ℕ) → IsTooLong bytes at → after join_next (Runs Between) bytes ≡ Stops (TooLong at)
 too_long_stops bytes at h =
-    behind h.fragments bytes h.front h.header h.split (omega (arith, ap length h.split ∙ length-append h.front h.header, h.heads.word)) h.joined (omega (arith, h.fits, h.carried))
+    later h.fragments bytes h.front h.header h.split (omega (arith, ap length h.split ∙ length-append h.front h.header, h.heads.word)) h.joined (omega (arith, h.fits, h.carried))
     ∙ header_runs (concat h.fragments) h.header h.heads.word
     ∙ ap (λ b. landed (cond b (Ends (TooLong (length (concat h.fragments)))) (expecting (concat h.fragments) (is_last (number h.header)) (length_of (number h.header)))))
     (lt-ltb max_body (length (concat h.fragments) + length_of (number h.header)) (omega (arith, h.passes, h.carried, h.heads.count)))
@@ -172,13 +172,13 @@ too_long_stops bytes at h =
 pub joining_runs : (bytes : List ℕ) (s : Joining) → HasJoined bytes s → after join_next (Runs Between) bytes ≡ Runs s
 joining_runs bytes Between h = ap (after join_next (Runs Between)) h
 joining_runs bytes (Header body part) h =
-    behind h.fragments bytes h.front part h.split h.begun h.joined (omega (arith, h.fits, ap length h.carried))
+    later h.fragments bytes h.front part h.split h.begun h.joined (omega (arith, h.fits, ap length h.carried))
     ∙ nested_runs word_next join_next (Header (concat h.fragments)) (headed (concat h.fragments)) (λ s byte. refl) part [] part (word_runs part h.short)
     ∙ ap (λ (b : List ℕ). Runs (Header b part)) (sym h.carried)
 joining_runs bytes (Bytes body last left) h =
     let before : List ℕ = concat h.fragments in
     let size = ap length h.carried ∙ length-append (concat h.fragments) h.got in
-    behind h.fragments bytes h.front (h.header ++ h.got) (h.split ∙ append_assoc h.front h.header h.got)
+    later h.fragments bytes h.front (h.header ++ h.got) (h.split ∙ append_assoc h.front h.header h.got)
     (omega (arith, ap length h.split ∙ length-append (h.front ++ h.header) h.got, length-append h.front h.header, h.heads.word)) h.joined (omega (arith, h.fits))
     ∙ after-append join_next (Runs (Header before [])) h.header h.got
     ∙ ap (λ r. after join_next r h.got) (header_runs before h.header h.heads.word ∙ ap landed (headed_fits before h.header last (length h.got + suc left) h.heads (omega (arith, h.fits))))

@@ -37,8 +37,8 @@ pub record CanEnd (run : Run Joining Joined) : Type 0 where
   pub end : Joined
   pub stops : after join_next run more ≡ Stops end
 
-can_end_behind : (run next : Run Joining Joined) (front : List ℕ) → after join_next run front ≡ next → CanEnd next → CanEnd run
-can_end_behind run next front e h = record { more = front ++ h.more; end = h.end; stops = after-append join_next run front h.more ∙ ap (λ r. after join_next r h.more) e ∙ h.stops }
+can_end_after : (run next : Run Joining Joined) (front : List ℕ) → after join_next run front ≡ next → CanEnd next → CanEnd run
+can_end_after run next front e h = record { more = front ++ h.more; end = h.end; stops = after-append join_next run front h.more ∙ ap (λ r. after join_next r h.more) e ∙ h.stops }
 
 -- the header of an empty last fragment
 closing : List ℕ
@@ -55,33 +55,33 @@ either_ends false x y = record { more = []; end = y; stops = refl }
 between_fragments : (body : List ℕ) → CanEnd (Runs (Header body []))
 unfolding closing
 between_fragments body =
-    can_end_behind (Runs (Header body [])) (landed (cond (nat_lt max_body (length body + 0)) (Ends (TooLong (length body))) (Ends (Whole body)))) closing
+    can_end_after (Runs (Header body [])) (landed (cond (nat_lt max_body (length body + 0)) (Ends (TooLong (length body))) (Ends (Whole body)))) closing
     (header_runs body closing refl ∙ ap landed (closes body))
     (either_ends (nat_lt max_body (length body + 0)) (TooLong (length body)) (Whole body))
 
 in_fragment : (body : List ℕ) (last : Bool) (n : ℕ) → CanEnd (landed (expecting body last n))
 in_fragment body true zero = record { more = []; end = Whole body; stops = refl }
 in_fragment body false zero = between_fragments body
-in_fragment body last (suc left) = can_end_behind (Runs (Bytes body last left)) (landed (expecting (body ++ 0 ∷ []) last left)) (0 ∷ []) refl (in_fragment (body ++ 0 ∷ []) last left)
+in_fragment body last (suc left) = can_end_after (Runs (Bytes body last left)) (landed (expecting (body ++ 0 ∷ []) last left)) (0 ∷ []) refl (in_fragment (body ++ 0 ∷ []) last left)
 
-behind_header : (over : Bool) (body : List ℕ) (last : Bool) (n : ℕ) → CanEnd (landed (cond over (Ends (TooLong (length body))) (expecting body last n)))
-behind_header true body last n = record { more = []; end = TooLong (length body); stops = refl }
-behind_header false body last n = in_fragment body last n
+at_header : (over : Bool) (body : List ℕ) (last : Bool) (n : ℕ) → CanEnd (landed (cond over (Ends (TooLong (length body))) (expecting body last n)))
+at_header true body last n = record { more = []; end = TooLong (length body); stops = refl }
+at_header false body last n = in_fragment body last n
 
 after_header : (body : List ℕ) (header : ℕ) → CanEnd (landed (headed body header))
-after_header body header = behind_header (nat_lt max_body (length body + length_of header)) body (is_last header) (length_of header)
+after_header body header = at_header (nat_lt max_body (length body + length_of header)) body (is_last header) (length_of header)
 
 at_three : (body more : List ℕ) (a b c : ℕ) → CanEnd (Runs (Header body (a ∷ b ∷ c ∷ more)))
-at_three body more a b c = can_end_behind (Runs (Header body (a ∷ b ∷ c ∷ more))) (landed (headed body (number (a ∷ b ∷ c ∷ 0 ∷ [])))) (0 ∷ []) refl (after_header body (number (a ∷ b ∷ c ∷ 0 ∷ [])))
+at_three body more a b c = can_end_after (Runs (Header body (a ∷ b ∷ c ∷ more))) (landed (headed body (number (a ∷ b ∷ c ∷ 0 ∷ [])))) (0 ∷ []) refl (after_header body (number (a ∷ b ∷ c ∷ 0 ∷ [])))
 
 at_two : (body : List ℕ) (a b : ℕ) → CanEnd (Runs (Header body (a ∷ b ∷ [])))
-at_two body a b = can_end_behind (Runs (Header body (a ∷ b ∷ []))) (Runs (Header body (a ∷ b ∷ 0 ∷ []))) (0 ∷ []) refl (at_three body [] a b 0)
+at_two body a b = can_end_after (Runs (Header body (a ∷ b ∷ []))) (Runs (Header body (a ∷ b ∷ 0 ∷ []))) (0 ∷ []) refl (at_three body [] a b 0)
 
 -- wherever it runs, it can come to an end
 can_end : (s : Joining) → CanEnd (Runs s)
-can_end Between = can_end_behind (Runs Between) (Runs (Header [] (0 ∷ 0 ∷ []))) (0 ∷ 0 ∷ []) refl (at_two [] 0 0)
+can_end Between = can_end_after (Runs Between) (Runs (Header [] (0 ∷ 0 ∷ []))) (0 ∷ 0 ∷ []) refl (at_two [] 0 0)
 can_end (Header body []) = between_fragments body
-can_end (Header body (a ∷ [])) = can_end_behind (Runs (Header body (a ∷ []))) (Runs (Header body (a ∷ 0 ∷ []))) (0 ∷ []) refl (at_two body a 0)
+can_end (Header body (a ∷ [])) = can_end_after (Runs (Header body (a ∷ []))) (Runs (Header body (a ∷ 0 ∷ []))) (0 ∷ []) refl (at_two body a 0)
 can_end (Header body (a ∷ b ∷ [])) = at_two body a b
 can_end (Header body (a ∷ b ∷ c ∷ more)) = at_three body more a b c
 can_end (Bytes body last left) = in_fragment body last (suc left)

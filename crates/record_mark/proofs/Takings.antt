@@ -105,9 +105,9 @@ ran_before old now piece (suc n) is moved runs = moved (omega arith)
 pub runs_on : (old new : Taking) (bytes : List ℕ) → IsRunning old → new ≡ led_on old bytes → IsRunning new → after join_next (Runs (joining_of old)) bytes ≡ Runs (joining_of new)
 runs_on old new bytes h led k =
     let before = running_is old h in
-    let behind = running_is new k in
-    let same : Led (after join_next (Runs before.0) bytes) ≡ Led (Runs behind.0) = ap (λ t. led_on t bytes) (sym before.1) ∙ sym led ∙ behind.1 in
-    ap (λ t. after join_next (Runs (joining_of t)) bytes) before.1 ∙ (cc) ∙ ap (λ t. Runs (joining_of t)) (sym behind.1)
+    let later = running_is new k in
+    let same : Led (after join_next (Runs before.0) bytes) ≡ Led (Runs later.0) = ap (λ t. led_on t bytes) (sym before.1) ∙ sym led ∙ later.1 in
+    ap (λ t. after join_next (Runs (joining_of t)) bytes) before.1 ∙ (cc) ∙ ap (λ t. Runs (joining_of t)) (sym later.1)
 
 pub stops_at : (old : Taking) (end : Joined) (bytes : List ℕ) → IsRunning old → led_on old bytes ≡ Led (Stops end) → after join_next (Runs (joining_of old)) bytes ≡ Stops end
 stops_at old end bytes h led =
@@ -117,8 +117,8 @@ stops_at old end bytes h led =
 
 pub stops_whole : (old new : Taking) (bytes : List ℕ) → IsRunning old → new ≡ led_on old bytes → IsWhole new → after join_next (Runs (joining_of old)) bytes ≡ Stops (Whole (body_of new))
 stops_whole old new bytes h led k =
-    let behind = whole_is new k in
-    stops_at old (Whole (body_of new)) bytes h (sym led ∙ behind.1 ∙ ap (λ t. Led (Stops (Whole (body_of t)))) (sym behind.1))
+    let later = whole_is new k in
+    stops_at old (Whole (body_of new)) bytes h (sym led ∙ later.1 ∙ ap (λ t. Led (Stops (Whole (body_of t)))) (sym later.1))
 
 -- what runs, and stands between records, has taken nothing
 pub is_between : (taking : Taking) → IsRunning taking → joining_of taking ≡ Between → taking ≡ unbegun

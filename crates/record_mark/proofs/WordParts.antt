@@ -4,13 +4,14 @@ use Rattle.record_mark.specs.declared.word_part.WordPart.{WordPart}
 use Rattle.record_mark.specs.declared.word_part.Word.TheVariants.{Part, Whole}
 use Rattle.record_mark.specs.Machine.{Runs, after, landed}
 use Rattle.record_mark.specs.Joining.{Header, headed, join_next}
+use Rattle.std.specs.Int.{to_be_bytes, w32}
 use Rattle.record_mark.specs.WordPart.{bytes_so_far, TakesWord}
 use Rattle.record_mark.proofs.Steps.{header_goes_on, header_ends}
 
 pub short_part : (part : WordPart) → length (bytes_so_far part) < 4
 short_part part =
     let short = part.short in
-    let size = length-take part.count part.bytes in
+    let size = length-take part.count (to_be_bytes w32 part.word) in
     omega arith
 
 pub header_part : (body bytes : List ℕ) (header longer : WordPart) (count : ℕ) → TakesWord header bytes count (Part longer)

@@ -7,7 +7,8 @@ use byteorder::{BigEndian, ByteOrder};
 /// The bytes of a word so far, fewer than four. A word is four bytes, big-endian (RFC 4506, section 4.2).
 #[derive(Clone, Copy)]
 pub struct WordPart {
-    bytes: [u8; 4],
+    // They are its first bytes. As a number they are copied at once, also within an enum.
+    word: u32,
     count: u8,
     ghost short: { count < 4 },
 }
@@ -27,10 +28,7 @@ impl WordPart {
     pub fn new() -> WordPart
         ensures { bytes_so_far result ≡ [] }
     {
-        WordPart {
-            bytes: [0; 4],
-            count: 0,
-        }
+        WordPart { word: 0, count: 0 }
     }
 
     /// Takes bytes of `rest`, which has some, up to the word's end: how many, and the part or the whole
@@ -58,10 +56,10 @@ impl WordPart {
     {
         let count = self.count as usize;
         let more = (4 - count).min(rest.len());
-        let bytes = with_more(self.bytes, count, &rest[..more]);
+        let bytes = with_more(self.word.to_be_bytes(), count, &rest[..more]);
         if count + more < 4 {
             let part = WordPart {
-                bytes,
+                word: u32::from_be_bytes(bytes),
                 count: (count + more) as u8,
             };
             return (more, Word::Part(part));

@@ -29,22 +29,22 @@ abbrev done_at : List Item → ℕ → Outcome (List Item)
 done_at xs at = Ok (xs, at)
 
 -- what is read, after these items
-abbrev behind : List Item → List Item × ℕ → Outcome (List Item)
-behind xs y = Ok (xs ++ y.0, y.1)
+abbrev later : List Item → List Item × ℕ → Outcome (List Item)
+later xs y = Ok (xs ++ y.0, y.1)
 
 -- what is read by one shape and then by another
 abbrev glue : Outcome (List Item) → (ℕ → Outcome (List Item)) → Outcome (List Item)
-glue r g = r >>= λ x. g x.1 >>= behind x.0
+glue r g = r >>= λ x. g x.1 >>= later x.0
 
 glue_same : (r : Outcome (List Item)) (g h : ℕ → Outcome (List Item)) → ((at : ℕ) → g at ≡ h at) → glue r g ≡ glue r h
 glue_same (Ok x) g h same = rw (same x.1) refl
 glue_same (Err stop) g h same = refl
 
-third : (xs ys : List Item) (r : Outcome (List Item)) → (r >>= behind (xs ++ ys)) ≡ ((r >>= behind ys) >>= behind xs)
+third : (xs ys : List Item) (r : Outcome (List Item)) → (r >>= later (xs ++ ys)) ≡ ((r >>= later ys) >>= later xs)
 third xs ys (Ok z) = ap (λ (l : List Item). done_at l z.1) (append_assoc xs ys z.0)
 third xs ys (Err stop) = refl
 
-second : (xs : List Item) (r : Outcome (List Item)) (h : ℕ → Outcome (List Item)) → glue (r >>= behind xs) h ≡ (glue r h >>= behind xs)
+second : (xs : List Item) (r : Outcome (List Item)) (h : ℕ → Outcome (List Item)) → glue (r >>= later xs) h ≡ (glue r h >>= later xs)
 second xs (Ok y) h = third xs y.0 (h y.1)
 second xs (Err stop) h = refl
 
@@ -52,7 +52,7 @@ glue_glued : (r : Outcome (List Item)) (g h : ℕ → Outcome (List Item)) → g
 glue_glued (Ok x) g h = second x.0 (g x.1) h
 glue_glued (Err stop) g h = refl
 
-glue_first : (r : Outcome (List Item)) → (r >>= behind []) ≡ r
+glue_first : (r : Outcome (List Item)) → (r >>= later []) ≡ r
 glue_first (Ok y) = refl
 glue_first (Err stop) = refl
 

@@ -29,8 +29,8 @@ len4 : (n : ℕ) → length (word_bytes n) ≡ 4
 len4 n = length-bytes_high_first 4 n
 
 -- what a word and more items are
-behind_word : (whole : Shape) (name : List ℕ) (n : ℕ) (bytes more left back : List ℕ) (ys : List Item) → BeginsWith n bytes more → Fits whole (Word name n ∷ ys) → Spells ys back → more ≡ back ++ left → Reads whole bytes (Word name n ∷ ys) left
-behind_word whole name n bytes more left back ys b f t g = joins whole bytes (word_bytes n) more left back (Word name n ∷ []) ys f (word_spelled name n bytes more b) t b.is g
+after_word : (whole : Shape) (name : List ℕ) (n : ℕ) (bytes more left back : List ℕ) (ys : List Item) → BeginsWith n bytes more → Fits whole (Word name n ∷ ys) → Spells ys back → more ≡ back ++ left → Reads whole bytes (Word name n ∷ ys) left
+after_word whole name n bytes more left back ys b f t g = joins whole bytes (word_bytes n) more left back (Word name n ∷ []) ys f (word_spelled name n bytes more b) t b.is g
 
 regrouped : (a b c d : List ℕ) → a ++ (b ++ (c ++ d)) ≡ ((a ++ b) ++ c) ++ d
 regrouped a b c d = sym (append_assoc (a ++ b) c d ∙ append_assoc a b (c ++ d))
@@ -44,7 +44,7 @@ then_word name n R bytes more at reason b r = (Word name n ∷ [], word_bytes n,
 pub choose_by_parts : (name : List ℕ) (accepted : ℕ → Bool) (other : Reason) (next : ℕ → Shape) → ChooseByParts name accepted other next
 choose_by_parts name accepted other next = record {
   fits = λ n more a f. (n, more, a, f, refl);
-  reads = λ n bytes more left items b a r. behind_word (choose name accepted other next) name n bytes more left r.front items b (n, items, a, r.fits, refl) r.spells r.whole;
+  reads = λ n bytes more left items b a r. after_word (choose name accepted other next) name n bytes more left r.front items b (n, items, a, r.fits, refl) r.spells r.whole;
   refuses_word = λ bytes at reason r. inl r;
   refuses_next = λ n bytes more at reason b a r. inr (n, a, then_word name n (Refuses (next n)) bytes more at reason b r);
 }
@@ -94,11 +94,11 @@ both_by_parts a b = record {
 -- a link before the links that a list has
 pub linked_by_parts : (name : List ℕ) (shape : Shape) → LinkedByParts name shape
 linked_by_parts name shape = record {
-  reads_none = λ bytes left b. behind_word (linked name shape) name 0 bytes left left [] [] b ([], tt, refl) refl refl;
+  reads_none = λ bytes left b. after_word (linked name shape) name 0 bytes left left [] [] b ([], tt, refl) refl refl;
   reads_more = λ bytes first more left part parts b r s.
       let f = s.fits in
       let is : Word name 1 ∷ (part ++ parts) ≡ links name (part ∷ f.0) ++ Word name 0 ∷ [] = ap (λ (xs : List Item). Word name 1 ∷ (part ++ xs)) f.2 ∙ sym (append_assoc (Word name 1 ∷ part) (links name f.0) (Word name 0 ∷ [])) in
-      behind_word (linked name shape) name 1 bytes first left (r.front ++ s.front) (part ++ parts) b (part ∷ f.0, (r.fits, f.1), is)
+      after_word (linked name shape) name 1 bytes first left (r.front ++ s.front) (part ++ parts) b (part ∷ f.0, (r.fits, f.1), is)
       (Spells-append part parts r.front s.front r.spells s.spells) (r.whole ∙ ap (λ (l : List ℕ). r.front ++ l) s.whole ∙ sym (append_assoc r.front s.front left));
   refuses_word = λ bytes at reason r. ([], [], bytes, at, ([], tt, refl), refl, refl, inl r, omega arith);
   refuses_part = λ bytes first at reason b r. ([], [], bytes, 4 + at, ([], tt, refl), refl, refl, inr (then_word name 1 (Refuses shape) bytes first at reason b r), omega arith);
@@ -145,7 +145,7 @@ counted_by_parts name max shape = record {
   reads = λ n bytes first left items b m r.
       let t = are_read shape n first items left r in
       let is : Word name n ∷ items ≡ Word name (length t.parts) ∷ joined t.parts = ap (λ (k : ℕ). Word name k ∷ items) (sym t.count) ∙ ap (λ (xs : List Item). Word name (length t.parts) ∷ xs) t.is in
-      behind_word (counted name max shape) name n bytes first left t.front items b (t.parts, t.fit, omega (arith, t.count), is) t.spells t.whole;
+      after_word (counted name max shape) name n bytes first left t.front items b (t.parts, t.fit, omega (arith, t.count), is) t.spells t.whole;
   refuses_count = λ bytes at reason r. inl r;
   refuses_part = λ n k bytes first more items at further reason b m h r s p.
       let t = are_read shape k first items more r in
@@ -171,7 +171,7 @@ sized_by_parts name shape = record {
   reads = λ n bytes window left items b l m r.
       let all : window ≡ r.front = r.whole ∙ append-nil r.front in
       let len : length (zero_spelling items) ≡ n = omega (arith, length_of_spelling items r.front r.spells, ap length all) in
-      behind_word (sized name shape) name n bytes (window ++ left) left r.front items b (items, r.fits, omega (arith, len), ap (λ (k : ℕ). Word name k ∷ items) (sym len)) r.spells (ap (λ (w : List ℕ). w ++ left) all);
+      after_word (sized name shape) name n bytes (window ++ left) left r.front items b (items, r.fits, omega (arith, len), ap (λ (k : ℕ). Word name k ∷ items) (sym len)) r.spells (ap (λ (w : List ℕ). w ++ left) all);
   refuses_length = λ bytes at reason r. inl r;
   refuses_cut = λ n bytes more b m h. inr (n, m, then_word name n (RefusesWindow n (Fits shape) (Refuses shape)) bytes more 0 _ b (inl (h, refl, refl)));
   refuses_inside = λ n bytes window left at reason b l m r.

@@ -62,10 +62,10 @@ pub run_taken : (all : List PlainField) (bytes : List ℕ) (n : ℕ) → run_siz
 run_taken [] bytes n h = refl
 run_taken (field ∷ more) bytes n h =
     let n-is : n ≡ width field + (n - width field) = omega (arith, h) in
-    let behind : drop (width field) (take n bytes) ≡ take (n - width field) (drop (width field) bytes) =
+    let later : drop (width field) (take n bytes) ≡ take (n - width field) (drop (width field) bytes) =
     subst (λ (m : ℕ). drop (width field) (take m bytes) ≡ take (n - width field) (drop (width field) bytes)) (sym n-is) (drop-take (width field) (n - width field) bytes) in
     let rest = run_taken more (drop (width field) bytes) (n - width field) (omega (arith, h)) in
-    rw (field_taken field bytes n (omega (arith, h)), behind, rest) refl
+    rw (field_taken field bytes n (omega (arith, h)), later, rest) refl
 
 -- the items are spelled by their bytes
 pub run_spelled : (all : List PlainField) (bytes : List ℕ) → AreBytes bytes → length bytes ≡ run_size all → zero_spelling (run_items all bytes) ≡ bytes
@@ -123,11 +123,11 @@ pub record IsTelling {V : Type 0} (stands : V → List Item → Type 0) (all : L
 pub telling_begins : {V : Type 0} (stands : V → List Item → Type 0) (all : List PlainField) (bytes : List ℕ) (old : V) → length bytes ≡ run_size all → IsTelling stands all bytes bytes old old 0
 telling_begins stands all bytes old h = record { size = h; adds = λ new a. a }
 
-pub telling_next : {V : Type 0} (stands : V → List Item → Type 0) (all : List PlainField) (bytes rest behind : List ℕ) (old now next after : V) (i : ℕ) (field d : PlainField) → IsTelling stands all bytes rest old now i → i < length all → get_or all i d ≡ field
-    → Adds stands now next (plain_item field rest ∷ []) → behind ≡ drop (width field) rest → after ≡ next → IsTelling stands all bytes behind old after (i + 1)
-telling_next stands all bytes rest behind old now next after i field d t h is told behind-is after-is =
+pub telling_next : {V : Type 0} (stands : V → List Item → Type 0) (all : List PlainField) (bytes rest later : List ℕ) (old now next after : V) (i : ℕ) (field d : PlainField) → IsTelling stands all bytes rest old now i → i < length all → get_or all i d ≡ field
+    → Adds stands now next (plain_item field rest ∷ []) → later ≡ drop (width field) rest → after ≡ next → IsTelling stands all bytes later old after (i + 1)
+telling_next stands all bytes rest later old now next after i field d t h is told later-is after-is =
     let more : drop i all ≡ field ∷ drop (i + 1) all = drop_more all i d h ∙ ap (λ (x : PlainField). x ∷ drop (i + 1) all) is in
-    rw (behind-is, after-is) (record {
+    rw (later-is, after-is) (record {
       size = omega (arith, t.size, ap run_size more, length-drop (width field) rest);
       adds = λ new a. t.adds new (rw more (adds_joined stands now next new (plain_item field rest ∷ []) (run_items (drop (i + 1) all) (drop (width field) rest)) (run_items (field ∷ drop (i + 1) all) rest) told a refl));
     })

@@ -6,13 +6,13 @@ use Rattle.capture3.specs.declared.fault.Error.{Error}
 use Rattle.capture3.specs.Capture.{One, magic}
 use Rattle.capture3.specs.Entry.{Entry}
 use Rattle.canon3.specs.declared.message_writer.MessageWriter.{MessageWriter}
-use Rattle.canon3.specs.machinery.MessageWriter.{behind, IsGoing, WriterStands, values_of}
-use Rattle.canon3.specs.machinery.Spelling.{bytes_behind}
+use Rattle.canon3.specs.machinery.MessageWriter.{told_after, IsGoing, WriterStands, values_of}
+use Rattle.canon3.specs.machinery.Spelling.{bytes_after}
 use Rattle.canon3.specs.SinkWrites.{AppendsFront}
 
 -- the values of the entries so far, in front of the next message
 abbrev pub values_before : List Entry → List Item
-values_before entries = behind (values_of entries) []
+values_before entries = told_after (values_of entries) []
 
 abbrev pub are_some : List Entry → Bool
 are_some [] = false
@@ -28,5 +28,5 @@ magic_before connections = if connections == 0 then magic One else []
 
 -- the entry's values are held after those before it, and its bytes in the canonical form are written, or a front of them
 abbrev pub Follows : {S H : Type 0} → MessageWriter S H → (old new : Option (List ℕ)) → List Entry → Entry → {X : Type 0} → Result X Error → Type 0
-Follows n old new entries one (Ok x) = IsGoing n × WriterStands n (values_before (entries ++ one ∷ [])) × Appends old new (bytes_behind entries (one ∷ []))
-Follows n old new entries one (Err error) = AppendsFront old new (bytes_behind entries (one ∷ []))
+Follows n old new entries one (Ok x) = IsGoing n × WriterStands n (values_before (entries ++ one ∷ [])) × Appends old new (bytes_after entries (one ∷ []))
+Follows n old new entries one (Err error) = AppendsFront old new (bytes_after entries (one ∷ []))

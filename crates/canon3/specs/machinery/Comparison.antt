@@ -22,7 +22,7 @@ use Rattle.canon3.specs.declared.verdict.Which.{Which}
 use Rattle.canon3.specs.declared.verdict.Which.TheVariants.{Second}
 use Rattle.canon3.specs.Bytes.{bytes_of}
 use Rattle.canon3.specs.Canonical.{canonical}
-use Rattle.canon3.specs.machinery.MessageWriter.{behind, WriterStands, values_of}
+use Rattle.canon3.specs.machinery.MessageWriter.{told_after, WriterStands, values_of}
 use Rattle.canon3.specs.Parting.{IsPlaceOf}
 use Rattle.canon3.specs.Progress.{HasPassed}
 use Rattle.canon3.specs.Comparison.{CountsReadingOf, StopsComparing}
@@ -41,8 +41,8 @@ pub record PartWith (a b : List Entry) (e f : Entry) (place : Place) : Type 0 wh
 -- these were compared, and the numberings stand for their values, and for these items of the next two messages
 pub record IsTold {S H : Type 0} (comparison : Comparison S H) (a b : List Entry) (items others : List Item) : Type 0 where
   pub agree : Agree a b
-  pub first : WriterStands comparison.first (behind (values_of a) items)
-  pub second : WriterStands comparison.second (behind (values_of b) others)
+  pub first : WriterStands comparison.first (told_after (values_of a) items)
+  pub second : WriterStands comparison.second (told_after (values_of b) others)
   pub progress : HasPassed comparison.progress a
 
 -- these were compared

@@ -54,14 +54,14 @@ abbrev pub in_front_of : List (List ℕ) → List Item → List Item
 in_front_of [] items = Word [] 0 ∷ items
 in_front_of (x ∷ xs) items = Rest [] x ∷ in_front_of xs items
 
-abbrev pub behind : Before → List Item → List Item
-behind before items = Rest [] before.xids ∷ in_front_of before.handles (in_front_of before.verifiers items)
+abbrev pub told_after : Before → List Item → List Item
+told_after before items = Rest [] before.xids ∷ in_front_of before.handles (in_front_of before.verifiers items)
 
 -- a message under way, and what was there before it
 pub record HasMessageUnderWay {S H : Type 0} (n : MessageWriter S H) (all : List Item) : Type 0 where
   pub before : Before
   pub items : List Item
-  pub are : all ≡ behind before items
+  pub are : all ≡ told_after before items
   pub under_way : IsWithinMessage n before items
 
 -- it has not failed

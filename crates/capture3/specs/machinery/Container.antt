@@ -72,14 +72,14 @@ IsReady None taking = IsRunning taking
 IsReady (Some cursor) taking = taking ≡ unbegun
 
 -- How many things of whole streams can become whole after so many bytes of this side's: a record for each byte that is left, and the ends of the streams.
-abbrev pub room_behind : Side → ℕ → sided.Streams → ℕ
-room_behind sides.Client taken streams = 2 + (size streams - taken)
-room_behind sides.Server taken streams = 1 + (length streams.server - taken)
+abbrev pub room_after : Side → ℕ → sided.Streams → ℕ
+room_after sides.Client taken streams = 2 + (size streams - taken)
+room_after sides.Server taken streams = 1 + (length streams.server - taken)
 
 -- the same by the cursor
 abbrev pub recall_room : Option Cursor → sided.Streams → ℕ
 recall_room None streams = 0
-recall_room (Some cursor) streams = room_behind cursor.side cursor.taken streams
+recall_room (Some cursor) streams = room_after cursor.side cursor.taken streams
 
 -- how many things can become whole from here on, kept streams with the rest of the file
 abbrev pub room_in : Container → ℕ

@@ -47,13 +47,13 @@ pub record StandsAt (position : Position) (taking : Taking) (streams : Streams) 
   pub emitted : entries ≡ emitted_at (unpacking_of position taking streams).opened so_far
 
 -- after a side word 0
-abbrev pub behind_side_word : Position → Unpacking
-behind_side_word p = before_mark Two p.at p.total p.connections 0 Between
+abbrev pub after_side_word : Position → Unpacking
+after_side_word p = before_mark Two p.at p.total p.connections 0 Between
 
 -- the same; or the last of the bytes was that of a side word 0, and the streams' records are judged
 abbrev pub StandsOrRecalls : Option Cursor → Position → Taking → Streams → List NumberedCall → List ℕ → List Entry → Type 0
 StandsOrRecalls None position taking streams table bytes entries = StandsAt position taking streams table bytes entries
-StandsOrRecalls (Some cursor) position taking streams table bytes entries = Recalls (behind_side_word position) streams cursor.side cursor.taken position.records table bytes entries
+StandsOrRecalls (Some cursor) position taking streams table bytes entries = Recalls (after_side_word position) streams cursor.side cursor.taken position.records table bytes entries
 
 -- the same where the record that became whole last, if one did, is let go
 abbrev pub HasCome : Container → List NumberedCall → List ℕ → List Entry → Type 0
@@ -89,7 +89,7 @@ pub record HasRecalled (container : Container) (table : List NumberedCall) (side
   pub taken : ℕ
   pub records : ℕ
   pub count : ℕ
-  pub stood : Recalls (behind_side_word container.position) container.streams side taken records table bytes entries
+  pub stood : Recalls (after_side_word container.position) container.streams side taken records table bytes entries
   pub joins : after join_next (Runs Between) (take count (drop taken (stream_of side container.streams))) ≡ Stops (Whole (body_of container.joiner))
   pub next_is : container.cursor ≡ Some (record { side = side; taken = taken + count })
   pub records_are : container.position.records ≡ records + 1

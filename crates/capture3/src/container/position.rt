@@ -191,12 +191,12 @@ impl Position {
         let (count, word) = part.taken(rest);
         match word {
             Word::Part(part) => Ok(self.moved(count, self.at, Spot::Mark(version, part))),
-            Word::Whole(n) => self.behind_mark(version, part, n, count),
+            Word::Whole(n) => self.after_mark(version, part, n, count),
         }
     }
 
     /// A connection word has come.
-    fn behind_mark(
+    fn after_mark(
         self,
         version: Version,
         part: WordPart,
@@ -245,13 +245,13 @@ impl Position {
         let (count, word) = part.taken(rest);
         match word {
             Word::Part(part) => Ok(self.moved(count, self.at, Spot::Length(side, part))),
-            Word::Whole(0) => self.behind_stream(side, part, so_far, count),
-            Word::Whole(len) => self.behind_length(side, part, len, count),
+            Word::Whole(0) => self.after_stream(side, part, so_far, count),
+            Word::Whole(len) => self.after_length(side, part, len, count),
         }
     }
 
     /// A stream's word 0 has come.
-    fn behind_stream(
+    fn after_stream(
         self,
         side: Side,
         part: WordPart,
@@ -277,7 +277,7 @@ impl Position {
     }
 
     /// The length word of a chunk has come, and is not 0.
-    fn behind_length(
+    fn after_length(
         self,
         side: Side,
         part: WordPart,

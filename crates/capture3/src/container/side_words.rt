@@ -48,12 +48,12 @@ impl Position {
         let (count, word) = part.taken(rest);
         match word {
             Word::Part(part) => Ok(self.moved(count, self.at, Spot::Side(part))),
-            Word::Whole(n) => self.behind_side(part, n, count),
+            Word::Whole(n) => self.after_side(part, n, count),
         }
     }
 
     /// A side word has come, of a chunk or of the streams' end.
-    fn behind_side(self, part: WordPart, n: u32, count: usize) -> Result<Taken, Error>
+    fn after_side(self, part: WordPart, n: u32, count: usize) -> Result<Taken, Error>
         requires sound { IsSoundPosition self }
         requires here { self.spot ≡ Spot.Side part }
         ensures count { IfOk result (λ taken. taken.count ≡ count) }
@@ -93,12 +93,12 @@ impl Position {
         let (count, word) = part.taken(rest);
         match word {
             Word::Part(part) => Ok(self.moved(count, self.at, Spot::SideLength(side, part))),
-            Word::Whole(len) => self.behind_side_length(side, part, len, count),
+            Word::Whole(len) => self.after_side_length(side, part, len, count),
         }
     }
 
     /// The length word after a side word has come.
-    fn behind_side_length(
+    fn after_side_length(
         self,
         side: Side,
         part: WordPart,

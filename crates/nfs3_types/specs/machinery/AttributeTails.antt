@@ -3,8 +3,8 @@ use Rattle.xdr3.specs.Shape.{Shape, hyper, word}
 use Rattle.nfs3_types.specs.Names.{names}
 use Rattle.nfs3_types.specs.Shapes.{◌then◌, time_how, times}
 
-unfoldable pub behind_type : Shape
-behind_type =
+unfoldable pub after_type : Shape
+after_type =
     word names.mode then word names.nlink then word names.uid then word names.gid
     then hyper names.size then hyper names.used then word names.rdev1 then word names.rdev2 then hyper names.fsid then hyper names.fileid
     then times

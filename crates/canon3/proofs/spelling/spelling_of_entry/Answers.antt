@@ -1,7 +1,7 @@
 use Rattle.std.proofs.Common.{subst, ◌≡◌}
 use Rattle.capture3.specs.Entry.{Entry, Begin, items_of}
 use Rattle.capture3.specs.Kept.{IsOfKind}
-use Rattle.canon3.specs.machinery.MessageWriter.{behind, WriterStands, values_of}
+use Rattle.canon3.specs.machinery.MessageWriter.{told_after, WriterStands, values_of}
 use Rattle.canon3.proofs.Opening.{nothing_held}
 use Rattle.canon3.proofs.SpellingLemmas.{begin_spelled, message_spelled, word_spelled}
 use Rattle.canon3.proofs.spelling.spelling_of_entry.Goals as goal
@@ -9,7 +9,7 @@ use Rattle.canon3.proofs.spelling.spelling_of_entry.Goals as goal
 pub returns-in-Begin : goal.returns-in-Begin
 returns-in-Begin g c entries one of first few stands =
     let this : one ≡ Begin = subst (λ k. IsOfKind k one) c.in-Begin.is of in
-    let held = nothing_held c.args.message_writer.now (values_of entries) c.in_ok-unless_failed.ensures (subst (λ (e : Entry). WriterStands c.args.message_writer.now (behind (values_of entries) (items_of e))) this stands) in
+    let held = nothing_held c.args.message_writer.now (values_of entries) c.in_ok-unless_failed.ensures (subst (λ (e : Entry). WriterStands c.args.message_writer.now (told_after (values_of entries) (items_of e))) this stands) in
     begin_spelled c.begin_connection.new.self entries one this (c.begin_connection.ensures (values_of entries) held)
 
 pub returns-in-Call : goal.returns-in-Call

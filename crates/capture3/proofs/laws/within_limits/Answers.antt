@@ -1,4 +1,4 @@
-use Rattle.capture3.proofs.Behind.{reached_within}
+use Rattle.capture3.proofs.ReachedMore.{reached_within}
 use Rattle.capture3.proofs.Limits.{typed_within}
 use Rattle.capture3.proofs.laws.within_limits.Goals as goal
 

@@ -12,10 +12,10 @@ front_of a n xs ys rest within few =
 pub loop-filled-preserved : goal.loop-filled-preserved
 loop-filled-preserved g c =
     let inv = c.loop-filled.invariant in
-    let got = Consumes-trans (g.R.Source.left c.args.source.now) (g.R.Source.left c.loop-filled.source) (g.R.Source.left c.read_some.new.self) (take c.loop-filled.filled c.loop-filled.block) (take c.in-Ok.count c.read_some.new.buf) inv.bytes c.in-Ok.ensures.bytes.0 in
+    let got = Consumes-trans (g.R.Source.left c.args.source.now) (g.R.Source.left c.loop-filled.source) (g.R.Source.left c.read_some.new.self) (take c.loop-filled.filled c.loop-filled.block) (take c.in_ok-count.count c.read_some.new.buf) inv.bytes c.in_ok-count.ensures.bytes.0 in
     record {
       within = search rules;
       size = search rules;
-      bytes = rw (front_of c.loop-filled.filled c.in-Ok.count c.loop-filled.block c.read_some.new.buf _ inv.within c.in-Ok.ensures.within) got;
-      count = c.in-Ok.ensures.count ∙ inv.count;
+      bytes = rw (front_of c.loop-filled.filled c.in_ok-count.count c.loop-filled.block c.read_some.new.buf _ inv.within c.in_ok-count.ensures.within) got;
+      count = c.in_ok-count.ensures.count ∙ inv.count;
     }

@@ -3,12 +3,12 @@ use Rattle.std.proofs.lemmas.Result.{err_from_is_err_and}
 use Rattle.capture3.specs.Entry.{items_of}
 use Rattle.canon3.specs.machinery.MessageWriter.{WriterStands, values_of}
 use Rattle.canon3.proofs.CanonicalFormLemmas.{cut_in_magic, written_or_cut}
-use Rattle.canon3.proofs.Visiting.{behind-append}
+use Rattle.canon3.proofs.Visiting.{told_after-append}
 use Rattle.canon3.proofs.canonical_form.MessageWriterEntryWriter.write.Goals as goal
 
 pub returns-clause-writes : goal.returns-clause-writes
 returns-clause-writes g c old entries one of first few came told written =
-    let stands = subst (WriterStands c.args.self.now) (sym (behind-append (values_of entries) [] (items_of one))) told in
+    let stands = subst (WriterStands c.args.self.now) (sym (told_after-append (values_of entries) [] (items_of one))) told in
     written_or_cut c.follow.new.message_writer old (g.W.Sink.written c.args.sink.now) (g.W.Sink.written c.open.new.sink) (g.W.Sink.written c.follow.new.sink) entries one c.args.passed.now.progress.connections first came.progress.connections_are written
     c.follow.result c.in_ok-open.ensures.ok (c.follow.ensures.follows entries one of first few stands)
 

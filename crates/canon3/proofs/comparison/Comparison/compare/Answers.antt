@@ -4,7 +4,7 @@ use Rattle.canon3.specs.machinery.Spelling.{spelling_of}
 use Rattle.canon3.specs.Progress.{HasPassed}
 use Rattle.canon3.specs.machinery.Progress.{place_from}
 use Rattle.canon3.proofs.ComparisonLemmas.{agree_on, parts_here}
-use Rattle.canon3.proofs.ProgressLemmas.{behind_more, side_same}
+use Rattle.canon3.proofs.ProgressLemmas.{after_more, side_same}
 use Rattle.canon3.proofs.comparison.Comparison.compare.Goals as goal
 
 pub returns-then-are_alike-clause-compares : goal.returns-then-are_alike-clause-compares
@@ -16,7 +16,7 @@ returns-then-are_alike-clause-compares g c a b e f of other_of first second few 
           (ap (spelling_of c.in-Ok.form) (sym c.bytes-message.ensures) ∙ (c.if-are_alike.ensures ∙ ap (spelling_of c.in-Ok-spelling_of_entry.form) c.bytes.ensures));
       first = c.begin_message.ensures.stands (values_of (a ++ e ∷ [])) s.holds;
       second = c.begin_message-then-are_alike.ensures.stands (values_of (b ++ f ∷ [])) t.holds;
-      progress = subst (λ p. HasPassed p (a ++ e ∷ [])) (sym c.pass.ensures.after) (behind_more c.args.self.now.progress a told.progress c.args.kind e of);
+      progress = subst (λ p. HasPassed p (a ++ e ∷ [])) (sym c.pass.ensures.after) (after_more c.args.self.now.progress a told.progress c.args.kind e of);
     }
 
 pub returns-clause-compares : goal.returns-clause-compares

@@ -1,6 +1,6 @@
 use Rattle.std.proofs.Common.{[], ◌∷◌, ◌++◌, ap, subst, sym, ◌∙◌, arith}
 use Rattle.canon3.specs.Progress.{HasPassed, steps_of}
-use Rattle.canon3.proofs.ProgressLemmas.{behind_more}
+use Rattle.canon3.proofs.ProgressLemmas.{after_more}
 use Rattle.canon3.proofs.SummaryLemmas.{counts_once, passed_more}
 use Rattle.canon3.proofs.passed.Passed.add.Goals as goal
 
@@ -10,5 +10,5 @@ returns-clause-few c = omega (arith, ap steps_of c.count.ensures.progress, c.pas
 pub returns-clause-passed : goal.returns-clause-passed
 returns-clause-passed c entries one of are =
     passed_more c.args.self.now c.count.new.self c.args.kind one entries of
-    (subst (λ p. HasPassed p (entries ++ one ∷ [])) (sym (c.count.ensures.progress ∙ c.pass.ensures.after)) (behind_more c.args.self.now.progress entries are.progress c.args.kind one of))
+    (subst (λ p. HasPassed p (entries ++ one ∷ [])) (sym (c.count.ensures.progress ∙ c.pass.ensures.after)) (after_more c.args.self.now.progress entries are.progress c.args.kind one of))
     c.count.ensures.calls c.count.ensures.replies are

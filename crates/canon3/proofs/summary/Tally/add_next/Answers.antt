@@ -7,7 +7,7 @@ use Rattle.capture3.specs.Entries.{source_of}
 use Rattle.canon3.specs.HandleTable.{Gathers}
 use Rattle.canon3.specs.machinery.Summary.{all_items}
 use Rattle.capture3.specs.Handing.{HandsOut}
-use Rattle.canon3.proofs.SummaryLemmas.{items_behind}
+use Rattle.canon3.proofs.SummaryLemmas.{items_with_last}
 use Rattle.canon3.proofs.summary.Tally.add_next.Goals as goal
 
 pub returns-in-Some-clause-goes_on : goal.returns-in-Some-clause-goes_on
@@ -22,7 +22,7 @@ returns-in-Some-clause-goes_on g c first u =
       stands = stands;
       tallied = record {
         passed = c.add.ensures.passed u.handed one is u.tallied.passed;
-        handles = subst (λ (l : List Item). Gathers c.next.new.visitor.numbers l) (sym (items_behind u.handed one)) (adds (all_items u.handed) u.tallied.handles);
+        handles = subst (λ (l : List Item). Gathers c.next.new.visitor.numbers l) (sym (items_with_last u.handed one)) (adds (all_items u.handed) u.tallied.handles);
       };
     }
 

@@ -1,6 +1,6 @@
 use Rattle.std.proofs.Common.{[], refl}
-use Rattle.listing3.proofs.LineLemmas.{stands_behind}
+use Rattle.listing3.proofs.LineLemmas.{stands_after}
 use Rattle.listing3.proofs.line_writer.LineWriter.new.Goals as goal
 
 pub returns : goal.returns
-returns g c = stands_behind _ [] [] (record { gathered = c.new.ensures; text = (refl, c.new-2.ensures) })
+returns g c = stands_after _ [] [] (record { gathered = c.new.ensures; text = (refl, c.new-2.ensures) })

@@ -4,10 +4,10 @@ use Rattle.canon3.specs.HandleTable.{Gathers}
 use Rattle.canon3.specs.Rank.{distinct, number_limit}
 use Rattle.canon3.specs.machinery.Summary.{all_items}
 use Rattle.canon3.proofs.HandleTableLemmas.{handles_of_all}
-use Rattle.listing3.proofs.LineLemmas.{is_behind}
+use Rattle.listing3.proofs.LineLemmas.{is_after}
 use Rattle.listing3.proofs.line_writer.LineWriterEntryWriter.handles.Goals as goal
 
 pub returns : goal.returns
 returns g c entries goes stands =
-    let gathered = subst (Gathers c.args.self.now.handles.numbers) (append-nil (all_items entries)) (is_behind c.args.self.now (all_items entries) [] stands).gathered in
+    let gathered = subst (Gathers c.args.self.now.handles.numbers) (append-nil (all_items entries)) (is_after c.args.self.now (all_items entries) [] stands).gathered in
     c.len.ensures (all_items entries) gathered ∙ ap (λ (l : List (List ℕ)). min (length (distinct bytes_eq l)) number_limit) (handles_of_all entries)

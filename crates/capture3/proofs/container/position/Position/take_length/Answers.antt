@@ -15,11 +15,11 @@ returns-in-Whole-eq0-clause-machine c joining body streams stored =
     lands_moves (unpacking_at c.args.self streams joining) c.args.rest.now streams joining c.taken-count.result.0
     (Ends (stream_ended c.args.self.at c.args.self.total c.args.self.connections c.args.self.records c.args.side joining)) _ c.taken-count.ensures.within
     (length_whole c.args.self streams joining c.args.side c.args.part c.args.rest.now _ 0 c.requires.here (rw zero_is at (rw c.in-Whole-eq0.is at c.taken-count.ensures.word)))
-    c.behind_stream.ensures.count (c.behind_stream.ensures.machine streams joining body)
+    c.after_stream.ensures.count (c.after_stream.ensures.machine streams joining body)
 
 pub returns-in-Whole-clause-machine : goal.returns-in-Whole-clause-machine
 returns-in-Whole-clause-machine c joining body streams stored =
     lands_moves (unpacking_at c.args.self streams joining) c.args.rest.now streams joining c.taken-count.result.0
     (chunk_counted c.args.self.at c.args.self.total c.args.self.connections c.args.self.records c.args.side joining c.in-Whole.len) _ c.taken-count.ensures.within
     (length_whole c.args.self streams joining c.args.side c.args.part c.args.rest.now _ c.in-Whole.len c.requires.here (rw c.in-Whole.is at c.taken-count.ensures.word))
-    c.behind_length.ensures.count (c.behind_length.ensures.machine streams joining)
+    c.after_length.ensures.count (c.after_length.ensures.machine streams joining)

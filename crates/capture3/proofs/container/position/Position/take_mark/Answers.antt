@@ -12,4 +12,4 @@ returns-in-Whole-clause-machine c joining streams stored =
     lands_moves (unpacking_at c.args.self streams joining) c.args.rest.now streams joining c.taken-count.result.0
     (connection_marked (version_of c.args.version) c.args.self.at c.args.self.total c.args.self.connections c.args.self.records joining c.in-Whole.n) _ c.taken-count.ensures.within
     (mark_whole c.args.self streams joining c.args.version c.args.part c.args.rest.now _ c.in-Whole.n c.requires.here (rw c.in-Whole.is at c.taken-count.ensures.word))
-    c.behind_mark.ensures.count (c.behind_mark.ensures.machine streams joining stored)
+    c.after_mark.ensures.count (c.after_mark.ensures.machine streams joining stored)

@@ -12,4 +12,4 @@ returns-in-Whole-clause-machine c joining streams stored =
     lands_moves (unpacking_at c.args.self streams joining) c.args.rest.now streams joining c.taken-count.result.0
     (sides_counted c.args.self.at c.args.self.total c.args.self.connections c.args.self.records streams c.args.side joining c.in-Whole.len) _ c.taken-count.ensures.within
     (side_length_whole c.args.self streams joining c.args.side c.args.part c.args.rest.now _ c.in-Whole.len c.requires.here (rw c.in-Whole.is at c.taken-count.ensures.word))
-    c.behind_side_length.ensures.count (c.behind_side_length.ensures.machine streams joining)
+    c.after_side_length.ensures.count (c.after_side_length.ensures.machine streams joining)

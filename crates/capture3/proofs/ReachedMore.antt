@@ -6,7 +6,7 @@ use Rattle.capture3.specs.Capture.{Two, total_size}
 use Rattle.capture3.specs.Chunks.{max_bytes}
 use Rattle.capture3.specs.Connections.{Context, ShownFault, refusal, StreamsShow, InClientStream, InServerStream}
 use Rattle.capture3.specs.Entry.{Entry, Begin}
-use Rattle.capture3.specs.FirstFault.{Rule, Shows, BehindConnections, MagicDiffers, MarkIsBad, ConnectionIsTooMany, WithinConnection, ByteBehindEnd}
+use Rattle.capture3.specs.FirstFault.{Rule, Shows, AfterConnections, MagicDiffers, MarkIsBad, ConnectionIsTooMany, WithinConnection, ByteAfterEnd}
 use Rattle.capture3.specs.Laws.{AreWithinLimits}
 use Rattle.capture3.specs.Mixing.{Mixing, MixedCloses, mixed_next, mixing_from}
 use Rattle.capture3.specs.Opening.{InMixed, conversing, opening_next, opened}
@@ -17,7 +17,7 @@ use Rattle.capture3.specs.Sides.{file_fault}
 use Rattle.xdr3.specs.declared.reason.Reason.TheVariants.{TooManyConnections}
 use Rattle.capture3.proofs.FileRules.{AnyRefusal, RefusedClosing, Marked, at_mark, inside_at, begins_or, begun_or, closed_ends, conversing_ends}
 use Rattle.capture3.proofs.Files.{InConnection, Stands, file_runs}
-use Rattle.capture3.proofs.Limits.{IsBehind, behind_within, refused_more, streams_behind, typed_within, whole_within}
+use Rattle.capture3.proofs.Limits.{IsAfter, after_within, refused_more, streams_after, typed_within, whole_within}
 use Rattle.capture3.proofs.MixedRules.{RefusedMixed, closes_over}
 use Rattle.capture3.proofs.Mixes.{HasMixed, EndsMixed, mixed_leads, nothing_gathered}
 use Rattle.capture3.proofs.Overs.{Gone, Past, Over, gone_more, nested_past}
@@ -55,7 +55,7 @@ landed_past run (Ends x) e past = let f = past.2 in cc
 
 -- A prefix that the machine runs through, and a byte after it with which the streams of a connection are whole.
 module _ (front : List ℕ) (byte : ℕ) (state : Parsing) (whole : List Entry) (runs : parsed front ≡ Runs state) (stands : Stands front state) (emits : emitted state ≡ whole)
-    (b : BehindConnections (front ++ byte ∷ [])) (two : b.version ≡ Two) (one : b.mark ≡ 1) (shown : ShownFault) (shows : StreamsShow (suc (length b.connections)) b.rest shown) where
+    (b : AfterConnections (front ++ byte ∷ [])) (two : b.version ≡ Two) (one : b.mark ≡ 1) (shown : ShownFault) (shows : StreamsShow (suc (length b.connections)) b.rest shown) where
   at : ℕ
   at = length b.front
 
@@ -158,31 +158,31 @@ module _ (front : List ℕ) (byte : ℕ) (state : Parsing) (whole : List Entry) 
           (nested_past (opening_next (suc number)) file_next (inside_at Two (at + 4) total (suc number) inside.0) (closed Two (suc number) inside.0) RefusedClosing AnyRefusal (λ s byte. refl) (closed_ends Two (suc number) inside.0) b.rest (opened Two (at + 4) total)
           (nested_past mixed_next (opening_next (suc number)) InMixed (conversing (suc number)) RefusedMixed RefusedClosing (λ s byte. refl) (conversing_ends (suc number)) b.rest (mixing_from (at + 4) total) past))))
 
-  pub is_behind : IsBehind (whole ++ shown.more)
-  is_behind =
+  pub is_after : IsAfter (whole ++ shown.more)
+  is_after =
       let here : whole ≡ inside.0 ++ Begin ∷ [] = sym emits ∙ ap emitted state_is in
-      subst (λ (l : List Entry). IsBehind (l ++ shown.more)) (sym here) (streams_behind (suc (length b.connections)) stood.connections inside.0 b.rest shown stood.opens.messages stood.few fits shows)
+      subst (λ (l : List Entry). IsAfter (l ++ shown.more)) (sym here) (streams_after (suc (length b.connections)) stood.connections inside.0 b.rest shown stood.opens.messages stood.few fits shows)
 
 -- what is reached after the longest clean prefix
-pub reached_more : (bytes front : List ℕ) (whole more : List Entry) → IsLongestClean bytes front more → AreWhole front whole → (more ≡ []) ⊎ IsBehind (whole ++ more)
+pub reached_more : (bytes front : List ℕ) (whole more : List Entry) → IsLongestClean bytes front more → AreWhole front whole → (more ≡ []) ⊎ IsAfter (whole ++ more)
 reached_more bytes front whole more h is_whole = by_end h.longest
   where
     state : StandsAt front whole
     state = whole_stands front whole is_whole
 
-    by_rule : (byte : ℕ) (shown : ShownFault) → more ≡ shown.more → Rule (front ++ byte ∷ []) shown → (more ≡ []) ⊎ IsBehind (whole ++ more)
+    by_rule : (byte : ℕ) (shown : ShownFault) → more ≡ shown.more → Rule (front ++ byte ∷ []) shown → (more ≡ []) ⊎ IsAfter (whole ++ more)
     by_rule byte shown is (MagicDiffers d same) = inl (is ∙ ap (λ (r : ShownFault). r.more) same)
     by_rule byte shown is (MarkIsBad b none bad same) = inl (is ∙ ap (λ (r : ShownFault). r.more) same)
     by_rule byte shown is (ConnectionIsTooMany b none one full same) = inl (is ∙ ap (λ (r : ShownFault). r.more) same)
-    by_rule byte shown is (ByteBehindEnd b none one same) = inl (is ∙ ap (λ (r : ShownFault). r.more) same)
+    by_rule byte shown is (ByteAfterEnd b none one same) = inl (is ∙ ap (λ (r : ShownFault). r.more) same)
     by_rule byte shown is (WithinConnection b one shows) =
         elim (refused_more b.version (record { number = suc (length b.connections); start = length b.front + 4; before = total_size b.connections }) b.rest shown shows) [
           | inl none ↦ inl (is ∙ none)
-          | inr two ↦ inr (subst (λ (l : List Entry). IsBehind (whole ++ l)) (sym is)
-              (is_behind front byte state.state whole (file_runs front state.state state.stands) state.stands state.emits b two.0 one shown two.1))
+          | inr two ↦ inr (subst (λ (l : List Entry). IsAfter (whole ++ l)) (sym is)
+              (is_after front byte state.state whole (file_runs front state.state state.stands) state.stands state.emits b two.0 one shown two.1))
         ]
 
-    by_end : ((h.rest ≡ []) × (more ≡ [])) ⊎ ((byte : ℕ) × (back : List ℕ) × (shown : ShownFault) × (h.rest ≡ byte ∷ back) × Shows (front ++ byte ∷ []) shown × (more ≡ shown.more)) → (more ≡ []) ⊎ IsBehind (whole ++ more)
+    by_end : ((h.rest ≡ []) × (more ≡ [])) ⊎ ((byte : ℕ) × (back : List ℕ) × (shown : ShownFault) × (h.rest ≡ byte ∷ back) × Shows (front ++ byte ∷ []) shown × (more ≡ shown.more)) → (more ≡ []) ⊎ IsAfter (whole ++ more)
     by_end (inl l) = inl l.1
     by_end (inr r) = by_rule r.0 r.2 r.5 r.4.rule
 
@@ -192,5 +192,5 @@ reached_within bytes entries (inr h) =
     let (bad, front, whole, more, longest, is_whole, is) = h in
     elim (reached_more bytes front whole more longest is_whole) [
       | inl none ↦ subst AreWithinLimits (sym (is ∙ ap (λ (l : List Entry). whole ++ l) none ∙ append-nil whole)) (whole_within front whole is_whole)
-      | inr behind ↦ subst AreWithinLimits (sym is) (behind_within (whole ++ more) behind)
+      | inr later ↦ subst AreWithinLimits (sym is) (after_within (whole ++ more) later)
     ]
