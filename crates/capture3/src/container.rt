@@ -108,6 +108,7 @@ impl Container {
         ensures room { IfOk result
             (λ r. room_in self.new + cost_of r.1 self.new.streams ≤ room_in self.old) }
     {
+        // Written out, since `?` takes more instructions for each message.
         match self.cursor {
             Some(cursor) => match self.recall(cursor) {
                 Ok(event) => Ok((0, Some(event))),
@@ -169,15 +170,11 @@ impl Container {
     {
         let mut taken = 0;
         while taken < piece.len() {
-            match self.step(&piece[taken..]) {
-                Ok(step) => {
-                    taken += step.count;
-                    self.position = step.position;
-                    if step.event.is_some() {
-                        return Ok((taken, step.event));
-                    }
-                }
-                Err(error) => return Err(error),
+            let step = self.step(&piece[taken..])?;
+            taken += step.count;
+            self.position = step.position;
+            if step.event.is_some() {
+                return Ok((taken, step.event));
             }
         }
         Ok((taken, None))

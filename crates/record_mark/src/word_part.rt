@@ -7,7 +7,7 @@ use byteorder::{BigEndian, ByteOrder};
 /// The bytes of a word so far, fewer than four. A word is four bytes, big-endian (RFC 4506, section 4.2).
 #[derive(Clone, Copy)]
 pub struct WordPart {
-    // They are its first bytes. As a number they are copied at once, also within an enum.
+    // Its first bytes, as the highest of a number: a number is copied at once, in an enum too.
     word: u32,
     count: u8,
     ghost short: { count < 4 },
@@ -47,7 +47,7 @@ impl WordPart {
         self.continued(rest)
     }
 
-    /// The same of any word, byte by byte.
+    /// The same, for a word that may be cut.
     fn continued(self, rest: &[u8]) -> (usize, Word)
         requires { 0 < length rest.now }
         ensures some { 0 < result.0 }

@@ -181,6 +181,7 @@ impl<'r, R: Source, S: BuildHasher + Drop> Entries<'r, R, S> {
         ensures same_reference { loan_of self.new ≡ loan_of self.old }
     {
         while self.judged <= MOST_JUDGED {
+            // Written out, since `?` takes more instructions for each message.
             match self.turn(visitor) {
                 Ok(None) => {}
                 Ok(Some(kind)) => return Ok(Some(kind)),
@@ -217,6 +218,7 @@ impl<'r, R: Source, S: BuildHasher + Drop> Entries<'r, R, S> {
         ensures same_block { block_size self.new ≡ block_size self.old }
         ensures same_reference { loan_of self.new ≡ loan_of self.old }
     {
+        // Written out, since `?` takes more instructions for each message.
         if self.is_used_up() {
             match self.refill() {
                 Ok(true) => {}

@@ -81,6 +81,7 @@ impl<C: CallTable + Drop> Capture<C> {
         ensures device { IfErr result IsOfBytes }
     {
         self.container.release();
+        // Written out, since `?` takes more instructions for each message.
         match self.container.next(piece) {
             Ok((count, Some(event))) => match self.entry(event, visitor) {
                 Ok(kind) => Ok((count, Some(kind))),
@@ -179,6 +180,7 @@ impl<C: CallTable + Drop> Capture<C> {
             → IfErr result (FailsAt bytes entries) }
         ensures device { IfErr result IsOfBytes }
     {
+        // Written out, since `?` takes more instructions for each message.
         match side {
             Side::Client => match self.call(visitor) {
                 Ok(id) => Ok(Kind::Call(id)),
