@@ -108,9 +108,17 @@ impl Model for MemSink {
 
     ghost Value = { MemoryWritten };
 
-    ghost view = { λ s. record { bytes = s.bytes.items; flushed = take s.flushed s.bytes.items; room = s.room; block = s.block; fails_in = s.plan.fails_in; failures = s.plan.failures } };
+    ghost view = { λ s. record {
+      bytes = s.bytes.items;
+      flushed = take s.flushed s.bytes.items;
+      room = s.room;
+      block = s.block;
+      fails_in = s.plan.fails_in;
+      failures = s.plan.failures;
+    } };
 
-    ghost invariant = { λ s. (0 < s.block) × (s.flushed ≤ vec_len s.bytes) × (vec_len s.bytes + s.room ≤ vec_capacity s.bytes) };
+    ghost invariant = { λ s. (0 < s.block) × (s.flushed ≤ vec_len s.bytes)
+        × (vec_len s.bytes + s.room ≤ vec_capacity s.bytes) };
 }
 
 impl MemSink {

@@ -15,7 +15,7 @@ use Rattle.capture3.specs.Chunks.{IsStream}
 use Rattle.capture3.specs.Connections.{Context, ShownFault, refusal, client_refusal, server_refusal, client_position, server_position, calls_in_turn, replies_to, ServerShows, StreamsShow, InClientStream, InServerStream, ConnectionShows}
 use Rattle.capture3.specs.Entry.{Entry}
 use Rattle.capture3.specs.FirstFault.{AfterConnections, Rule, MagicDiffers, MarkIsBad, ConnectionIsTooMany, WithinConnection, ByteAfterEnd}
-use Rattle.capture3.specs.Judging.{judge_call}
+use Rattle.capture3.specs.BodyProgram.{judge_call}
 use Rattle.capture3.specs.Mixing.{MixedEnd, MixedCloses, MixedRefuses, mixed_next, mixing_from}
 use Rattle.capture3.specs.Opening.{judge_replies, Opening, InClient, InServer, InMixed, Closing, Closes, Refuses, turning, ending, server_said, client_said, conversing, opening_next, opened}
 use Rattle.capture3.specs.Parsing.{Mark, Inside, Parsing, marked, closed, file_next, file_start, parsed}

@@ -12,7 +12,7 @@ use Rattle.capture3.specs.Bodies.{ReplyItems}
 use Rattle.capture3.specs.Connections.{ShownFault}
 use Rattle.capture3.specs.Entry.{Entry}
 use Rattle.capture3.specs.Entry as entries
-use Rattle.capture3.specs.Judging.{judge_call, judge_reply}
+use Rattle.capture3.specs.BodyProgram.{judge_call, judge_reply}
 use Rattle.capture3.specs.Capture.{Two}
 use Rattle.capture3.specs.Opening.{judge_replies, server_said, client_said}
 use Rattle.capture3.specs.Parsing as parsing

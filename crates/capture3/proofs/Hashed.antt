@@ -8,7 +8,7 @@ use Rattle.indexmap.proofs.CallerLemmas.{insert_entry-new}
 use Rattle.rpc_head.specs.declared.call.ProcId.{ProcId}
 use Rattle.capture3.specs.declared.message.calls.NumberedCall.{NumberedCall}
 use Rattle.capture3.specs.machinery.Calls.{found, numbered_calls, with_numbered_call}
-use Rattle.capture3.specs.Judging.{agrees}
+use Rattle.capture3.specs.BodyProgram.{agrees}
 use Rattle.capture3.proofs.Bodies.{same_is}
 
 same_either_way : (a b : ℕ) → nat_eq a b ≡ nat_eq b a

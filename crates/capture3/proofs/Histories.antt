@@ -20,7 +20,7 @@ use Rattle.capture3.specs.declared.reader.entry.Kind.{Kind}
 use Rattle.capture3.specs.declared.reader.entry.Kind.TheVariants as kinds
 use Rattle.capture3.specs.declared.fault.Error.{Error}
 use Rattle.capture3.specs.declared.fault.Error.TheVariants as errors
-use Rattle.capture3.specs.declared.reader.judging.Capture.{Capture}
+use Rattle.capture3.specs.declared.reader.entry_parser.EntryParser.{EntryParser}
 use Rattle.capture3.specs.declared.container.position.Position.{Position}
 use Rattle.capture3.specs.declared.container.position.Spot.{Spot}
 use Rattle.capture3.specs.declared.container.position.Spot.TheVariants as spots
@@ -34,7 +34,7 @@ use Rattle.capture3.specs.machinery.Entries.{entries_left_in, entries_left, unju
 use Rattle.capture3.specs.Handing.{HandsOut, HandsOutGiven}
 use Rattle.capture3.specs.Entry.{Entry, End}
 use Rattle.capture3.specs.FirstFault.{FirstFault, IsClean}
-use Rattle.capture3.specs.machinery.Judges.{StandsAt, StandsOrRecalls, HasCome, after_side_word, GoesTo, FailsAt, IsHeld, IsOfBytes, entry_cost}
+use Rattle.capture3.specs.machinery.EntryParser.{StandsAt, StandsOrRecalls, HasCome, after_side_word, GoesTo, FailsAt, IsHeld, IsOfBytes, entry_cost}
 use Rattle.capture3.specs.Kept.{IsOfKind}
 use Rattle.capture3.specs.Laws.{begins, most_bytes}
 use Rattle.capture3.specs.Parsing.{Parsing, parsed, emitted}
@@ -47,7 +47,7 @@ use Rattle.capture3.specs.Sides.{file_fault}
 use Rattle.capture3.specs.Typed.{IsWellFormed, Typed}
 use Rattle.capture3.proofs.ReachedMore.{reached_within}
 use Rattle.capture3.proofs.BytesOf.{AreBytes-append, split_bytes}
-use Rattle.capture3.proofs.Captures.{untold}
+use Rattle.capture3.proofs.EntryParserLemmas.{untold}
 use Rattle.capture3.proofs.Limits.{begins-append, typed_within}
 use Rattle.capture3.proofs.Growing.{emitted_is}
 use Rattle.capture3.proofs.Parsed.{cut_at, typed_at}
@@ -278,7 +278,7 @@ module _ {R S H : Type 0} {builds : BuildHasher.Ghosts S H} {hashes : Hasher.Gho
 
   same_last : (old new : Entries R S H builds hashes) (handed : List Entry) → new.last ≡ old.last → new.capture ≡ old.capture → HoldsLast old handed → HoldsLast new handed
   same_last old new handed last same h front entry ends kind is =
-      subst (λ (c : Capture (List NumberedCall)). IsHeld kind c.container.joiner entry) (sym same) (h front entry ends kind (sym last ∙ is))
+      subst (λ (c : EntryParser (List NumberedCall)). IsHeld kind c.container.joiner entry) (sym same) (h front entry ends kind (sym last ∙ is))
 
   now_last : (e : Entries R S H builds hashes) (handed : List Entry) (came : Kind) (entry : Entry) → e.last ≡ Some came → IsHeld came e.capture.container.joiner entry → HoldsLast e (handed ++ entry ∷ [])
   now_last e handed came entry last held front other ends kind is =
@@ -346,10 +346,10 @@ module _ {R S H : Type 0} {builds : BuildHasher.Ghosts S H} {hashes : Hasher.Gho
         more = more;
         consumed = consumed;
         stands = stands_reading new (given ++ more) handed goes (AreBytes-append given more s.bytes are)
-            (omega (arith, room_before old given handed is s, ap (λ (c : Capture (List NumberedCall)). room_in c.container) same))
+            (omega (arith, room_before old given handed is s, ap (λ (c : EntryParser (List NumberedCall)). room_in c.container) same))
             (omega (arith, length-append given more, bounded, within))
             (same_last old new handed last same s.holds)
-            (record { judged = r.judged; split = split; counted = count ∙ r.counted; machine = subst (λ (c : Capture (List NumberedCall)). HasCome c.container c.calls r.judged handed) (sym same) r.machine });
+            (record { judged = r.judged; split = split; counted = count ∙ r.counted; machine = subst (λ (c : EntryParser (List NumberedCall)). HasCome c.container c.calls r.judged handed) (sym same) r.machine });
       }
 
   pub has_failed : (old new : Entries R S H builds hashes) (given : List ℕ) (handed : List Entry) → old.stage ≡ Reading → new.stage ≡ Failed errors.Read → new.last ≡ None → vec_len new.block ≡ vec_len old.block → old.start ≡ old.end → old.capture.container.cursor ≡ None

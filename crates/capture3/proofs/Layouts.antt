@@ -12,7 +12,7 @@ use Rattle.xdr3.proofs.Bytes.{drop_front, front_ends, bind_ok, bind_err, accept_
 use Rattle.xdr3.proofs.Complete.{complete}
 use Rattle.xdr3.proofs.Layouts.{layout_decides, reads_whole}
 use Rattle.capture3.specs.Bodies.{LeavesMore}
-use Rattle.capture3.specs.Judging.{all_of_body, read_whole}
+use Rattle.capture3.specs.BodyProgram.{all_of_body, read_whole}
 
 -- ---- what is so is read
 

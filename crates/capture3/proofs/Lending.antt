@@ -8,7 +8,7 @@ use Rattle.record_mark.specs.Joining.{Whole, TooLong}
 use Rattle.record_mark.specs.Taking.{Taking, Led, OutOfMemory, IsWhole, body_of}
 use Rattle.capture3.specs.declared.reader.entry.Kind.{Kind}
 use Rattle.capture3.specs.declared.reader.entry.Kind.TheVariants as kinds
-use Rattle.capture3.specs.machinery.Judges.{SpellsKind}
+use Rattle.capture3.specs.machinery.EntryParser.{SpellsKind}
 use Rattle.capture3.specs.machinery.Spelled.{SpellsCall, SpellsReply}
 
 whole-prop : (t : Taking) → IsProp (IsWhole t)

@@ -3,9 +3,9 @@ mod PassedOn
 pub mod Unpackings
 pub mod Positions
 pub mod Containers
-pub mod Judgements
+pub mod BodySteps
 pub mod BytesOf
-pub mod Judged
+pub mod BodyProgramLemmas
 pub mod Strict
 pub mod Streams
 pub mod StreamEnds
@@ -32,7 +32,7 @@ pub mod Emissions
 pub mod Growing
 pub mod Recalls
 pub mod Refusals
-pub mod Captures
+pub mod EntryParserLemmas
 pub mod Hashed
 pub mod Overs
 pub mod SideRules

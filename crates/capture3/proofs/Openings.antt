@@ -10,7 +10,7 @@ use Rattle.capture3.specs.SidedChunks.{Streams, size}
 use Rattle.capture3.specs.Chunks.{max_bytes, IsStream}
 use Rattle.capture3.specs.Connections.{Context, client_position, server_position, calls_in_turn, replies_to}
 use Rattle.capture3.specs.Entry.{Entry}
-use Rattle.capture3.specs.Judging.{judge_call}
+use Rattle.capture3.specs.BodyProgram.{judge_call}
 use Rattle.capture3.specs.Mixing.{MixedEnd, MixedCloses, MixedRefuses, mixed_next, mixing_from}
 use Rattle.capture3.specs.Opening.{judge_replies, Opening, InClient, InServer, InMixed, Closing, Closes, Refuses, turning, ending, server_said, client_said, conversing, opening_next, opened}
 use Rattle.capture3.specs.Reading.{StreamEnd, Held, Faulty, stream_end}

@@ -21,7 +21,7 @@ use Rattle.capture3.specs.Capture.{Version}
 use Rattle.capture3.specs.machinery.Container.{unpacking_of}
 use Rattle.capture3.specs.Entry.{Entry, End}
 use Rattle.capture3.specs.FirstFault.{FirstFault}
-use Rattle.capture3.specs.machinery.Judges.{StandsAt, StandsOrRecalls, HasCome, GoesTo, FailsAt, IsHeld}
+use Rattle.capture3.specs.machinery.EntryParser.{StandsAt, StandsOrRecalls, HasCome, GoesTo, FailsAt, IsHeld}
 use Rattle.capture3.specs.Kept.{IsKept, AreKept, begun}
 use Rattle.capture3.specs.Laws.{begins}
 use Rattle.capture3.specs.Parsing.{concluded, verdict_of}

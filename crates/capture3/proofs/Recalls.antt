@@ -16,7 +16,7 @@ use Rattle.capture3.specs.Connections.{ShownFault, client_refusal, server_refusa
 use Rattle.capture3.specs.Entry.{Entry}
 use Rattle.capture3.specs.Entry as entries
 use Rattle.capture3.specs.FirstFault.{Shows, FirstFault}
-use Rattle.capture3.specs.Judging.{judge_call, judge_reply}
+use Rattle.capture3.specs.BodyProgram.{judge_call, judge_reply}
 use Rattle.capture3.specs.machinery.Messages.{IsTableOf}
 use Rattle.capture3.specs.Opening.{Opening, Closing, judge_replies, server_said, client_said}
 use Rattle.capture3.specs.Parsing as parsing

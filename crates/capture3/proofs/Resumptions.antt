@@ -12,7 +12,7 @@ use Rattle.capture3.specs.declared.fault.Side.TheVariants.{Client, Server}
 use Rattle.capture3.specs.declared.container.position.Event.TheVariants.{Begin}
 use Rattle.capture3.specs.Bodies.{ReplyItems}
 use Rattle.capture3.specs.Connections.{ShownFault, refusal}
-use Rattle.capture3.specs.Judging.{judge_call, judge_reply}
+use Rattle.capture3.specs.BodyProgram.{judge_call, judge_reply}
 use Rattle.capture3.specs.Capture.{Version, One, Two}
 use Rattle.capture3.specs.Mixing.{Mixing, MixedEnd, MixedCloses, MixedRefuses, mixed_step}
 use Rattle.capture3.specs.Opening.{InClient, InServer, InMixed, conversing, ending, judge_replies, opened, turning}

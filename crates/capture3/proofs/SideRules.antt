@@ -16,7 +16,7 @@ use Rattle.capture3.specs.Records.{RecordFault, fault_at, StreamShows, IsCut}
 use Rattle.capture3.specs.Sides.{Position, file_fault, place_in, PassesBytes, CutsRecord, ShowsRecord, SideShows}
 use Rattle.capture3.specs.Siding.{Length, Chunk, Siding, SideEnd, SideCloses, SideRefuses, awaiting, closing, counted, side_next}
 use Rattle.capture3.specs.machinery.Siding.{side_start}
-use Rattle.capture3.proofs.Judged.{Judged}
+use Rattle.capture3.proofs.BodyProgramLemmas.{Judged}
 use Rattle.capture3.proofs.Overs.{Gone, Past, Over, gone_past, gone_more, stopped_at}
 use Rattle.capture3.proofs.Sides.{length_runs, chunk_runs, chunk_stops}
 use Rattle.capture3.proofs.Streams.{record_closes, stream_stops}

@@ -18,7 +18,7 @@ use Rattle.capture3.specs.Siding.{Point, Length, Chunk, Siding, SideEnd, SideClo
 use Rattle.capture3.specs.machinery.Siding.{side_start}
 use Rattle.capture3.proofs.Strict.{StreamShows, PassesBytes, CutsRecord, ShowsRecord, SideShows}
 use Rattle.capture3.proofs.BytesOf.{split_bytes, AreBytes-append, chunk_bytes}
-use Rattle.capture3.proofs.Judged.{Judged}
+use Rattle.capture3.proofs.BodyProgramLemmas.{Judged}
 use Rattle.capture3.proofs.Streams.{HasRead, stream_leads, nothing_read, stream_runs, stream_stops, has_read, holds_so_far}
 
 -- in a length word after whole chunks

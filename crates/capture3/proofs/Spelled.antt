@@ -13,7 +13,7 @@ use Rattle.rpc_head.specs.Starts.{start_items}
 use Rattle.procs3.specs.Table.{arguments_of, results_of}
 use Rattle.capture3.specs.declared.message.calls.NumberedCall.{NumberedCall}
 use Rattle.capture3.specs.Bodies.{IsCall, IsReply, Starts, xid_in, procedure_of}
-use Rattle.capture3.specs.Judging.{judge_call, judge_reply, read_whole}
+use Rattle.capture3.specs.BodyProgram.{judge_call, judge_reply, read_whole}
 use Rattle.capture3.specs.machinery.Spelled.{SpellsCall, SpellsReply}
 use Rattle.capture3.proofs.Bodies.{call_accepts, call_starts, reply_accepts, reply_starts, start_of, start_read}
 use Rattle.capture3.proofs.Layouts.{whole_read}

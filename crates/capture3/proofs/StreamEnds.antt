@@ -9,7 +9,7 @@ use Rattle.xdr3.specs.Item.{AreBytes}
 use Rattle.xdr3.specs.declared.reason.Reason.TheVariants.{RecordTooLong}
 use Rattle.capture3.specs.Reading.{Judge, Reading, judged, recorded, stream_next, unread, StreamEnd, Held, Faulty, left_in, end_of, rest_end, stream_end}
 use Rattle.capture3.specs.Records.{Judgement, Holds, RecordFault, fault_at, FirstRecordFault, RefusesNext, NextIsTooLong, NextIsCut}
-use Rattle.capture3.proofs.Judged.{Judged}
+use Rattle.capture3.proofs.BodyProgramLemmas.{Judged}
 use Rattle.capture3.proofs.Strict.{StreamShows}
 use Rattle.capture3.proofs.Streams.{HasRead, stream_leads, nothing_read, record_closes, stream_runs}
 use Rattle.capture3.proofs.Telling.{tells_bytes}

@@ -13,7 +13,7 @@ use Rattle.capture3.specs.Records.{Judgement, AreMessages, Holds, HoldsSoFar, Re
 use Rattle.capture3.specs.Reading.{Reading, judged, recorded, stream_next, unread}
 use Rattle.capture3.proofs.Strict.{StreamShows}
 use Rattle.capture3.proofs.BytesOf.{split_bytes, record_bytes}
-use Rattle.capture3.proofs.Judged.{Judged}
+use Rattle.capture3.proofs.BodyProgramLemmas.{Judged}
 
 -- the stream so far is whole records, and then what has come of the next
 pub record HasRead {M : Type 0} (judge : Judgement M) (stream : List ℕ) (s : Reading M) : Type 0 where

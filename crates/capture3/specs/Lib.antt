@@ -8,7 +8,7 @@ pub mod SidedChunks
 pub mod Mixing
 pub mod Connections
 pub mod FirstFault
-pub mod Judging
+pub mod BodyProgram
 pub mod Laws
 pub mod Opening
 pub mod Parsing

@@ -7,7 +7,7 @@ use Rattle.capture3.specs.Bodies.{ReplyItems}
 use Rattle.capture3.specs.Capture.{Version, One, Two}
 use Rattle.capture3.specs.Connections.{ShownFault, refusal, client_refusal, server_refusal}
 use Rattle.capture3.specs.Entry.{Entry, Begin, Call, Turn}
-use Rattle.capture3.specs.Judging.{judge_call, judge_reply}
+use Rattle.capture3.specs.BodyProgram.{judge_call, judge_reply}
 use Rattle.capture3.specs.Mixing.{Mixing, MixedEnd, MixedCloses, MixedRefuses, mixed_next, mixing_from}
 use Rattle.capture3.specs.Reading.{Judge, StreamEnd, Held, Faulty, stream_end}
 use Rattle.capture3.specs.Sides.{place_at}

@@ -2,7 +2,7 @@
 pub mod Calls
 pub mod Container
 pub mod Entries
-pub mod Judges
+pub mod EntryParser
 pub mod MessageScan
 pub mod Messages
 pub mod Position

@@ -27,6 +27,7 @@ fn value_in<'a, T: Xdr<'a>>(alloc: Global, body: &'a [u8]) -> Result<T, GetError
     ensures { IfOk result (λ value. AreWithinLimit (T.items value)) }
 {
     let mut input = Input::new(body);
+    // The prover takes from this that the place is within the body.
     input.at();
     let value = T::get(alloc, &mut input)?;
     Ok(value)

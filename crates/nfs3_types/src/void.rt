@@ -14,6 +14,7 @@ impl<'a> Xdr<'a> for Void {
 
     #[tactic(auto, unfolding(xdr3::specs::Reading::reading))]
     fn get(_alloc: Global, input: &mut Input<'a>) -> Result<Void, GetError> {
+        // The prover takes from this that the place is within the body.
         input.at();
         Ok(Void)
     }

@@ -227,6 +227,7 @@ fn push_escaped_byte(out: &mut Vec<u8>, byte: u8) -> Result<(), AllocError>
         let mut escape = [b'\\', b'x', 0, 0];
         match encode_to_slice(&[byte], &mut escape[2..]) {
             Ok(()) => out.extend_from_slice(&escape),
+            // There is room for the two digits.
             Err(_) => unreachable!(),
         }
     }

@@ -17,6 +17,7 @@ pub fn start(input: &mut Input) -> Result<Start, Stop>
     ensures is_start { IsStart input.old result input.new }
     ensures moves { MovesOn input.old input.new }
 {
+    // The prover takes from this that the place is within the body.
     input.at();
     let xid = input.word()?;
     let mtype = input.listed(&[0, 1])?;

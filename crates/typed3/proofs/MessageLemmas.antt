@@ -20,7 +20,7 @@ use Rattle.rpc_head.specs.Replies.{reply_head_items}
 use Rattle.rpc_head.specs.Shapes.{message_start}
 use Rattle.rpc_head.specs.Starts.{start_items}
 use Rattle.capture3.specs.Bodies.{IsCall, IsReply, procedure_of, xid_in}
-use Rattle.capture3.specs.Judging.{is_same, judge_call, judge_reply}
+use Rattle.capture3.specs.BodyProgram.{is_same, judge_call, judge_reply}
 use Rattle.capture3.specs.machinery.MessageScan.{StopsMessage}
 use Rattle.capture3.specs.machinery.Spelled.{SpellsCall}
 use Rattle.capture3.proofs.Bodies.{is_same_self, same_is}

@@ -95,6 +95,7 @@ impl<'a> Args<'a> {
         ensures limit { IfOk result (λ args. AreWithinLimit (args_items args)) }
         ensures moves { MovesOn input.old input.new }
     {
+        // The prover takes from this that the place is within the body.
         input.at();
         Args::of_procedure(alloc, id, input)
     }
@@ -106,6 +107,7 @@ impl<'a> Args<'a> {
         ensures variant { IfOk result (λ args. args_name args ≡ name_of_procedure id) }
         ensures moves { MovesOn input.old input.new }
     {
+        // The prover takes from this that the place is within the body.
         input.at();
         match (id.prog, id.vers) {
             (100_003, 3) => Args::get_nfs(alloc, id.proc_no, input),
@@ -122,6 +124,7 @@ impl<'a> Args<'a> {
         ensures variant { IfOk result (λ args. args_name args ≡ nfs_name proc_no) }
         ensures moves { MovesOn input.old input.new }
     {
+        // The prover takes from this that the place is within the body.
         input.at();
         match proc_no {
             0 => Ok(Args::Null),
@@ -149,6 +152,7 @@ impl<'a> Args<'a> {
         ensures variant { IfOk result (λ args. args_name args ≡ nfs_name proc_no) }
         ensures moves { MovesOn input.old input.new }
     {
+        // The prover takes from this that the place is within the body.
         input.at();
         match proc_no {
             8 => Ok(Args::Create(CreateArgs::get(alloc, input)?)),
@@ -175,6 +179,7 @@ impl<'a> Args<'a> {
         ensures variant { IfOk result (λ args. args_name args ≡ nfs_name proc_no) }
         ensures moves { MovesOn input.old input.new }
     {
+        // The prover takes from this that the place is within the body.
         input.at();
         match proc_no {
             15 => Ok(Args::Link(LinkArgs::get(alloc, input)?)),
@@ -196,6 +201,7 @@ impl<'a> Args<'a> {
         ensures variant { IfOk result (λ args. args_name args ≡ mount_name proc_no) }
         ensures moves { MovesOn input.old input.new }
     {
+        // The prover takes from this that the place is within the body.
         input.at();
         match proc_no {
             0 => Ok(Args::MountNull),

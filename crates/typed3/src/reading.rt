@@ -35,6 +35,7 @@ pub fn read_call<'a>(alloc: Global, call: CallRef<'a>) -> Result<CallMsg<'a>, Al
     match call_in(alloc, call.body) {
         Ok(message) => Ok(message),
         Err(GetError::Memory) => Err(AllocError),
+        // The body was read as a message before.
         Err(GetError::Stop(_)) => unreachable!(),
     }
 }
@@ -57,6 +58,7 @@ pub fn read_reply<'a>(alloc: Global, reply: ReplyRef<'a>) -> Result<ReplyMsg<'a>
     match reply_in(alloc, reply.id, reply.body) {
         Ok(message) => Ok(message),
         Err(GetError::Memory) => Err(AllocError),
+        // The body was read as a message before.
         Err(GetError::Stop(_)) => unreachable!(),
     }
 }
@@ -124,6 +126,7 @@ fn results_in<'a>(
         (λ results. IfSome results (λ results. results_name results ≡ name_of_procedure id)) }
     ensures moves { MovesOn input.old input.new }
 {
+    // The prover takes from this that the place is within the body.
     input.at();
     match head {
         ReplyHead::Accepted(_, Accept::Success) => {

@@ -97,6 +97,7 @@ impl<'a> Results<'a> {
         ensures limit { IfOk result (λ results. AreWithinLimit (results_items results)) }
         ensures moves { MovesOn input.old input.new }
     {
+        // The prover takes from this that the place is within the body.
         input.at();
         Results::of_procedure(alloc, id, input)
     }
@@ -112,6 +113,7 @@ impl<'a> Results<'a> {
         ensures variant { IfOk result (λ results. results_name results ≡ name_of_procedure id) }
         ensures moves { MovesOn input.old input.new }
     {
+        // The prover takes from this that the place is within the body.
         input.at();
         match (id.prog, id.vers) {
             (100_003, 3) => Results::get_nfs(alloc, id.proc_no, input),
@@ -128,6 +130,7 @@ impl<'a> Results<'a> {
         ensures variant { IfOk result (λ results. results_name results ≡ nfs_name proc_no) }
         ensures moves { MovesOn input.old input.new }
     {
+        // The prover takes from this that the place is within the body.
         input.at();
         match proc_no {
             0 => Ok(Results::Null),
@@ -155,6 +158,7 @@ impl<'a> Results<'a> {
         ensures variant { IfOk result (λ results. results_name results ≡ nfs_name proc_no) }
         ensures moves { MovesOn input.old input.new }
     {
+        // The prover takes from this that the place is within the body.
         input.at();
         match proc_no {
             8 => Ok(Results::Create(Res::get(alloc, input)?)),
@@ -181,6 +185,7 @@ impl<'a> Results<'a> {
         ensures variant { IfOk result (λ results. results_name results ≡ nfs_name proc_no) }
         ensures moves { MovesOn input.old input.new }
     {
+        // The prover takes from this that the place is within the body.
         input.at();
         match proc_no {
             15 => Ok(Results::Link(Res::get(alloc, input)?)),
@@ -206,6 +211,7 @@ impl<'a> Results<'a> {
         ensures variant { IfOk result (λ results. results_name results ≡ mount_name proc_no) }
         ensures moves { MovesOn input.old input.new }
     {
+        // The prover takes from this that the place is within the body.
         input.at();
         match proc_no {
             0 => Ok(Results::MountNull),

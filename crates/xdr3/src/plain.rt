@@ -72,5 +72,6 @@ fn first_short(fields: &[PlainField], input: &Input) -> Stop
         at += width;
         left -= width;
     }
+    // Some field is not whole.
     unreachable!()
 }

@@ -14,7 +14,7 @@ use Rattle.capture3.specs.declared.container.Container.{Container}
 use Rattle.capture3.specs.Capture.{Two, max_connections}
 use Rattle.capture3.specs.machinery.Container.{room_in}
 use Rattle.capture3.specs.Entry.{Entry, items_of}
-use Rattle.capture3.specs.machinery.Judges.{HasCome, IsHeld}
+use Rattle.capture3.specs.machinery.EntryParser.{HasCome, IsHeld}
 use Rattle.capture3.specs.Kept.{IsOfKind}
 use Rattle.capture3.specs.Laws.{begins, most_bytes}
 use Rattle.capture3.specs.Laws.{most_entries}

@@ -12,7 +12,7 @@ use Rattle.rpc_head.specs.Messages.{procedure_in}
 use Rattle.capture3.specs.declared.message.calls.NumberedCall.{NumberedCall}
 use Rattle.capture3.specs.Bodies.{IsCall, IsReply, procedure_of, xid_in}
 use Rattle.capture3.specs.machinery.Calls.{found}
-use Rattle.capture3.specs.Judging.{agrees, judge_call, judge_reply}
+use Rattle.capture3.specs.BodyProgram.{agrees, judge_call, judge_reply}
 use Rattle.capture3.specs.machinery.Messages.{IsTableOf}
 
 -- The body spells a call with this xid and this procedure, it is accepted after calls that agree with it, and a visitor was told

@@ -8,7 +8,7 @@ use Rattle.capture3.specs.declared.fault.Side.TheVariants.{Client, Server}
 use Rattle.capture3.specs.Connections.{ShownFault}
 use Rattle.capture3.specs.Entry.{Entry}
 use Rattle.capture3.specs.Entry as entries
-use Rattle.capture3.specs.Judging.{judge_call}
+use Rattle.capture3.specs.BodyProgram.{judge_call}
 use Rattle.capture3.specs.machinery.Messages.{IsTableOf}
 use Rattle.capture3.specs.Opening.{judge_replies}
 use Rattle.capture3.specs.Parsing.{Parsing, file_next, parsed, emitted}

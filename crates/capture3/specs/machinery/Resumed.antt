@@ -12,7 +12,7 @@ use Rattle.capture3.specs.Capture.{Version, One, Two}
 use Rattle.capture3.specs.Connections.{ShownFault, refusal}
 use Rattle.capture3.specs.Entry.{Entry}
 use Rattle.capture3.specs.Entry as entries
-use Rattle.capture3.specs.Judging.{judge_call, judge_reply}
+use Rattle.capture3.specs.BodyProgram.{judge_call, judge_reply}
 use Rattle.capture3.specs.Opening.{InClient, InServer, InMixed, client_said}
 use Rattle.capture3.specs.Parsing as parsing
 use Rattle.capture3.specs.Parsing.{Parsing, Spot}

@@ -73,7 +73,12 @@ impl<'a> Model for MemSource<'a> {
 
     ghost Value = { MemoryRead };
 
-    ghost view = { λ s. record { left = s.bytes.now; block = s.block; fails_in = s.plan.fails_in; failures = s.plan.failures } };
+    ghost view = { λ s. record {
+      left = s.bytes.now;
+      block = s.block;
+      fails_in = s.plan.fails_in;
+      failures = s.plan.failures;
+    } };
 
     ghost invariant = { λ s. 0 < s.block };
 }

@@ -2,7 +2,7 @@
 
 ghost use Rattle.std.specs.Prelude.{◌≡◌, [], IfOk, IfSome, IsTrue, Some};
 ghost use Rattle.capture3.specs.machinery.Calls.{found, numbered_calls, with_numbered_call};
-ghost use Rattle.capture3.specs.Judging.{agrees};
+ghost use Rattle.capture3.specs.BodyProgram.{agrees};
 
 use indexmap::IndexMap;
 use rpc_head::ProcId;

@@ -5,7 +5,7 @@ ghost use Rattle.rpc_head.specs.Starts.{start_items};
 ghost use Rattle.xdr3.specs.Item.{Item};
 ghost use Rattle.xdr3.specs.Scan.{ScansLayout, StopsLayout};
 ghost use Rattle.xdr3.specs.Visit.{Adds, body_limit};
-ghost use Rattle.capture3.specs.Judging as spec;
+ghost use Rattle.capture3.specs.BodyProgram as spec;
 ghost use Rattle.capture3.specs.machinery.MessageScan.{ScansCall, ScansReply, StopsMessage};
 ghost use Rattle.capture3.specs.machinery.Messages.{IsTableOf, results_after};
 
@@ -90,6 +90,7 @@ fn scan_results_after<V: Visit>(
         (results_after success id) input.old input.new visitor.old visitor.new) }
     ensures err { IfErr result (λ error. StopsLayout (results_after success id) input.old error) }
 {
+    // The prover takes from this that the place is within the body.
     input.at();
     if success {
         scan_results(id, input, visitor)?;

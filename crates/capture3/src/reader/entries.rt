@@ -11,7 +11,7 @@ ghost use Rattle.capture3.specs.Device.{Counts};
 ghost use Rattle.capture3.specs.Entry as spec;
 ghost use Rattle.capture3.specs.Capture.{Two};
 ghost use Rattle.capture3.specs.machinery.Container.{IsReady, IsStored};
-ghost use Rattle.capture3.specs.machinery.Judges.{SpellsLast};
+ghost use Rattle.capture3.specs.machinery.EntryParser.{SpellsLast};
 ghost use Rattle.capture3.specs.Laws.{most_bytes};
 ghost use Rattle.capture3.specs.machinery.Position.{IsSoundPosition};
 
@@ -21,7 +21,7 @@ use crate::device::source::Source;
 use crate::fault::Error;
 use crate::message::calls::HashedCalls;
 use crate::reader::entry::{EntryRef, Kind};
-use crate::reader::judging::Capture;
+use crate::reader::entry_parser::EntryParser;
 use std::alloc::{AllocError, Global};
 use std::hash::BuildHasher;
 use xdr3::{Reason, Visit};
@@ -57,7 +57,7 @@ pub struct Entries<'r, R, S: BuildHasher + Drop> {
     end: usize,
     // How many bytes were judged.
     judged: u64,
-    capture: Capture<HashedCalls<S>>,
+    capture: EntryParser<HashedCalls<S>>,
     // What the entry is that was handed out last, whose record stands.
     last: Option<Kind>,
     stage: Stage,
@@ -96,7 +96,7 @@ impl<'r, R: Source, S: BuildHasher + Drop> Entries<'r, R, S> {
             start: 0,
             end: 0,
             judged: 0,
-            capture: Capture::new(alloc, HashedCalls::new(alloc, hasher)),
+            capture: EntryParser::new(alloc, HashedCalls::new(alloc, hasher)),
             last: None,
             stage: Stage::Reading,
         }

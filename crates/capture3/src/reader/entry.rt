@@ -89,6 +89,7 @@ impl<'a> CallRef<'a> {
         ensures { (items : List Item) → IsCall self.now.body.now items → result ≡ xid_in items }
     {
         let Ok(start) = start(&mut Input::new(self.body)) else {
+            // The body was read as a message before.
             unreachable!()
         };
         start.xid
@@ -111,6 +112,7 @@ impl<'a> CallRef<'a> {
         match scan_call(self.body, visitor) {
             Ok(_) => Ok(()),
             Err(GetError::Memory) => Err(AllocError),
+            // The body was read as a message before.
             Err(GetError::Stop(_)) => unreachable!(),
         }
     }
@@ -123,6 +125,7 @@ impl<'a> ReplyRef<'a> {
             (record { id = self.now.id; items = items }) → result ≡ xid_in items }
     {
         let Ok(start) = start(&mut Input::new(self.body)) else {
+            // The body was read as a message before.
             unreachable!()
         };
         start.xid
@@ -146,6 +149,7 @@ impl<'a> ReplyRef<'a> {
         match scan_reply(&mut Some(self.answered()), self.body, visitor) {
             Ok(_) => Ok(()),
             Err(GetError::Memory) => Err(AllocError),
+            // The body was read as a message before.
             Err(GetError::Stop(_)) => unreachable!(),
         }
     }

@@ -15,7 +15,7 @@ use crate::fault::Error;
 use crate::message::calls::CallList;
 use crate::message::silent::Silent;
 use crate::reader::entry::Entry;
-use crate::reader::judging::Capture;
+use crate::reader::entry_parser::EntryParser;
 use std::alloc::Global;
 
 /// The entries of a capture, or its first fault.
@@ -36,7 +36,7 @@ pub fn parse(alloc: Global, bytes: &[u8]) -> Result<Vec<Entry>, Error>
         (λ _. (entries : List spec.Entry) → Typed bytes.now entries → spelled entries ≤ max_bytes) }
     ensures few { IfOk result (λ kept. vec_len kept ≤ most_entries) }
 {
-    let mut capture = Capture::new(alloc, CallList::new(alloc));
+    let mut capture = EntryParser::new(alloc, CallList::new(alloc));
     let mut entries = Vec::new(alloc);
     let mut taken = 0;
     while taken < bytes.len() || capture.is_recalling() {

@@ -1,5 +1,5 @@
 use Rattle.capture3.proofs.Bodies.{the_calls, the_replies}
-use Rattle.capture3.proofs.Judged.{is_judged_once}
+use Rattle.capture3.proofs.BodyProgramLemmas.{is_judged_once}
 use Rattle.capture3.proofs.laws.judged_once.Goals as goal
 
 pub returns-clause-calls : goal.returns-clause-calls

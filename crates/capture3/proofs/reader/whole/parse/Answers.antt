@@ -1,7 +1,7 @@
 use Rattle.std.proofs.Common.{Err, Option, arith, ap, subst, ◌≡◌, ◌∙◌, ◌++◌, ◌-◌, [], ◌∷◌, take, take_all, drop, length, length-take, length-drop, refl}
 use Rattle.capture3.specs.Entry.{End}
 use Rattle.capture3.specs.declared.reader.entry.Kind.{Kind}
-use Rattle.capture3.specs.machinery.Judges.{entry_cost, SpellsLast}
+use Rattle.capture3.specs.machinery.EntryParser.{entry_cost, SpellsLast}
 use Rattle.capture3.proofs.Limits.{typed_within}
 use Rattle.capture3.proofs.PassedOn.{error_is}
 use Rattle.capture3.proofs.Parsed.{begun_is, cut_at, first_fault, judged_all, kept_snoc, keeps_more, keeps_on, not_recalling, typed_at}

@@ -2,7 +2,7 @@ use Rattle.std.proofs.Common.{ap, sym, ◌∙◌, List, Option}
 use Rattle.rpc_head.specs.declared.call.ProcId.{ProcId}
 use Rattle.capture3.specs.declared.message.calls.NumberedCall.{NumberedCall}
 use Rattle.capture3.specs.machinery.Calls.{found}
-use Rattle.capture3.specs.Judging.{agrees}
+use Rattle.capture3.specs.BodyProgram.{agrees}
 use Rattle.capture3.proofs.Hashed.{admitted, looked_up}
 use Rattle.capture3.proofs.message.calls.HashedCallsCallTable.admit.Goals as goal
 

@@ -5,10 +5,10 @@ ghost use Rattle.record_mark.specs.Taking.{IsRunning, IsWhole, body_of, released
 ghost use Rattle.xdr3.specs.Item.{Item};
 ghost use Rattle.capture3.specs.machinery.Container.{IsReady, IsStored, Leaves, room_in};
 ghost use Rattle.capture3.specs.Entry as spec;
-ghost use Rattle.capture3.specs.machinery.Judges.{entry_cost, error_at, FailsAt, GoesTo, HasCome, IsHeld, IsOfBytes, MeetsEvent, RefusesBody, SpellsKind, SpellsLast, JudgesCall, JudgesReply};
+ghost use Rattle.capture3.specs.machinery.EntryParser.{entry_cost, error_at, FailsAt, GoesTo, HasCome, IsHeld, IsOfBytes, MeetsEvent, RefusesBody, SpellsKind, SpellsLast, JudgesCall, JudgesReply};
 ghost use Rattle.capture3.specs.Kept.{IsLent, kind_of};
 ghost use Rattle.capture3.specs.machinery.Spelled.{SpellsCall, SpellsReply};
-ghost use Rattle.capture3.specs.Judging.{judge_call, judge_reply};
+ghost use Rattle.capture3.specs.BodyProgram.{judge_call, judge_reply};
 ghost use Rattle.capture3.specs.machinery.Messages.{IsTableOf};
 ghost use Rattle.capture3.specs.machinery.Position.{IsEnded, IsSoundPosition, most_things};
 
@@ -25,13 +25,13 @@ use xdr3::{GetError, Reason, Visit};
 
 /// A container, and the calls of its open connection.
 #[derive(Drop)]
-pub(crate) struct Capture<C: Drop> {
+pub(crate) struct EntryParser<C: Drop> {
     pub(crate) container: Container,
     pub(crate) calls: C,
 }
 
-impl<C: CallTable + Drop> Capture<C> {
-    pub(crate) fn new(alloc: Global, calls: C) -> Capture<C>
+impl<C: CallTable + Drop> EntryParser<C> {
+    pub(crate) fn new(alloc: Global, calls: C) -> EntryParser<C>
         requires none { C.calls calls ≡ [] }
         ensures sound { IsSoundPosition result.container.position }
         ensures stored { IsStored result.container }
@@ -39,7 +39,7 @@ impl<C: CallTable + Drop> Capture<C> {
         ensures room { room_in result.container ≤ most_things }
         ensures machine { HasCome result.container (C.calls result.calls) [] [] }
     {
-        Capture {
+        EntryParser {
             container: Container::new(alloc),
             calls,
         }
@@ -158,6 +158,7 @@ impl<C: CallTable + Drop> Capture<C> {
             Event::Record(side) => self.message(side, visitor),
             Event::Turn => Ok(Kind::Turn),
             Event::Close => Ok(Kind::Close),
+            // The container gives what the streams hold, and not the streams.
             Event::Streams => unreachable!(),
         }
     }

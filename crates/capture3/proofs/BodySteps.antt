@@ -16,7 +16,7 @@ use Rattle.rpc_head.specs.HeadScan.{procedure_told, tells_success}
 use Rattle.rpc_head.proofs.Messages.{call_read, call_head_refused, procedure_read, reply_read, reply_head_refused}
 use Rattle.procs3.specs.Table.{arguments_of, results_of}
 use Rattle.capture3.specs.Bodies.{procedure_of, xid_in}
-use Rattle.capture3.specs.Judging.{judge_call, judge_reply, read_whole, all_of_body, agreed, agrees, answering}
+use Rattle.capture3.specs.BodyProgram.{judge_call, judge_reply, read_whole, all_of_body, agreed, agrees, answering}
 use Rattle.xdr3.specs.declared.reason.GetError.{GetError}
 use Rattle.xdr3.specs.declared.reason.GetError.TheVariants as errors
 use Rattle.capture3.specs.machinery.Messages.{results_after}

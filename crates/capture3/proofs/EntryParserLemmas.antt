@@ -28,7 +28,7 @@ use Rattle.capture3.specs.Connections.{refusal}
 use Rattle.capture3.specs.machinery.Container.{AreStored, Comes, ComesToFault, FirstKept, FromFile, InFile, InFirstKept, InNextKept, IsStored, Leaves, NextKept, Recalled, first_cursor, RecallFails, stream_of, unpacking_of, arrived, Arrives, ShowsError}
 use Rattle.capture3.specs.Entry.{Entry}
 use Rattle.capture3.specs.Entry as entries
-use Rattle.capture3.specs.machinery.Judges.{StandsAt, StandsOrRecalls, HasCome, after_side_word, HasMet, MeetsEvent, met, met_in, GoesTo, FailsAt, JudgesCall, JudgesReply, RefusesBody}
+use Rattle.capture3.specs.machinery.EntryParser.{StandsAt, StandsOrRecalls, HasCome, after_side_word, HasMet, MeetsEvent, met, met_in, GoesTo, FailsAt, JudgesCall, JudgesReply, RefusesBody}
 use Rattle.capture3.specs.Reading as reading
 use Rattle.capture3.specs.machinery.Recalled.{Recalls, ShowsFirst}
 use Rattle.capture3.specs.Records.{fault_at}
@@ -37,7 +37,7 @@ use Rattle.capture3.specs.declared.container.Cursor.{Cursor}
 use Rattle.capture3.specs.declared.container.position.Event.TheVariants as events
 use Rattle.capture3.proofs.Recalls.{call_cut, call_recalled, call_refused, close_recalled, reply_cut, reply_recalled, reply_refused, turn_recalled}
 use Rattle.record_mark.proofs.Machines.{after-append}
-use Rattle.capture3.specs.Judging.{agrees, judge_call, judge_reply}
+use Rattle.capture3.specs.BodyProgram.{agrees, judge_call, judge_reply}
 use Rattle.capture3.specs.machinery.Messages.{IsTableOf}
 use Rattle.capture3.specs.Parsing.{Parsing, file_next, file_start, parsed, emitted}
 use Rattle.capture3.specs.machinery.Position.{IsBeforeMark, opened_at, unpacking_at, StoredWith}

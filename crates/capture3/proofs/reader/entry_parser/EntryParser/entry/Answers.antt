@@ -1,9 +1,9 @@
 use Rattle.std.proofs.Common.{Some, subst}
 use Rattle.capture3.specs.declared.container.position.Event.{Event}
 use Rattle.capture3.specs.machinery.Container.{Leaves}
-use Rattle.capture3.specs.machinery.Judges.{MeetsEvent}
-use Rattle.capture3.proofs.Captures.{begin_goes, close_goes, turn_goes}
-use Rattle.capture3.proofs.reader.judging.Capture.entry.Goals as goal
+use Rattle.capture3.specs.machinery.EntryParser.{MeetsEvent}
+use Rattle.capture3.proofs.EntryParserLemmas.{begin_goes, close_goes, turn_goes}
+use Rattle.capture3.proofs.reader.entry_parser.EntryParser.entry.Goals as goal
 
 pub returns-in-Begin-clause-machine : goal.returns-in-Begin-clause-machine
 returns-in-Begin-clause-machine g c bytes all m =

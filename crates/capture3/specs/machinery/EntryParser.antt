@@ -30,7 +30,7 @@ use Rattle.capture3.specs.Bodies.{IsCall, IsReply}
 use Rattle.capture3.specs.machinery.Container.{stream_of, unpacking_of}
 use Rattle.capture3.specs.Entry.{Entry, items_of}
 use Rattle.capture3.specs.Entry as whole
-use Rattle.capture3.specs.Judging.{judge_call, judge_reply}
+use Rattle.capture3.specs.BodyProgram.{judge_call, judge_reply}
 use Rattle.capture3.specs.machinery.Messages.{IsTableOf}
 use Rattle.capture3.specs.Parsing.{Parsing, file_next, parsed, emitted}
 use Rattle.capture3.specs.machinery.Position.{unpacking_at}

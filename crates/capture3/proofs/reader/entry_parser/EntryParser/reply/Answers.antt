@@ -1,7 +1,7 @@
 use Rattle.std.proofs.Common.{ap, subst, sym, ◌∙◌, List, ℕ}
 use Rattle.capture3.specs.Bodies.{IsReply}
-use Rattle.capture3.specs.Judging.{judge_reply}
-use Rattle.capture3.proofs.reader.judging.Capture.reply.Goals as goal
+use Rattle.capture3.specs.BodyProgram.{judge_reply}
+use Rattle.capture3.proofs.reader.entry_parser.EntryParser.reply.Goals as goal
 
 pub returns-in-Ok-clause-ok : goal.returns-in-Ok-clause-ok
 returns-in-Ok-clause-ok g c calls table =
