@@ -13,7 +13,7 @@ use Rattle.capture3.specs.Entries.{IsMetBy, source_of}
 use Rattle.capture3.specs.machinery.Entries.{StandsFor}
 use Rattle.capture3.specs.Entry.{Entry}
 use Rattle.capture3.specs.Reached.{AreFirstReached, Reached}
-use Rattle.capture3.proofs.Emits.{reached_by_machine}
+use Rattle.capture3.proofs.EmittedEntries.{reached_by_machine}
 use Rattle.canon3.specs.declared.passed.Passed.{Passed}
 use Rattle.canon3.specs.EntryWriter.{IsStoppedBy, KeepsPrefixes, WritesGiven}
 use Rattle.canon3.specs.machinery.EntryWriter.{WritesOn, HasMore, HasWrittenAll}

@@ -8,7 +8,7 @@ use Rattle.capture3.specs.Chunks.{max_bytes}
 use Rattle.capture3.specs.Entry.{Entry, Begin, Call, Turn, Close, End}
 use Rattle.capture3.specs.Reached.{AreFirstReached, AreWhole, InMagic, BetweenConnections, InConnection, Reached, ReachesInside}
 use Rattle.capture3.specs.Typed.{Converses, HaveEntries, connection_entries, reply_entry}
-use Rattle.capture3.proofs.Converses.{conversed}
+use Rattle.capture3.proofs.JudgedInTurn.{conversed}
 use Rattle.capture3.proofs.Limits.{begun_size}
 use Rattle.capture3.proofs.ReachedMore.{reached_more}
 use Rattle.canon3.specs.Bytes.{bytes_of}

@@ -16,7 +16,7 @@ use Rattle.capture3.specs.declared.fault.Fault.{Fault}
 use Rattle.capture3.specs.Entry.{Entry}
 use Rattle.capture3.specs.FirstFault.{FirstFault}
 use Rattle.capture3.specs.BodyProgram.{judge_call, judge_reply}
-use Rattle.capture3.specs.Parsing.{verdict}
+use Rattle.capture3.specs.FileMachine.{verdict}
 use Rattle.capture3.proofs.BytesOf.{all_bytes, checked}
 use Rattle.capture3.proofs.Verdicts.{fault_from_verdict, typed_from_verdict}
 use Rattle.canon3.specs.Bytes.{bytes_of}

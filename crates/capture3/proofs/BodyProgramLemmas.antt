@@ -3,7 +3,7 @@ use Rattle.std.proofs.Common.{◌≡◌, ◌⊎◌, ℕ, List, Result, Ok, Err, 
 use Rattle.xdr3.specs.declared.reason.Stop.{Stop}
 use Rattle.xdr3.specs.Item.{AreBytes}
 use Rattle.capture3.specs.Laws.{IsJudgedOnce}
-use Rattle.capture3.specs.Reading.{Judge}
+use Rattle.capture3.specs.StreamMachine.{Judge}
 use Rattle.capture3.specs.Records.{Judgement}
 
 pub record Judged (M : Type 0) : Type 1 where

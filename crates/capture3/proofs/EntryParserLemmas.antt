@@ -29,25 +29,25 @@ use Rattle.capture3.specs.machinery.Container.{AreStored, Comes, ComesToFault, F
 use Rattle.capture3.specs.Entry.{Entry}
 use Rattle.capture3.specs.Entry as entries
 use Rattle.capture3.specs.machinery.EntryParser.{StandsAt, StandsOrRecalls, HasCome, after_side_word, HasMet, MeetsEvent, met, met_in, GoesTo, FailsAt, JudgesCall, JudgesReply, RefusesBody}
-use Rattle.capture3.specs.Reading as reading
-use Rattle.capture3.specs.machinery.Recalled.{Recalls, ShowsFirst}
+use Rattle.capture3.specs.StreamMachine as reading
+use Rattle.capture3.specs.machinery.KeptStreams.{Recalls, ShowsFirst}
 use Rattle.capture3.specs.Records.{fault_at}
 use Rattle.capture3.specs.SidedChunks.{Streams}
 use Rattle.capture3.specs.declared.container.Cursor.{Cursor}
 use Rattle.capture3.specs.declared.container.position.Event.TheVariants as events
-use Rattle.capture3.proofs.Recalls.{call_cut, call_recalled, call_refused, close_recalled, reply_cut, reply_recalled, reply_refused, turn_recalled}
+use Rattle.capture3.proofs.KeptStreamsLemmas.{call_cut, call_recalled, call_refused, close_recalled, reply_cut, reply_recalled, reply_refused, turn_recalled}
 use Rattle.record_mark.proofs.Machines.{after-append}
 use Rattle.capture3.specs.BodyProgram.{agrees, judge_call, judge_reply}
 use Rattle.capture3.specs.machinery.Messages.{IsTableOf}
-use Rattle.capture3.specs.Parsing.{Parsing, file_next, file_start, parsed, emitted}
+use Rattle.capture3.specs.FileMachine.{Parsing, file_next, file_start, parsed, emitted}
 use Rattle.capture3.specs.machinery.Position.{IsBeforeMark, opened_at, unpacking_at, StoredWith}
-use Rattle.capture3.proofs.Containers.{mark_is}
+use Rattle.capture3.proofs.ContainerLemmas.{mark_is}
 use Rattle.capture3.specs.Capture.{Two}
-use Rattle.capture3.specs.machinery.Resumed.{Judged, parsing_at, resumed, call_judged, reply_judged, emitted_at, connection_begun, turned, connection_closed}
-use Rattle.capture3.specs.machinery.Resumed as resuming
-use Rattle.capture3.specs.machinery.Unpacking.{Mark, Unpacking, Refuses, unpack_next, unpacking_start}
-use Rattle.capture3.proofs.Resumptions.{runs_follow, stops_follow}
-use Rattle.capture3.proofs.Emissions.{runs_emit, stops_emit}
+use Rattle.capture3.specs.machinery.FileStanding.{Judged, parsing_at, resumed, call_judged, reply_judged, emitted_at, connection_begun, turned, connection_closed}
+use Rattle.capture3.specs.machinery.FileStanding as resuming
+use Rattle.capture3.specs.machinery.ContainerMachine.{Mark, Unpacking, Refuses, unpack_next, unpacking_start}
+use Rattle.capture3.proofs.FileStandingLemmas.{runs_follow, stops_follow}
+use Rattle.capture3.proofs.WholeEntries.{runs_emit, stops_emit}
 use Rattle.capture3.proofs.Growing.{stops_at_last}
 
 -- ---- the table of calls

@@ -14,7 +14,7 @@ use Rattle.capture3.specs.Entry.{Begin, Call, Turn, Close, End}
 use Rattle.capture3.specs.Examples.{magic_1, magic_2, word_0, word_1, word_2, word_3, null_call, null_reply, null_call_items, null_capture, null_entries, bad_mtype as bad_mtype_bytes, bad_mtype_cut as bad_mtype_cut_bytes, client_chunk, server_chunk}
 use Rattle.capture3.specs.Examples.{null_mixed as null_mixed_bytes, null_mixed_swapped as null_mixed_swapped_bytes, bad_mtype_mixed as bad_mtype_mixed_bytes, bad_mtype_mixed_cut as bad_mtype_mixed_cut_bytes, call_answered_by_call as call_answered_by_call_bytes}
 use Rattle.capture3.specs.BodyProgram.{judge_call, judge_reply}
-use Rattle.capture3.specs.Parsing.{reached, verdict}
+use Rattle.capture3.specs.FileMachine.{reached, verdict}
 
 pub smallest : verdict (magic_1 ++ word_0) ≡ Ok (End ∷ [])
 unfolding number

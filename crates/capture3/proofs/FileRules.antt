@@ -16,21 +16,21 @@ use Rattle.capture3.specs.Connections.{Context, ShownFault, refusal, client_refu
 use Rattle.capture3.specs.Entry.{Entry}
 use Rattle.capture3.specs.FirstFault.{AfterConnections, Rule, MagicDiffers, MarkIsBad, ConnectionIsTooMany, WithinConnection, ByteAfterEnd}
 use Rattle.capture3.specs.BodyProgram.{judge_call}
-use Rattle.capture3.specs.Mixing.{MixedEnd, MixedCloses, MixedRefuses, mixed_next, mixing_from}
-use Rattle.capture3.specs.Opening.{judge_replies, Opening, InClient, InServer, InMixed, Closing, Closes, Refuses, turning, ending, server_said, client_said, conversing, opening_next, opened}
-use Rattle.capture3.specs.Parsing.{Mark, Inside, Parsing, marked, closed, file_next, file_start, parsed}
+use Rattle.capture3.specs.SidedChunksMachine.{MixedEnd, MixedCloses, MixedRefuses, mixed_next, mixing_from}
+use Rattle.capture3.specs.ConnectionMachine.{judge_replies, Opening, InClient, InServer, InMixed, Closing, Closes, Refuses, turning, ending, server_said, client_said, conversing, opening_next, opened}
+use Rattle.capture3.specs.FileMachine.{Mark, Inside, Parsing, marked, closed, file_next, file_start, parsed}
 use Rattle.capture3.specs.Records.{Judgement, RecordFault}
-use Rattle.capture3.specs.Reading.{Reading, StreamEnd, Held, Faulty, stream_next, stream_end, unread}
+use Rattle.capture3.specs.StreamMachine.{Reading, StreamEnd, Held, Faulty, stream_next, stream_end, unread}
 use Rattle.capture3.specs.Sides.{Position, place_at, file_fault, SideShows}
-use Rattle.capture3.specs.Siding.{SideEnd, SideCloses, SideRefuses, side_next, siding_from}
+use Rattle.capture3.specs.SideMachine.{SideEnd, SideCloses, SideRefuses, side_next, siding_from}
 use Rattle.capture3.specs.Typed.{connection_entries}
 use Rattle.capture3.proofs.SideRules.{RefusedSide, ClosedSide, side_closed_or, side_over}
-use Rattle.capture3.proofs.Bodies.{the_calls, the_replies}
-use Rattle.capture3.proofs.Files.{mark_runs, magics_run, length_magic, bad_mark_stops, magic_stops}
-use Rattle.capture3.proofs.MixedRules.{RefusedMixed, closes_over, mixed_over, mixed_some}
-use Rattle.capture3.proofs.Overs.{Gone, Past, Over, gone_past, gone_more, nested_gone, nested_over, nested_past}
+use Rattle.capture3.proofs.BodiesLemmas.{the_calls, the_replies}
+use Rattle.capture3.proofs.FileMachineLemmas.{mark_runs, magics_run, length_magic, bad_mark_stops, magic_stops}
+use Rattle.capture3.proofs.SidedChunksRules.{RefusedMixed, closes_over, mixed_over, mixed_some}
+use Rattle.capture3.proofs.EndedMachines.{Gone, Past, Over, gone_past, gone_more, nested_gone, nested_over, nested_past}
 use Rattle.capture3.proofs.StreamEnds.{stream_ends}
-use Rattle.capture3.proofs.Streams.{stream_runs}
+use Rattle.capture3.proofs.StreamMachineLemmas.{stream_runs}
 
 -- ---- a connection
 

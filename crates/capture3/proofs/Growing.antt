@@ -14,15 +14,15 @@ use Rattle.capture3.specs.Entry.{Entry}
 use Rattle.capture3.specs.Entry as entries
 use Rattle.capture3.specs.BodyProgram.{judge_call, judge_reply}
 use Rattle.capture3.specs.Capture.{Two}
-use Rattle.capture3.specs.Opening.{judge_replies, server_said, client_said}
-use Rattle.capture3.specs.Parsing as parsing
-use Rattle.capture3.specs.Parsing.{Parsing, file_next, emitted}
-use Rattle.capture3.specs.Reading.{StreamEnd, Held, Faulty, stream_end}
-use Rattle.capture3.specs.machinery.Resumed.{Judged, resumed_at, parsing_in, parsing_at, resumed, conversed, call_judged, reply_judged, connection_begun, with_call, with_reply, turned, connection_closed, Agrees, AgreesOn, emitted_at, EmitsOn}
+use Rattle.capture3.specs.ConnectionMachine.{judge_replies, server_said, client_said}
+use Rattle.capture3.specs.FileMachine as parsing
+use Rattle.capture3.specs.FileMachine.{Parsing, file_next, emitted}
+use Rattle.capture3.specs.StreamMachine.{StreamEnd, Held, Faulty, stream_end}
+use Rattle.capture3.specs.machinery.FileStanding.{Judged, resumed_at, parsing_in, parsing_at, resumed, conversed, call_judged, reply_judged, connection_begun, with_call, with_reply, turned, connection_closed, Agrees, AgreesOn, emitted_at, EmitsOn}
 use Rattle.capture3.specs.Typed.{reply_entry, connection_entries}
-use Rattle.capture3.specs.machinery.Unpacking.{Opened, Magic, Digit, Mark, Length, Chunk, Mixed, Ended, Unpacking, Unpacked, Has, HasStreams, Refuses, unpack_next}
-use Rattle.capture3.proofs.Emissions.{emits}
-use Rattle.capture3.proofs.Resumptions.{follows, agrees_on}
+use Rattle.capture3.specs.machinery.ContainerMachine.{Opened, Magic, Digit, Mark, Length, Chunk, Mixed, Ended, Unpacking, Unpacked, Has, HasStreams, Refuses, unpack_next}
+use Rattle.capture3.proofs.WholeEntries.{emits}
+use Rattle.capture3.proofs.FileStandingLemmas.{follows, agrees_on}
 
 pub emitted_is : (at total connections : ℕ) (joining : Joining) (o : Opened) (j : Judged) → emitted (resumed_at at total connections joining o j) ≡ emitted_at o j
 emitted_is at total connections joining (Magic due more) j = append-nil j.entries

@@ -15,7 +15,7 @@ use Rattle.capture3.specs.Laws.{begins, spelled, AreWithinLimits}
 use Rattle.capture3.specs.Reached.{ReachesInside, AreWhole, InMagic, BetweenConnections, InConnection}
 use Rattle.capture3.specs.Records.{Judgement, AreMessages, Holds, HoldsSoFar, RecordFault, FirstRecordFault, RefusesNext, NextIsTooLong, NextIsCut}
 use Rattle.capture3.specs.Typed.{Converses, reply_entry, connection_entries, HaveEntries, Typed}
-use Rattle.capture3.proofs.Converses.{calls_hold, conversed, replies_hold}
+use Rattle.capture3.proofs.JudgedInTurn.{calls_hold, conversed, replies_hold}
 
 pub begins-append : (xs ys : List Entry) → begins (xs ++ ys) ≡ begins xs + begins ys
 begins-append [] ys = omega arith

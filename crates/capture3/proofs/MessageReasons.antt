@@ -13,7 +13,7 @@ use Rattle.rpc_head.specs.Messages.{call_layout, call_start, has_results, proced
 use Rattle.rpc_head.specs.Names.{head_names}
 use Rattle.rpc_head.specs.Shapes.{◌then◌, accept, auth_stats, auth_sys, call_head, credential, deny, gids, message_start, parameters, reply_head, verifier, versions}
 use Rattle.procs3.specs.Table.{arguments_of, results_of}
-use Rattle.capture3.proofs.Bodies.{start_of, two_words}
+use Rattle.capture3.proofs.BodiesLemmas.{start_of, two_words}
 use Rattle.capture3.proofs.ProcedureReasons.{arguments_have_reasons, layout_reasons_if, reasons_if, results_have_reasons}
 
 -- ---- heads

@@ -25,9 +25,9 @@ use Rattle.capture3.specs.machinery.Calls.{found}
 use Rattle.capture3.specs.BodyProgram.{agrees, judge_call, judge_reply}
 use Rattle.capture3.specs.machinery.MessageScan.{ScansCall, ScansReply, StopsMessage}
 use Rattle.capture3.specs.machinery.Messages.{results_after}
-use Rattle.capture3.proofs.Bodies.{the_calls, the_replies}
+use Rattle.capture3.proofs.BodiesLemmas.{the_calls, the_replies}
 use Rattle.capture3.proofs.BodySteps.{CallBegins, ReplyBegins, call_accepted, call_bad_arguments, call_bad_head, call_procedure, call_whole, call_xid, refusal_judged, reply_accepted, reply_bad_head, reply_bad_results, reply_xid, whole_call, whole_reply}
-use Rattle.capture3.proofs.Spelled.{asking}
+use Rattle.capture3.proofs.SpelledLemmas.{asking}
 
 -- ---- what the code hands on
 

@@ -17,7 +17,7 @@ use Rattle.capture3.specs.FirstFault.{AfterConnections, DiffersFromMagic, FirstF
 use Rattle.capture3.specs.Laws.{HasItsPlace}
 use Rattle.capture3.specs.Records.{FirstRecordFault, Judgement, NextIsCut, NextIsTooLong, RecordFault, RefusesNext, StreamShows}
 use Rattle.capture3.specs.Sides.{place_at, place_in, Position, SideShows}
-use Rattle.capture3.proofs.Files.{length_magic}
+use Rattle.capture3.proofs.FileMachineLemmas.{length_magic}
 use Rattle.capture3.proofs.MessageReasons.{call_refused_for, reply_refused_for, start_refused_for}
 
 abbrev IsInPlace : List ℕ → Fault → Type 0

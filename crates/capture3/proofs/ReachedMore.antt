@@ -8,20 +8,20 @@ use Rattle.capture3.specs.Connections.{Context, ShownFault, refusal, StreamsShow
 use Rattle.capture3.specs.Entry.{Entry, Begin}
 use Rattle.capture3.specs.FirstFault.{Rule, Shows, AfterConnections, MagicDiffers, MarkIsBad, ConnectionIsTooMany, WithinConnection, ByteAfterEnd}
 use Rattle.capture3.specs.Laws.{AreWithinLimits}
-use Rattle.capture3.specs.Mixing.{Mixing, MixedCloses, mixed_next, mixing_from}
-use Rattle.capture3.specs.Opening.{InMixed, conversing, opening_next, opened}
-use Rattle.capture3.specs.Parsing.{Parsing, closed, emitted, file_next, file_start, parsed}
+use Rattle.capture3.specs.SidedChunksMachine.{Mixing, MixedCloses, mixed_next, mixing_from}
+use Rattle.capture3.specs.ConnectionMachine.{InMixed, conversing, opening_next, opened}
+use Rattle.capture3.specs.FileMachine.{Parsing, closed, emitted, file_next, file_start, parsed}
 use Rattle.capture3.specs.Reached.{AreWhole, IsLongestClean, Reached}
 use Rattle.capture3.specs.SidedChunks.{Streams, size, AreMixed}
 use Rattle.capture3.specs.Sides.{file_fault}
 use Rattle.xdr3.specs.declared.reason.Reason.TheVariants.{TooManyConnections}
 use Rattle.capture3.proofs.FileRules.{AnyRefusal, RefusedClosing, Marked, at_mark, inside_at, begins_or, begun_or, closed_ends, conversing_ends}
-use Rattle.capture3.proofs.Files.{InConnection, Stands, file_runs}
+use Rattle.capture3.proofs.FileMachineLemmas.{InConnection, Stands, file_runs}
 use Rattle.capture3.proofs.Limits.{IsAfter, after_within, refused_more, streams_after, typed_within, whole_within}
-use Rattle.capture3.proofs.MixedRules.{RefusedMixed, closes_over}
-use Rattle.capture3.proofs.Mixes.{HasMixed, EndsMixed, mixed_leads, nothing_gathered}
-use Rattle.capture3.proofs.Overs.{Gone, Past, Over, gone_more, nested_past}
-use Rattle.capture3.proofs.Reaches.{StandsAt, whole_stands}
+use Rattle.capture3.proofs.SidedChunksRules.{RefusedMixed, closes_over}
+use Rattle.capture3.proofs.SidedChunksMachineLemmas.{HasMixed, EndsMixed, mixed_leads, nothing_gathered}
+use Rattle.capture3.proofs.EndedMachines.{Gone, Past, Over, gone_more, nested_past}
+use Rattle.capture3.proofs.ReachedLemmas.{StandsAt, whole_stands}
 
 -- the last byte
 split_last : (front x y : List ℕ) (byte : ℕ) → front ++ byte ∷ [] ≡ x ++ y → 0 < length y → (z : List ℕ) × (y ≡ z ++ byte ∷ []) × (front ≡ x ++ z)

@@ -11,15 +11,15 @@ use Rattle.xdr3.specs.declared.reason.Reason.TheVariants.{TooManyBytes, RecordTo
 use Rattle.xdr3.specs.declared.reason.Stop.{Stop}
 use Rattle.capture3.specs.declared.fault.Fault.{Fault}
 use Rattle.capture3.specs.Chunks.{max_bytes, IsChunk, AreChunks, IsStream}
-use Rattle.capture3.specs.Reading.{Reading, judged, recorded, stream_next, unread}
+use Rattle.capture3.specs.StreamMachine.{Reading, judged, recorded, stream_next, unread}
 use Rattle.capture3.specs.Records.{RecordFault, fault_at, StreamShows, IsCut}
 use Rattle.capture3.specs.Sides.{Position, file_fault, place_in, PassesBytes, CutsRecord, ShowsRecord, SideShows}
-use Rattle.capture3.specs.Siding.{Length, Chunk, Siding, SideEnd, SideCloses, SideRefuses, awaiting, closing, counted, side_next}
-use Rattle.capture3.specs.machinery.Siding.{side_start}
+use Rattle.capture3.specs.SideMachine.{Length, Chunk, Siding, SideEnd, SideCloses, SideRefuses, awaiting, closing, counted, side_next}
+use Rattle.capture3.specs.machinery.SideMachine.{side_start}
 use Rattle.capture3.proofs.BodyProgramLemmas.{Judged}
-use Rattle.capture3.proofs.Overs.{Gone, Past, Over, gone_past, gone_more, stopped_at}
-use Rattle.capture3.proofs.Sides.{length_runs, chunk_runs, chunk_stops}
-use Rattle.capture3.proofs.Streams.{record_closes, stream_stops}
+use Rattle.capture3.proofs.EndedMachines.{Gone, Past, Over, gone_past, gone_more, stopped_at}
+use Rattle.capture3.proofs.SideMachineLemmas.{length_runs, chunk_runs, chunk_stops}
+use Rattle.capture3.proofs.StreamMachineLemmas.{record_closes, stream_stops}
 
 -- ---- a stream
 

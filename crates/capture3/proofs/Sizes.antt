@@ -11,13 +11,13 @@ use Rattle.capture3.specs.Connections.{ShownFault}
 use Rattle.capture3.specs.Entry.{Entry}
 use Rattle.capture3.specs.FirstFault.{IsClean}
 use Rattle.capture3.specs.Laws.{most_bytes, IsWithinVersion}
-use Rattle.capture3.specs.Parsing.{Parsing, parsed}
+use Rattle.capture3.specs.FileMachine.{Parsing, parsed}
 use Rattle.capture3.specs.declared.fault.Side.TheVariants.{Client, Server}
 use Rattle.capture3.specs.Reached.{Opens, ReachesInside, AreWhole, InMagic, BetweenConnections, InConnection}
-use Rattle.capture3.proofs.Files.{rule_stops}
+use Rattle.capture3.proofs.FileMachineLemmas.{rule_stops}
 use Rattle.capture3.proofs.BytesOf.{split_bytes}
-use Rattle.capture3.proofs.Mixes.{size_of}
-use Rattle.capture3.proofs.Reaches.{stands_whole}
+use Rattle.capture3.proofs.SidedChunksMachineLemmas.{size_of}
+use Rattle.capture3.proofs.ReachedLemmas.{stands_whole}
 use Rattle.capture3.proofs.Verdicts.{told, shows_from_stops}
 
 -- each byte of a stream comes with at most four of a length word

@@ -7,11 +7,11 @@ use Rattle.record_mark.proofs.Joins.{record_stops, too_long_stops}
 use Rattle.record_mark.proofs.Machines.{Tells, after-append, after_stopped, nested_last, nested_runs, nested_stops, last_running-append, last_stopped}
 use Rattle.xdr3.specs.Item.{AreBytes}
 use Rattle.xdr3.specs.declared.reason.Reason.TheVariants.{RecordTooLong}
-use Rattle.capture3.specs.Reading.{Judge, Reading, judged, recorded, stream_next, unread, StreamEnd, Held, Faulty, left_in, end_of, rest_end, stream_end}
+use Rattle.capture3.specs.StreamMachine.{Judge, Reading, judged, recorded, stream_next, unread, StreamEnd, Held, Faulty, left_in, end_of, rest_end, stream_end}
 use Rattle.capture3.specs.Records.{Judgement, Holds, RecordFault, fault_at, FirstRecordFault, RefusesNext, NextIsTooLong, NextIsCut}
 use Rattle.capture3.proofs.BodyProgramLemmas.{Judged}
-use Rattle.capture3.proofs.Strict.{StreamShows}
-use Rattle.capture3.proofs.Streams.{HasRead, stream_leads, nothing_read, record_closes, stream_runs}
+use Rattle.capture3.proofs.StrictRules.{StreamShows}
+use Rattle.capture3.proofs.StreamMachineLemmas.{HasRead, stream_leads, nothing_read, record_closes, stream_runs}
 use Rattle.capture3.proofs.Telling.{tells_bytes}
 
 -- what is said of a whole stream holds

@@ -10,7 +10,7 @@ use Rattle.capture3.specs.Entry.{Entry}
 use Rattle.capture3.specs.Laws.{HaveSameEntries}
 use Rattle.capture3.specs.SidedChunks.{Streams, side_word, IsSidedChunk, gathered, AreMixed}
 use Rattle.capture3.specs.Typed.{HaveEntries, Typed}
-use Rattle.capture3.proofs.Files.{length_magic}
+use Rattle.capture3.proofs.FileMachineLemmas.{length_magic}
 
 -- bytes tell which thing they begin with, and what comes after it
 abbrev IsTold : {X : Type 0} → (List ℕ → X → Type 0) → Type 0

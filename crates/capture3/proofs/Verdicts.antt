@@ -10,15 +10,15 @@ use Rattle.capture3.specs.Connections.{ShownFault, refusal}
 use Rattle.capture3.specs.Entry.{Entry, End}
 use Rattle.capture3.specs.FirstFault.{Shows, IsClean, FirstFault}
 use Rattle.capture3.specs.Laws.{HasOneVerdict, IsCutShort}
-use Rattle.capture3.specs.Parsing.{Spot, Magic, Digit, Mark, Inside, Ended, Parsing, file_next, file_start, parsed, concluded, verdict_of, verdict}
+use Rattle.capture3.specs.FileMachine.{Spot, Magic, Digit, Mark, Inside, Ended, Parsing, file_next, file_start, parsed, concluded, verdict_of, verdict}
 use Rattle.capture3.specs.Sides.{file_fault}
 use Rattle.capture3.specs.Typed.{Typed, IsWellFormed}
 use Rattle.capture3.proofs.FileRules.{AnyRefusal, rule_over}
 use Rattle.capture3.proofs.BytesOf.{split_bytes}
-use Rattle.capture3.proofs.Loosened.{loosened}
-use Rattle.capture3.proofs.Overs.{Over}
-use Rattle.capture3.proofs.Strict as strict
-use Rattle.capture3.proofs.Files.{HasSpot, Stands, file_tells, file_runs, rule_stops}
+use Rattle.capture3.proofs.LoosenedRules.{loosened}
+use Rattle.capture3.proofs.EndedMachines.{Over}
+use Rattle.capture3.proofs.StrictRules as strict
+use Rattle.capture3.proofs.FileMachineLemmas.{HasSpot, Stands, file_tells, file_runs, rule_stops}
 
 -- the machine's runs, told of their bytes
 pub told : (bytes : List ℕ) (run : Run Parsing ShownFault) → AreBytes bytes → parsed bytes ≡ run → Tells Stands strict.Rule bytes run

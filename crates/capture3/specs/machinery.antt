@@ -6,8 +6,8 @@ pub mod EntryParser
 pub mod MessageScan
 pub mod Messages
 pub mod Position
-pub mod Recalled
-pub mod Resumed
-pub mod Siding
+pub mod KeptStreams
+pub mod FileStanding
+pub mod SideMachine
 pub mod Spelled
-pub mod Unpacking
+pub mod ContainerMachine

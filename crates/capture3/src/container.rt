@@ -9,7 +9,7 @@ ghost use Rattle.std.specs.Prelude.{◌≡◌, ◌≢◌, ◌≤◌, ◌<◌, �
 ghost use Rattle.capture3.specs.machinery.Container.{AreStored, Arrives, Comes, ComesToFault, ShowsError, first_cursor, IsCutInRecord, IsReady, IsStored, Leaves, RecallFails, Recalled, room_in, unpacking_in};
 ghost use Rattle.record_mark.specs.Joining.{Between};
 ghost use Rattle.capture3.specs.machinery.Position.{AreEmpty, cost_of, IsEnded, IsOpenBody, IsSoundPosition, KeepsStreams, most_things, room_of, StoredWith, TakesRoom, TakesSome};
-ghost use Rattle.capture3.specs.machinery.Unpacking.{unpacking_start};
+ghost use Rattle.capture3.specs.machinery.ContainerMachine.{unpacking_start};
 ghost use Rattle.record_mark.specs.RecordMark.{max_body};
 ghost use Rattle.record_mark.specs.Taking.{IsRunning, IsWhole, body_of, joining_of, released, unbegun};
 

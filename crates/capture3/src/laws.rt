@@ -11,7 +11,7 @@ ghost use Rattle.capture3.specs.Connections.{calls_in_turn, replies_to};
 ghost use Rattle.capture3.specs.Entry.{Entry};
 ghost use Rattle.capture3.specs.FirstFault.{FirstFault, IsClean};
 ghost use Rattle.capture3.specs.Laws.{AreWithinLimits, HasItsPlace, HasOneVerdict, HaveSameEntries, IsCutShort, IsJudgedInTurn, IsJudgedOnce, IsWithinVersion, most_bytes};
-ghost use Rattle.capture3.specs.Parsing.{file_next, parsed, reached, verdict};
+ghost use Rattle.capture3.specs.FileMachine.{file_next, parsed, reached, verdict};
 ghost use Rattle.capture3.specs.Reached.{Reached};
 ghost use Rattle.capture3.specs.Typed.{Typed};
 ghost use Rattle.std.specs.Prelude.{[], ◌∷◌};

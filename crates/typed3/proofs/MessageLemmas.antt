@@ -23,8 +23,8 @@ use Rattle.capture3.specs.Bodies.{IsCall, IsReply, procedure_of, xid_in}
 use Rattle.capture3.specs.BodyProgram.{is_same, judge_call, judge_reply}
 use Rattle.capture3.specs.machinery.MessageScan.{StopsMessage}
 use Rattle.capture3.specs.machinery.Spelled.{SpellsCall}
-use Rattle.capture3.proofs.Bodies.{is_same_self, same_is}
-use Rattle.capture3.proofs.Spelled.{asking, call_never_stops, one_call, one_reply, reply_has_xid, reply_never_stops}
+use Rattle.capture3.proofs.BodiesLemmas.{is_same_self, same_is}
+use Rattle.capture3.proofs.SpelledLemmas.{asking, call_never_stops, one_call, one_reply, reply_has_xid, reply_never_stops}
 use Rattle.typed3.specs.declared.message.CallMsg.{CallMsg}
 use Rattle.typed3.specs.Messages.{call_items, is_success}
 use Rattle.typed3.specs.machinery.Messages.{SpellsNoCall, SpellsNoReply}

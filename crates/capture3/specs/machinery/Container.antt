@@ -18,7 +18,7 @@ use Rattle.capture3.specs.SidedChunks as sided
 use Rattle.capture3.specs.SidedChunks.{size}
 use Rattle.capture3.specs.declared.container.position.Position.{Position}
 use Rattle.capture3.specs.machinery.Position.{room_of, AreEmpty, IsBeforeMark, ShowsFault, StoredAt, StoredWith, unpacking_at}
-use Rattle.capture3.specs.machinery.Unpacking.{Unpacking, Unpacked, Has, HasStreams, unpack_next}
+use Rattle.capture3.specs.machinery.ContainerMachine.{Unpacking, Unpacked, Has, HasStreams, unpack_next}
 
 -- with a record its body, and else no whole record
 abbrev pub Leaves : Option Event → Taking → Type 0

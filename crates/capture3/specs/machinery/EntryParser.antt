@@ -22,7 +22,7 @@ use Rattle.capture3.specs.declared.container.position.Event.TheVariants.{Begin, 
 use Rattle.capture3.specs.declared.container.position.Event.TheVariants as events
 use Rattle.capture3.specs.declared.container.Cursor.{Cursor}
 use Rattle.capture3.specs.Capture.{Two}
-use Rattle.capture3.specs.machinery.Recalled.{Recalls, ShowsFirst}
+use Rattle.capture3.specs.machinery.KeptStreams.{Recalls, ShowsFirst}
 use Rattle.capture3.specs.SidedChunks.{Streams}
 use Rattle.capture3.specs.declared.container.position.Position.{Position}
 use Rattle.capture3.specs.declared.container.Container.{Container}
@@ -32,11 +32,11 @@ use Rattle.capture3.specs.Entry.{Entry, items_of}
 use Rattle.capture3.specs.Entry as whole
 use Rattle.capture3.specs.BodyProgram.{judge_call, judge_reply}
 use Rattle.capture3.specs.machinery.Messages.{IsTableOf}
-use Rattle.capture3.specs.Parsing.{Parsing, file_next, parsed, emitted}
+use Rattle.capture3.specs.FileMachine.{Parsing, file_next, parsed, emitted}
 use Rattle.capture3.specs.machinery.Position.{unpacking_at}
 use Rattle.capture3.specs.machinery.Spelled.{SpellsCall, SpellsReply}
-use Rattle.capture3.specs.machinery.Resumed.{Judged, parsing_at, resumed, Agrees, AgreesOn, emitted_at, EmitsOn}
-use Rattle.capture3.specs.machinery.Unpacking.{Unpacking, Unpacked, Has, HasStreams, before_mark}
+use Rattle.capture3.specs.machinery.FileStanding.{Judged, parsing_at, resumed, Agrees, AgreesOn, emitted_at, EmitsOn}
+use Rattle.capture3.specs.machinery.ContainerMachine.{Unpacking, Unpacked, Has, HasStreams, before_mark}
 
 -- these bytes have led the machine for the file here, and these entries are whole
 pub record StandsAt (position : Position) (taking : Taking) (streams : Streams) (table : List NumberedCall) (bytes : List ℕ) (entries : List Entry) : Type 0 where

@@ -3,8 +3,8 @@ use Rattle.std.specs.Prelude.{◌≡◌, ◌≢◌, ◌≤◌, ◌<◌, ℕ, ◌
 use Rattle.record_mark.specs.Machine.{Next, Ends, Run, Runs, Stops, after, landed}
 use Rattle.record_mark.specs.Joining.{Joining, Between}
 use Rattle.record_mark.specs.Taking.{joined_body}
-use Rattle.capture3.specs.machinery.Unpacking.{Unpacking, Unpacked, Opened, Has, HasStreams, Refuses, left_of_magic, awaiting_chunk, unpack_next}
-use Rattle.capture3.specs.machinery.Unpacking as unpacking
+use Rattle.capture3.specs.machinery.ContainerMachine.{Unpacking, Unpacked, Opened, Has, HasStreams, Refuses, left_of_magic, awaiting_chunk, unpack_next}
+use Rattle.capture3.specs.machinery.ContainerMachine as unpacking
 use Rattle.capture3.specs.declared.container.position.TheConstants.{MAGIC}
 use Rattle.capture3.specs.declared.fault.Error.{Error}
 use Rattle.capture3.specs.declared.fault.Error.TheVariants.{Refused}
@@ -15,8 +15,8 @@ use Rattle.capture3.specs.declared.container.position.Event.TheVariants.{Record,
 use Rattle.capture3.specs.declared.container.position.Version as declared
 use Rattle.capture3.specs.declared.container.position.Version.TheVariants as versions
 use Rattle.capture3.specs.Capture.{Version, One, Two}
-use Rattle.capture3.specs.Mixing.{SideWord, awaiting_side}
-use Rattle.capture3.specs.Mixing as mixing
+use Rattle.capture3.specs.SidedChunksMachine.{SideWord, awaiting_side}
+use Rattle.capture3.specs.SidedChunksMachine as mixing
 use Rattle.capture3.specs.SidedChunks as sided
 use Rattle.capture3.specs.SidedChunks.{size}
 use Rattle.capture3.specs.declared.container.position.Position.{Position}

@@ -5,8 +5,8 @@ ghost use Rattle.capture3.specs.Capture.{Two};
 ghost use Rattle.capture3.specs.machinery.Position.{AreEmpty, HasCounts, IsBeforeMark, IsBeforeStream, IsOfContainer, IsOpenBody, IsSoundPosition, KeepsStreams, landed_at, Lands, most_things, MovesFrom, room_of, StoredAt, TakesRoom, TakesSome, unpacking_at, version_of};
 ghost use Rattle.capture3.specs.SidedChunks as kept;
 ghost use Rattle.capture3.specs.SidedChunks.{gathered};
-ghost use Rattle.capture3.specs.machinery.Unpacking.{begun_at, stream_ended, chunk_counted, in_chunk, connection_marked};
-ghost use Rattle.capture3.specs.machinery.Unpacking as spec;
+ghost use Rattle.capture3.specs.machinery.ContainerMachine.{begun_at, stream_ended, chunk_counted, in_chunk, connection_marked};
+ghost use Rattle.capture3.specs.machinery.ContainerMachine as spec;
 ghost use Rattle.record_mark.specs.Joining.{Between, Joining};
 ghost use Rattle.record_mark.specs.Machine.{Ends, Stops};
 

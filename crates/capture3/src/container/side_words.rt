@@ -5,8 +5,8 @@ ghost use Rattle.capture3.specs.Capture.{Two};
 ghost use Rattle.capture3.specs.machinery.Position.{HasCounts, IsBeforeMark, IsBeforeSideLength, IsBeforeSides, IsOfContainer, IsSoundPosition, KeepsStreams, Lands, MovesFrom, room_of, StoredAt, TakesRoom, TakesSome, unpacking_at};
 ghost use Rattle.capture3.specs.SidedChunks as kept;
 ghost use Rattle.capture3.specs.SidedChunks.{gathered, size};
-ghost use Rattle.capture3.specs.machinery.Unpacking.{in_side_chunk, sides_counted, sides_marked};
-ghost use Rattle.capture3.specs.machinery.Unpacking as spec;
+ghost use Rattle.capture3.specs.machinery.ContainerMachine.{in_side_chunk, sides_counted, sides_marked};
+ghost use Rattle.capture3.specs.machinery.ContainerMachine as spec;
 ghost use Rattle.record_mark.specs.Joining.{Joining};
 
 use crate::container::position::{Event, Position, Spot, Taken, Version, file_fault};

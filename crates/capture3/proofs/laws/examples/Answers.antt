@@ -7,7 +7,7 @@ use Rattle.capture3.specs.Examples.{bad_mtype, bad_mtype_cut, bad_mtype_mixed, b
 use Rattle.capture3.specs.Sides.{file_fault}
 use Rattle.capture3.specs.Reached.{Reached}
 use Rattle.capture3.proofs.BytesOf.{all_bytes, checked}
-use Rattle.capture3.proofs.Emits.{reached_by_machine}
+use Rattle.capture3.proofs.EmittedEntries.{reached_by_machine}
 use Rattle.capture3.proofs.Examples as examples
 use Rattle.capture3.proofs.Verdicts.{typed_from_verdict, fault_from_verdict}
 use Rattle.capture3.proofs.laws.examples.Goals as goal

@@ -1,4 +1,4 @@
-use Rattle.capture3.proofs.Bodies.{the_calls, the_replies}
+use Rattle.capture3.proofs.BodiesLemmas.{the_calls, the_replies}
 use Rattle.capture3.proofs.BodyProgramLemmas.{is_judged_once}
 use Rattle.capture3.proofs.laws.judged_once.Goals as goal
 

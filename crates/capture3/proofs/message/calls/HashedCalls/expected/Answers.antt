@@ -2,7 +2,7 @@ use Rattle.std.proofs.Common.{ap, nat_eq, sym, ◌∙◌, ℕ, List}
 use Rattle.std.specs.Map.{lookup}
 use Rattle.capture3.specs.declared.message.calls.NumberedCall.{NumberedCall}
 use Rattle.capture3.specs.machinery.Calls.{found}
-use Rattle.capture3.proofs.Hashed.{looked_up}
+use Rattle.capture3.proofs.HashedCallsLemmas.{looked_up}
 use Rattle.capture3.proofs.message.calls.HashedCalls.expected.Goals as goal
 
 pub returns-in-Some : goal.returns-in-Some

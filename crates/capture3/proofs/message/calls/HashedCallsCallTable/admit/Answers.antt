@@ -3,7 +3,7 @@ use Rattle.rpc_head.specs.declared.call.ProcId.{ProcId}
 use Rattle.capture3.specs.declared.message.calls.NumberedCall.{NumberedCall}
 use Rattle.capture3.specs.machinery.Calls.{found}
 use Rattle.capture3.specs.BodyProgram.{agrees}
-use Rattle.capture3.proofs.Hashed.{admitted, looked_up}
+use Rattle.capture3.proofs.HashedCallsLemmas.{admitted, looked_up}
 use Rattle.capture3.proofs.message.calls.HashedCallsCallTable.admit.Goals as goal
 
 pub returns-clause-agrees : goal.returns-clause-agrees

@@ -1,7 +1,7 @@
 use Rattle.std.proofs.Common.{ap, sym, ◌∙◌, List}
 use Rattle.capture3.specs.declared.message.calls.NumberedCall.{NumberedCall}
 use Rattle.capture3.specs.machinery.Calls.{found}
-use Rattle.capture3.proofs.Hashed.{looked_up}
+use Rattle.capture3.proofs.HashedCallsLemmas.{looked_up}
 use Rattle.capture3.proofs.message.calls.HashedCallsKnownCalls.procedure_of.Goals as goal
 
 pub returns-in-Some-clause-found : goal.returns-in-Some-clause-found

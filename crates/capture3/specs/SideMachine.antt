@@ -7,7 +7,7 @@ use Rattle.record_mark.specs.Joining.{Joining, Between, Header, Bytes}
 use Rattle.capture3.specs.declared.fault.Fault.{Fault}
 use Rattle.capture3.specs.Chunks.{max_bytes}
 use Rattle.capture3.specs.Records.{RecordFault, fault_at}
-use Rattle.capture3.specs.Reading.{Judge, Reading, stream_next, unread}
+use Rattle.capture3.specs.StreamMachine.{Judge, Reading, stream_next, unread}
 use Rattle.capture3.specs.Sides.{file_fault}
 
 -- in a length word, or in a chunk's bytes, with how many are left after the next

@@ -4,21 +4,21 @@ use Rattle.capture3.specs.Capture.{Version, One, Two, digit, magic_front, magic,
 use Rattle.capture3.specs.Chunks.{BeginsStream}
 use Rattle.capture3.specs.Connections.{Context, client_position, server_position, calls_in_turn, replies_to}
 use Rattle.capture3.specs.Entry.{Entry, Begin, Call, Turn}
-use Rattle.capture3.specs.Mixing.{SideWord, SideLength, SideChunk, MixedPoint, Mixing}
-use Rattle.capture3.specs.Opening.{Opening, InClient, InServer, InMixed, opening_entries}
-use Rattle.capture3.specs.Parsing.{Spot, Magic, Digit, Mark, Inside, Ended, Parsing, emitted}
+use Rattle.capture3.specs.SidedChunksMachine.{SideWord, SideLength, SideChunk, MixedPoint, Mixing}
+use Rattle.capture3.specs.ConnectionMachine.{Opening, InClient, InServer, InMixed, opening_entries}
+use Rattle.capture3.specs.FileMachine.{Spot, Magic, Digit, Mark, Inside, Ended, Parsing, emitted}
 use Rattle.capture3.specs.Reached.{ReachesInside, AreWhole, InMagic, BetweenConnections, InConnection}
-use Rattle.capture3.specs.Reading.{Reading}
+use Rattle.capture3.specs.StreamMachine.{Reading}
 use Rattle.capture3.specs.Records.{Judgement, HoldsSoFar}
 use Rattle.capture3.specs.Sides.{Position}
-use Rattle.capture3.specs.Siding.{Siding, Length, Chunk, Point}
+use Rattle.capture3.specs.SideMachine.{Siding, Length, Chunk, Point}
 use Rattle.capture3.specs.Typed.{reply_entry}
-use Rattle.capture3.proofs.Files.{HasSpot, Stands, magic_split}
+use Rattle.capture3.proofs.FileMachineLemmas.{HasSpot, Stands, magic_split}
 use Rattle.capture3.specs.SidedChunks.{Streams, BeginsMixed, size, gathered, with_more}
-use Rattle.capture3.proofs.Mixes.{HasMixed, HasMixedPoint}
-use Rattle.capture3.proofs.Openings.{HasOpening}
-use Rattle.capture3.proofs.Sides.{HasPoint, HasSide}
-use Rattle.capture3.proofs.Streams.{HasRead, has_read, holds_so_far}
+use Rattle.capture3.proofs.SidedChunksMachineLemmas.{HasMixed, HasMixedPoint}
+use Rattle.capture3.proofs.ConnectionMachineLemmas.{HasOpening}
+use Rattle.capture3.proofs.SideMachineLemmas.{HasPoint, HasSide}
+use Rattle.capture3.proofs.StreamMachineLemmas.{HasRead, has_read, holds_so_far}
 
 -- ---- a side
 

@@ -9,11 +9,11 @@ use Rattle.capture3.specs.declared.fault.Fault.{Fault}
 use Rattle.capture3.specs.Connections.{ShownFault}
 use Rattle.capture3.specs.Reached.{AreFirstReached}
 use Rattle.capture3.specs.Entry.{Entry, End}
-use Rattle.capture3.specs.Parsing.{Parsing, Spot, Magic, Digit, Mark, Inside, Ended, file_next, file_start, parsed, concluded, verdict, verdict_of, spot_entries, emitted, last_entries, reached}
+use Rattle.capture3.specs.FileMachine.{Parsing, Spot, Magic, Digit, Mark, Inside, Ended, file_next, file_start, parsed, concluded, verdict, verdict_of, spot_entries, emitted, last_entries, reached}
 use Rattle.capture3.specs.Reached.{Reached}
-use Rattle.capture3.specs.machinery.Resumed.{Judged, Agrees, emitted_at, parsing_at}
-use Rattle.capture3.specs.machinery.Unpacking.{Unpacking}
-use Rattle.capture3.proofs.Emits.{reached_by_machine}
+use Rattle.capture3.specs.machinery.FileStanding.{Judged, Agrees, emitted_at, parsing_at}
+use Rattle.capture3.specs.machinery.ContainerMachine.{Unpacking}
+use Rattle.capture3.proofs.EmittedEntries.{reached_by_machine}
 use Rattle.capture3.proofs.Growing.{Adds, grows}
 use Rattle.capture3.proofs.Verdicts.{typed_from_verdict}
 

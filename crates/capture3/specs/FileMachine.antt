@@ -8,7 +8,7 @@ use Rattle.capture3.specs.declared.fault.Fault.{Fault}
 use Rattle.capture3.specs.Capture.{Version, One, Two, digit, magic_front, max_connections}
 use Rattle.capture3.specs.Connections.{ShownFault, refusal}
 use Rattle.capture3.specs.Entry.{Entry, End}
-use Rattle.capture3.specs.Opening.{Opening, Closing, Closes, Refuses, opening_next, opened, opening_entries}
+use Rattle.capture3.specs.ConnectionMachine.{Opening, Closing, Closes, Refuses, opening_next, opened, opening_entries}
 use Rattle.capture3.specs.Sides.{file_fault}
 
 -- before a byte of the magic, before its last byte, in a connection word, in a connection, or after the last word 0

@@ -13,16 +13,16 @@ use Rattle.capture3.specs.Connections.{ShownFault, refusal}
 use Rattle.capture3.specs.Entry.{Entry}
 use Rattle.capture3.specs.Entry as entries
 use Rattle.capture3.specs.BodyProgram.{judge_call, judge_reply}
-use Rattle.capture3.specs.Opening.{InClient, InServer, InMixed, client_said}
-use Rattle.capture3.specs.Parsing as parsing
-use Rattle.capture3.specs.Parsing.{Parsing, Spot}
-use Rattle.capture3.specs.Reading.{stream_end}
+use Rattle.capture3.specs.ConnectionMachine.{InClient, InServer, InMixed, client_said}
+use Rattle.capture3.specs.FileMachine as parsing
+use Rattle.capture3.specs.FileMachine.{Parsing, Spot}
+use Rattle.capture3.specs.StreamMachine.{stream_end}
 use Rattle.capture3.specs.Records.{fault_at}
 use Rattle.capture3.specs.Sides.{place_at}
-use Rattle.capture3.specs.Siding as siding
-use Rattle.capture3.specs.Siding.{Siding}
+use Rattle.capture3.specs.SideMachine as siding
+use Rattle.capture3.specs.SideMachine.{Siding}
 use Rattle.capture3.specs.Typed.{connection_entries, reply_entry}
-use Rattle.capture3.specs.machinery.Unpacking.{Opened, Magic, Digit, Mark, Length, Chunk, Mixed, Ended, Unpacking, Unpacked, Has, HasStreams, Refuses}
+use Rattle.capture3.specs.machinery.ContainerMachine.{Opened, Magic, Digit, Mark, Length, Chunk, Mixed, Ended, Unpacking, Unpacked, Has, HasStreams, Refuses}
 use Rattle.capture3.specs.SidedChunks.{Streams}
 
 -- What has been judged: where the open connection begins and the stream bytes before it, the entries of whole connections, and the open

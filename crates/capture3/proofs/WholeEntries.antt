@@ -13,11 +13,11 @@ use Rattle.capture3.specs.Bodies.{ReplyItems}
 use Rattle.capture3.specs.Entry.{Entry}
 use Rattle.capture3.specs.Entry as entries
 use Rattle.capture3.specs.Typed.{reply_entry}
-use Rattle.capture3.specs.machinery.Resumed.{Judged, client_entries, server_entries, emitted_at, EmitsOn}
+use Rattle.capture3.specs.machinery.FileStanding.{Judged, client_entries, server_entries, emitted_at, EmitsOn}
 use Rattle.capture3.specs.Capture.{Version, One, Two}
-use Rattle.capture3.specs.Mixing.{Mixing, MixedEnd, MixedCloses, MixedRefuses, mixed_step}
-use Rattle.capture3.specs.machinery.Unpacking.{Opened, Magic, Digit, Mark, Length, Chunk, Mixed, Ended, Unpacking, Unpacked, Has, at_byte, left_of_magic, begun_at, mixed_at, mixed_ended, connection_marked, chunk_counted, record_joined, in_chunk, unpack_next}
-use Rattle.capture3.proofs.Resumptions.{at_unpacking}
+use Rattle.capture3.specs.SidedChunksMachine.{Mixing, MixedEnd, MixedCloses, MixedRefuses, mixed_step}
+use Rattle.capture3.specs.machinery.ContainerMachine.{Opened, Magic, Digit, Mark, Length, Chunk, Mixed, Ended, Unpacking, Unpacked, Has, at_byte, left_of_magic, begun_at, mixed_at, mixed_ended, connection_marked, chunk_counted, record_joined, in_chunk, unpack_next}
+use Rattle.capture3.proofs.FileStandingLemmas.{at_unpacking}
 
 map_one_more : {X Y : Type 0} (f : X → Y) (xs : List X) (x : X) → map f (xs ++ x ∷ []) ≡ map f xs ++ f x ∷ []
 map_one_more f [] x = refl

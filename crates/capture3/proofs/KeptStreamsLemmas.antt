@@ -18,24 +18,24 @@ use Rattle.capture3.specs.Entry as entries
 use Rattle.capture3.specs.FirstFault.{Shows, FirstFault}
 use Rattle.capture3.specs.BodyProgram.{judge_call, judge_reply}
 use Rattle.capture3.specs.machinery.Messages.{IsTableOf}
-use Rattle.capture3.specs.Opening.{Opening, Closing, judge_replies, server_said, client_said}
-use Rattle.capture3.specs.Parsing as parsing
-use Rattle.capture3.specs.Parsing.{Parsing, file_next, file_start, parsed, emitted, verdict, verdict_of, last_entries, reached}
+use Rattle.capture3.specs.ConnectionMachine.{Opening, Closing, judge_replies, server_said, client_said}
+use Rattle.capture3.specs.FileMachine as parsing
+use Rattle.capture3.specs.FileMachine.{Parsing, file_next, file_start, parsed, emitted, verdict, verdict_of, last_entries, reached}
 use Rattle.capture3.specs.Reached.{AreFirstReached, Reached}
-use Rattle.capture3.specs.Reading.{Judge, Reading, judged, StreamEnd, Held, Faulty, left_in, end_of, rest_end, stream_end, stream_next, recorded}
-use Rattle.capture3.specs.machinery.Recalled.{between_records, Recalls, ShowsFirst}
+use Rattle.capture3.specs.StreamMachine.{Judge, Reading, judged, StreamEnd, Held, Faulty, left_in, end_of, rest_end, stream_end, stream_next, recorded}
+use Rattle.capture3.specs.machinery.KeptStreams.{between_records, Recalls, ShowsFirst}
 use Rattle.capture3.specs.Records.{RecordFault}
-use Rattle.capture3.specs.machinery.Resumed.{Judged, parsing_in, parsing_at, client_entries, server_entries, with_call, with_reply, turned, connection_closed}
+use Rattle.capture3.specs.machinery.FileStanding.{Judged, parsing_in, parsing_at, client_entries, server_entries, with_call, with_reply, turned, connection_closed}
 use Rattle.capture3.specs.SidedChunks.{Streams}
 use Rattle.capture3.specs.Typed.{reply_entry, connection_entries}
-use Rattle.capture3.specs.machinery.Unpacking.{Unpacking, Mark}
+use Rattle.capture3.specs.machinery.ContainerMachine.{Unpacking, Mark}
 use Rattle.capture3.proofs.BytesOf.{split_bytes}
-use Rattle.capture3.proofs.Emissions.{call_added, reply_added}
+use Rattle.capture3.proofs.WholeEntries.{call_added, reply_added}
 use Rattle.capture3.proofs.StreamEnds.{rest_accepts, rest_refuses, rest_leaves}
 use Rattle.std.proofs.lemmas.List.{map-append}
-use Rattle.capture3.proofs.Refusals.{first_reached_at}
+use Rattle.capture3.proofs.ReachedBeforeFaults.{first_reached_at}
 use Rattle.capture3.proofs.Verdicts.{clean_from_runs, shows_from_stops, stays, told, verdict_from_typed}
-use Rattle.capture3.proofs.Reaches.{stands_whole}
+use Rattle.capture3.proofs.ReachedLemmas.{stands_whole}
 
 -- ---- the rest of a stream
 

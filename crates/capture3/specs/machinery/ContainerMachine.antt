@@ -13,8 +13,8 @@ use Rattle.capture3.specs.declared.container.position.TheConstants.{MAGIC}
 use Rattle.capture3.specs.declared.container.position.Event.{Event}
 use Rattle.capture3.specs.declared.container.position.Event.TheVariants.{Begin, Record, Turn, Close}
 use Rattle.capture3.specs.Capture.{Version, One, Two, digit}
-use Rattle.capture3.specs.Mixing.{MixedPoint, SideWord, Mixing, MixedEnd, MixedCloses, MixedRefuses, mixed_step, awaiting_side, measured, sided}
-use Rattle.capture3.specs.Mixing as mixing
+use Rattle.capture3.specs.SidedChunksMachine.{MixedPoint, SideWord, Mixing, MixedEnd, MixedCloses, MixedRefuses, mixed_step, awaiting_side, measured, sided}
+use Rattle.capture3.specs.SidedChunksMachine as mixing
 use Rattle.capture3.specs.SidedChunks.{Streams, gathered}
 
 -- the part that is open: bytes of the magic that are due, its last byte, a connection word's bytes so far, the bytes so far of a chunk's length word, a chunk and

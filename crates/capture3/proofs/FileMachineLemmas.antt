@@ -16,14 +16,14 @@ use Rattle.capture3.specs.Chunks.{max_bytes}
 use Rattle.capture3.specs.Connections.{Context, ShownFault, refusal}
 use Rattle.capture3.specs.Entry.{Entry}
 use Rattle.capture3.specs.FirstFault.{DiffersFromMagic}
-use Rattle.capture3.specs.Opening.{Opening, Closing, Closes, Refuses, opening_next, opened}
-use Rattle.capture3.specs.Parsing.{Spot, Magic, Digit, Mark, Inside, Ended, Parsing, magic_left, marked, closed, spot_step, file_next, file_start, parsed}
+use Rattle.capture3.specs.ConnectionMachine.{Opening, Closing, Closes, Refuses, opening_next, opened}
+use Rattle.capture3.specs.FileMachine.{Spot, Magic, Digit, Mark, Inside, Ended, Parsing, magic_left, marked, closed, spot_step, file_next, file_start, parsed}
 use Rattle.capture3.specs.Reached.{Opens}
 use Rattle.capture3.specs.Sides.{file_fault}
 use Rattle.capture3.specs.Typed.{connection_entries, HaveEntries}
-use Rattle.capture3.proofs.Strict.{ConnectionShows, AfterConnections, Rule, MagicDiffers, MarkIsBad, ConnectionIsTooMany, WithinConnection, ByteAfterEnd}
+use Rattle.capture3.proofs.StrictRules.{ConnectionShows, AfterConnections, Rule, MagicDiffers, MarkIsBad, ConnectionIsTooMany, WithinConnection, ByteAfterEnd}
 use Rattle.capture3.proofs.BytesOf.{split_bytes}
-use Rattle.capture3.proofs.Openings.{HasOpening, ClosesConnection, EndsConnection, opening_leads, opening_runs, opening_stops, nothing_opened}
+use Rattle.capture3.proofs.ConnectionMachineLemmas.{HasOpening, ClosesConnection, EndsConnection, opening_leads, opening_runs, opening_stops, nothing_opened}
 use Rattle.capture3.proofs.Telling.{tells_bytes}
 
 -- a part of the magic

@@ -24,18 +24,18 @@ use Rattle.capture3.specs.FirstFault.{FirstFault}
 use Rattle.capture3.specs.machinery.EntryParser.{StandsAt, StandsOrRecalls, HasCome, GoesTo, FailsAt, IsHeld}
 use Rattle.capture3.specs.Kept.{IsKept, AreKept, begun}
 use Rattle.capture3.specs.Laws.{begins}
-use Rattle.capture3.specs.Parsing.{concluded, verdict_of}
+use Rattle.capture3.specs.FileMachine.{concluded, verdict_of}
 use Rattle.capture3.specs.Entries.{OnRefused}
 use Rattle.capture3.specs.machinery.Position.{opened_at, version_of, IsEnded}
-use Rattle.capture3.specs.machinery.Recalled.{ShowsFirst}
-use Rattle.capture3.specs.machinery.Resumed.{Judged, resumed_at, emitted_at}
+use Rattle.capture3.specs.machinery.KeptStreams.{ShowsFirst}
+use Rattle.capture3.specs.machinery.FileStanding.{Judged, resumed_at, emitted_at}
 use Rattle.capture3.specs.SidedChunks.{Streams}
 use Rattle.capture3.specs.Sides.{file_fault}
 use Rattle.capture3.specs.Typed.{Typed}
 use Rattle.capture3.specs.declared.container.position.TheConstants.{MAGIC}
-use Rattle.capture3.specs.machinery.Unpacking.{left_of_magic, Opened, Magic, Digit, Mark, Length, Chunk, Mixed, Ended}
-use Rattle.capture3.proofs.Containers.{taken_more}
-use Rattle.capture3.proofs.Recalls.{first_of}
+use Rattle.capture3.specs.machinery.ContainerMachine.{left_of_magic, Opened, Magic, Digit, Mark, Length, Chunk, Mixed, Ended}
+use Rattle.capture3.proofs.ContainerLemmas.{taken_more}
+use Rattle.capture3.proofs.KeptStreamsLemmas.{first_of}
 use Rattle.capture3.proofs.Verdicts.{typed_from_verdict, fault_from_verdict}
 
 pub kept_snoc : (items : List kept.Entry) (model : List Entry) (one : kept.Entry) (entry : Entry) → AreKept items model → IsKept one entry → AreKept (items ++ one ∷ []) (model ++ entry ∷ [])

@@ -15,7 +15,7 @@ use Rattle.capture3.specs.declared.message.calls.NumberedCall.{NumberedCall}
 use Rattle.capture3.specs.Bodies.{IsCall, IsReply, Starts, xid_in, procedure_of}
 use Rattle.capture3.specs.BodyProgram.{judge_call, judge_reply, read_whole}
 use Rattle.capture3.specs.machinery.Spelled.{SpellsCall, SpellsReply}
-use Rattle.capture3.proofs.Bodies.{call_accepts, call_starts, reply_accepts, reply_starts, start_of, start_read}
+use Rattle.capture3.proofs.BodiesLemmas.{call_accepts, call_starts, reply_accepts, reply_starts, start_of, start_read}
 use Rattle.capture3.proofs.Layouts.{whole_read}
 
 ok_err : {A E : Type 0} (r : Result A E) (a : A) (e : E) → r ≡ Ok a → r ≡ Err e → ⊥

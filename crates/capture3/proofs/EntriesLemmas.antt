@@ -37,11 +37,11 @@ use Rattle.capture3.specs.FirstFault.{FirstFault, IsClean}
 use Rattle.capture3.specs.machinery.EntryParser.{StandsAt, StandsOrRecalls, HasCome, after_side_word, GoesTo, FailsAt, IsHeld, IsOfBytes, entry_cost}
 use Rattle.capture3.specs.Kept.{IsOfKind}
 use Rattle.capture3.specs.Laws.{begins, most_bytes}
-use Rattle.capture3.specs.Parsing.{Parsing, parsed, emitted}
+use Rattle.capture3.specs.FileMachine.{Parsing, parsed, emitted}
 use Rattle.capture3.specs.machinery.Position.{AreEmpty, IsBeforeMark, IsEnded, IsSoundPosition, IsSoundSpot, StoredAt, opened_at}
 use Rattle.capture3.specs.Laws.{most_entries}
 use Rattle.capture3.specs.Reached.{AreFirstReached, AreWhole, Reached}
-use Rattle.capture3.specs.machinery.Resumed.{parsing_at}
+use Rattle.capture3.specs.machinery.FileStanding.{parsing_at}
 use Rattle.capture3.specs.SidedChunks.{Streams}
 use Rattle.capture3.specs.Sides.{file_fault}
 use Rattle.capture3.specs.Typed.{IsWellFormed, Typed}
@@ -50,10 +50,10 @@ use Rattle.capture3.proofs.BytesOf.{AreBytes-append, split_bytes}
 use Rattle.capture3.proofs.EntryParserLemmas.{untold}
 use Rattle.capture3.proofs.Limits.{begins-append, typed_within}
 use Rattle.capture3.proofs.Growing.{emitted_is}
-use Rattle.capture3.proofs.Parsed.{cut_at, typed_at}
-use Rattle.capture3.proofs.Reaches.{stands_whole}
-use Rattle.capture3.proofs.Recalls.{first_of, recalled_first}
-use Rattle.capture3.proofs.Refusals.{first_reached_at}
+use Rattle.capture3.proofs.WholeFiles.{cut_at, typed_at}
+use Rattle.capture3.proofs.ReachedLemmas.{stands_whole}
+use Rattle.capture3.proofs.KeptStreamsLemmas.{first_of, recalled_first}
+use Rattle.capture3.proofs.ReachedBeforeFaults.{first_reached_at}
 use Rattle.capture3.proofs.Sizes.{clean_most}
 use Rattle.capture3.proofs.Verdicts.{clean_from_runs, told, verdict_from_fault, verdict_from_typed}
 

@@ -10,8 +10,8 @@ use Rattle.record_mark.proofs.Joins.{join_leads, record_stops, too_long_stops, j
 use Rattle.xdr3.specs.Item.{AreBytes}
 use Rattle.xdr3.specs.declared.reason.Stop.{Stop}
 use Rattle.capture3.specs.Records.{Judgement, AreMessages, Holds, HoldsSoFar, RecordFault}
-use Rattle.capture3.specs.Reading.{Reading, judged, recorded, stream_next, unread}
-use Rattle.capture3.proofs.Strict.{StreamShows}
+use Rattle.capture3.specs.StreamMachine.{Reading, judged, recorded, stream_next, unread}
+use Rattle.capture3.proofs.StrictRules.{StreamShows}
 use Rattle.capture3.proofs.BytesOf.{split_bytes, record_bytes}
 use Rattle.capture3.proofs.BodyProgramLemmas.{Judged}
 

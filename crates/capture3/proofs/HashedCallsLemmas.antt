@@ -9,7 +9,7 @@ use Rattle.rpc_head.specs.declared.call.ProcId.{ProcId}
 use Rattle.capture3.specs.declared.message.calls.NumberedCall.{NumberedCall}
 use Rattle.capture3.specs.machinery.Calls.{found, numbered_calls, with_numbered_call}
 use Rattle.capture3.specs.BodyProgram.{agrees}
-use Rattle.capture3.proofs.Bodies.{same_is}
+use Rattle.capture3.proofs.BodiesLemmas.{same_is}
 
 same_either_way : (a b : ℕ) → nat_eq a b ≡ nat_eq b a
 same_either_way a b = by_tests (nat_eq a b) refl (nat_eq b a) refl

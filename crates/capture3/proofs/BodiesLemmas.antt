@@ -21,7 +21,7 @@ use Rattle.capture3.specs.Bodies.{ReplyItems, IsCall, IsReply, xid_in, procedure
 use Rattle.capture3.specs.Bodies as bodies
 use Rattle.capture3.specs.Connections.{calls_in_turn, replies_to}
 use Rattle.capture3.specs.BodyProgram.{read_whole, is_same, agrees, agreed, call_after, answering, reply_after, judge_call, judge_reply}
-use Rattle.capture3.specs.Opening.{judge_replies}
+use Rattle.capture3.specs.ConnectionMachine.{judge_replies}
 use Rattle.capture3.proofs.BodyProgramLemmas.{Judged}
 use Rattle.capture3.proofs.Layouts.{whole_read, refused_read, more_read, is_whole, is_refused}
 

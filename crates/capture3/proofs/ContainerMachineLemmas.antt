@@ -7,10 +7,10 @@ use Rattle.record_mark.proofs.Machines.{after-append, nested_runs, nested_stops}
 use Rattle.record_mark.proofs.Words.{word_runs, word_stops}
 use Rattle.capture3.specs.declared.fault.Side.{Side}
 use Rattle.capture3.specs.Capture.{Version}
-use Rattle.capture3.specs.Mixing.{MixedPoint, Mixing, SideWord, SideLength, awaiting_side, measured, mixed_next, sided}
+use Rattle.capture3.specs.SidedChunksMachine.{MixedPoint, Mixing, SideWord, SideLength, awaiting_side, measured, mixed_next, sided}
 use Rattle.capture3.specs.SidedChunks.{Streams, with_more}
-use Rattle.capture3.specs.machinery.Unpacking.{Mark, Length, Mixed, Unpacking, chunk_counted, in_side_chunk, connection_marked, mixed_at, mixed_ended, sides_counted, sides_marked, unpack_next}
-use Rattle.capture3.proofs.Mixes.{chunk_bytes}
+use Rattle.capture3.specs.machinery.ContainerMachine.{Mark, Length, Mixed, Unpacking, chunk_counted, in_side_chunk, connection_marked, mixed_at, mixed_ended, sides_counted, sides_marked, unpack_next}
+use Rattle.capture3.proofs.SidedChunksMachineLemmas.{chunk_bytes}
 
 -- from a part of a word
 from_part : (part bytes : List ℕ) → length part < 4 → after word_next (Runs part) bytes ≡ after word_next (Runs []) (part ++ bytes)

@@ -9,12 +9,12 @@ use Rattle.capture3.specs.declared.fault.Fault.{Fault}
 use Rattle.capture3.specs.Connections.{ShownFault}
 use Rattle.capture3.specs.Entry.{Entry}
 use Rattle.capture3.specs.FirstFault.{Shows}
-use Rattle.capture3.specs.Parsing.{Parsing, file_next, file_start, parsed, verdict, emitted, last_entries, reached}
+use Rattle.capture3.specs.FileMachine.{Parsing, file_next, file_start, parsed, verdict, emitted, last_entries, reached}
 use Rattle.capture3.specs.Reached.{IsLongestClean, Reached}
 use Rattle.capture3.specs.Typed.{IsWellFormed}
 use Rattle.capture3.proofs.BytesOf.{split_bytes}
-use Rattle.capture3.proofs.Files.{file_runs}
-use Rattle.capture3.proofs.Reaches.{whole_stands, stands_whole}
+use Rattle.capture3.proofs.FileMachineLemmas.{file_runs}
+use Rattle.capture3.proofs.ReachedLemmas.{whole_stands, stands_whole}
 use Rattle.capture3.proofs.Verdicts.{told, shows_from_stops, stops_from_shows, clean_from_runs, typed_from_verdict, verdict_from_typed}
 
 -- what the machine emits is what the bytes reach

@@ -14,19 +14,19 @@ use Rattle.capture3.specs.Bodies.{ReplyItems}
 use Rattle.capture3.specs.Connections.{ShownFault, refusal}
 use Rattle.capture3.specs.BodyProgram.{judge_call, judge_reply}
 use Rattle.capture3.specs.Capture.{Version, One, Two}
-use Rattle.capture3.specs.Mixing.{Mixing, MixedEnd, MixedCloses, MixedRefuses, mixed_step}
-use Rattle.capture3.specs.Opening.{InClient, InServer, InMixed, conversing, ending, judge_replies, opened, turning}
-use Rattle.capture3.specs.Reading.{judged, recorded}
-use Rattle.capture3.specs.Siding as siding
-use Rattle.capture3.specs.Siding.{Siding, SideEnd, SideRefuses}
+use Rattle.capture3.specs.SidedChunksMachine.{Mixing, MixedEnd, MixedCloses, MixedRefuses, mixed_step}
+use Rattle.capture3.specs.ConnectionMachine.{InClient, InServer, InMixed, conversing, ending, judge_replies, opened, turning}
+use Rattle.capture3.specs.StreamMachine.{judged, recorded}
+use Rattle.capture3.specs.SideMachine as siding
+use Rattle.capture3.specs.SideMachine.{Siding, SideEnd, SideRefuses}
 use Rattle.capture3.specs.declared.fault.Place.TheVariants as places
 use Rattle.xdr3.specs.declared.reason.Reason.{Reason}
-use Rattle.capture3.specs.Parsing as parsing
-use Rattle.capture3.specs.Parsing.{Parsing, file_next}
+use Rattle.capture3.specs.FileMachine as parsing
+use Rattle.capture3.specs.FileMachine.{Parsing, file_next}
 use Rattle.capture3.specs.declared.fault.Fault.{Fault}
 use Rattle.capture3.specs.Sides.{file_fault, place_at}
-use Rattle.capture3.specs.machinery.Resumed.{Judged, parsing_in, siding_at, parsing_at, resumed, call_judged, reply_judged, Agrees, AgreesAt, AgreesOn}
-use Rattle.capture3.specs.machinery.Unpacking.{Opened, Magic, Digit, Mark, Length, Chunk, Mixed, Ended, Unpacking, Unpacked, Has, Refuses, at_byte, left_of_magic, begun_at, connection_marked, chunk_counted, record_joined, in_chunk, mixed_at, mixed_ended, unpack_next}
+use Rattle.capture3.specs.machinery.FileStanding.{Judged, parsing_in, siding_at, parsing_at, resumed, call_judged, reply_judged, Agrees, AgreesAt, AgreesOn}
+use Rattle.capture3.specs.machinery.ContainerMachine.{Opened, Magic, Digit, Mark, Length, Chunk, Mixed, Ended, Unpacking, Unpacked, Has, Refuses, at_byte, left_of_magic, begun_at, connection_marked, chunk_counted, record_joined, in_chunk, mixed_at, mixed_ended, unpack_next}
 
 -- where the two machines stand
 abbrev pub at_unpacking : (at total connections records : ℕ) → Joining → Opened → Unpacking

@@ -12,14 +12,14 @@ use Rattle.xdr3.specs.declared.reason.Reason.TheVariants.{RecordCut, TooManyByte
 use Rattle.capture3.specs.declared.fault.Fault.{Fault}
 use Rattle.capture3.specs.Chunks.{max_bytes, IsChunk, AreChunks, IsStream}
 use Rattle.capture3.specs.Records.{Judgement, Holds, RecordFault, fault_at}
-use Rattle.capture3.specs.Reading.{Reading, stream_next, unread}
+use Rattle.capture3.specs.StreamMachine.{Reading, stream_next, unread}
 use Rattle.capture3.specs.Sides.{Position, file_fault, place_in}
-use Rattle.capture3.specs.Siding.{Point, Length, Chunk, Siding, SideEnd, SideCloses, SideRefuses, awaiting, closing, counted, side_next}
-use Rattle.capture3.specs.machinery.Siding.{side_start}
-use Rattle.capture3.proofs.Strict.{StreamShows, PassesBytes, CutsRecord, ShowsRecord, SideShows}
+use Rattle.capture3.specs.SideMachine.{Point, Length, Chunk, Siding, SideEnd, SideCloses, SideRefuses, awaiting, closing, counted, side_next}
+use Rattle.capture3.specs.machinery.SideMachine.{side_start}
+use Rattle.capture3.proofs.StrictRules.{StreamShows, PassesBytes, CutsRecord, ShowsRecord, SideShows}
 use Rattle.capture3.proofs.BytesOf.{split_bytes, AreBytes-append, chunk_bytes}
 use Rattle.capture3.proofs.BodyProgramLemmas.{Judged}
-use Rattle.capture3.proofs.Streams.{HasRead, stream_leads, nothing_read, stream_runs, stream_stops, has_read, holds_so_far}
+use Rattle.capture3.proofs.StreamMachineLemmas.{HasRead, stream_leads, nothing_read, stream_runs, stream_stops, has_read, holds_so_far}
 
 -- in a length word after whole chunks
 pub record InLength {M : Type 0} (judge : Judgement M) (position : Position) (bytes : List ℕ) (at total : ℕ) (reading : Reading M) (part : List ℕ) : Type 0 where

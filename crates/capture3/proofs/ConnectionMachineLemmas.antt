@@ -11,19 +11,19 @@ use Rattle.capture3.specs.Chunks.{max_bytes, IsStream}
 use Rattle.capture3.specs.Connections.{Context, client_position, server_position, calls_in_turn, replies_to}
 use Rattle.capture3.specs.Entry.{Entry}
 use Rattle.capture3.specs.BodyProgram.{judge_call}
-use Rattle.capture3.specs.Mixing.{MixedEnd, MixedCloses, MixedRefuses, mixed_next, mixing_from}
-use Rattle.capture3.specs.Opening.{judge_replies, Opening, InClient, InServer, InMixed, Closing, Closes, Refuses, turning, ending, server_said, client_said, conversing, opening_next, opened}
-use Rattle.capture3.specs.Reading.{StreamEnd, Held, Faulty, stream_end}
+use Rattle.capture3.specs.SidedChunksMachine.{MixedEnd, MixedCloses, MixedRefuses, mixed_next, mixing_from}
+use Rattle.capture3.specs.ConnectionMachine.{judge_replies, Opening, InClient, InServer, InMixed, Closing, Closes, Refuses, turning, ending, server_said, client_said, conversing, opening_next, opened}
+use Rattle.capture3.specs.StreamMachine.{StreamEnd, Held, Faulty, stream_end}
 use Rattle.capture3.specs.Records.{Holds}
 use Rattle.capture3.specs.Sides.{place_at}
-use Rattle.capture3.specs.Siding.{Siding, SideEnd, SideCloses, SideRefuses, side_next, siding_from}
+use Rattle.capture3.specs.SideMachine.{Siding, SideEnd, SideCloses, SideRefuses, side_next, siding_from}
 use Rattle.capture3.specs.Typed.{Converses, connection_entries}
-use Rattle.capture3.proofs.Strict.{ConnectionShows, InClientStream, InServerStream}
-use Rattle.capture3.proofs.Bodies.{the_calls, the_replies}
+use Rattle.capture3.proofs.StrictRules.{ConnectionShows, InClientStream, InServerStream}
+use Rattle.capture3.proofs.BodiesLemmas.{the_calls, the_replies}
 use Rattle.capture3.proofs.BytesOf.{split_bytes, mixed_bytes}
-use Rattle.capture3.proofs.Converses.{conversed, calls_hold, replies_hold}
-use Rattle.capture3.proofs.Mixes.{HasMixed, ClosesMixed, EndsMixed, mixed_leads, mixed_runs, mixed_stops, nothing_gathered}
-use Rattle.capture3.proofs.Sides.{HasSide, EndsSide, side_leads, nothing_taken, side_runs, side_stops}
+use Rattle.capture3.proofs.JudgedInTurn.{conversed, calls_hold, replies_hold}
+use Rattle.capture3.proofs.SidedChunksMachineLemmas.{HasMixed, ClosesMixed, EndsMixed, mixed_leads, mixed_runs, mixed_stops, nothing_gathered}
+use Rattle.capture3.proofs.SideMachineLemmas.{HasSide, EndsSide, side_leads, nothing_taken, side_runs, side_stops}
 use Rattle.capture3.proofs.StreamEnds.{EndsStream, ends_stream, stream_ends}
 
 -- after the client side

@@ -10,13 +10,13 @@ use Rattle.capture3.specs.Entry.{Entry}
 use Rattle.capture3.specs.Entry as entries
 use Rattle.capture3.specs.BodyProgram.{judge_call}
 use Rattle.capture3.specs.machinery.Messages.{IsTableOf}
-use Rattle.capture3.specs.Opening.{judge_replies}
-use Rattle.capture3.specs.Parsing.{Parsing, file_next, parsed, emitted}
-use Rattle.capture3.specs.Reading.{Reading, Held, rest_end, stream_end}
+use Rattle.capture3.specs.ConnectionMachine.{judge_replies}
+use Rattle.capture3.specs.FileMachine.{Parsing, file_next, parsed, emitted}
+use Rattle.capture3.specs.StreamMachine.{Reading, Held, rest_end, stream_end}
 use Rattle.record_mark.specs.Joining.{Between}
-use Rattle.capture3.specs.machinery.Resumed.{Judged, conversed, client_entries, server_entries}
+use Rattle.capture3.specs.machinery.FileStanding.{Judged, conversed, client_entries, server_entries}
 use Rattle.capture3.specs.SidedChunks.{Streams}
-use Rattle.capture3.specs.machinery.Unpacking.{Unpacking}
+use Rattle.capture3.specs.machinery.ContainerMachine.{Unpacking}
 use Rattle.record_mark.specs.Machine.{Ends}
 
 -- after these messages, before the next record

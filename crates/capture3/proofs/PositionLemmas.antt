@@ -22,11 +22,11 @@ use Rattle.record_mark.specs.declared.word_part.Word.TheVariants.{Part, Whole}
 use Rattle.record_mark.specs.WordPart.{bytes_so_far, TakesWord}
 use Rattle.record_mark.proofs.WordParts.{short_part}
 use Rattle.capture3.specs.declared.container.position.Version as declared
-use Rattle.capture3.specs.machinery.Unpacking.{Unpacking, Unpacked, Has, at_byte, before_mark, begun_at, chunk_counted, in_chunk, left_of_magic, connection_marked, sides_counted, sides_marked, unpack_next}
+use Rattle.capture3.specs.machinery.ContainerMachine.{Unpacking, Unpacked, Has, at_byte, before_mark, begun_at, chunk_counted, in_chunk, left_of_magic, connection_marked, sides_counted, sides_marked, unpack_next}
 use Rattle.capture3.specs.Capture.{Version, One, Two}
 use Rattle.capture3.specs.SidedChunks.{Streams}
 use Rattle.capture3.specs.machinery.Position.{unpacking_at, version_of, Lands, Moves, ShowsFault}
-use Rattle.capture3.proofs.Unpackings.{mark_goes_on, mark_ends, length_goes_on, length_ends, side_goes_on, side_ends, side_length_goes_on, side_length_ends}
+use Rattle.capture3.proofs.ContainerMachineLemmas.{mark_goes_on, mark_ends, length_goes_on, length_ends, side_goes_on, side_ends, side_length_goes_on, side_length_ends}
 
 -- the position with another spot
 abbrev pub with_spot : Position → Spot → Position

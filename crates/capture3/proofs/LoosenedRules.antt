@@ -7,7 +7,7 @@ use Rattle.capture3.specs.Connections.{Context, ShownFault, calls_in_turn, repli
 use Rattle.capture3.specs.FirstFault.{AfterConnections, Rule, MagicDiffers, MarkIsBad, ConnectionIsTooMany, WithinConnection, ByteAfterEnd}
 use Rattle.capture3.specs.Records.{Judgement, AreMessages, RecordFault, StreamShows, IsCut}
 use Rattle.capture3.specs.Sides.{Position, SideShows}
-use Rattle.capture3.proofs.Strict as strict
+use Rattle.capture3.proofs.StrictRules as strict
 
 -- as many messages as bodies
 as_many : {M : Type 0} (judge : Judgement M) (bodies : List (List ℕ)) (before messages : List M) → AreMessages judge before bodies messages → length messages ≡ length bodies

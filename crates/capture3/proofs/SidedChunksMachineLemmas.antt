@@ -9,10 +9,10 @@ use Rattle.capture3.specs.declared.fault.Side.{Side}
 use Rattle.capture3.specs.declared.fault.Side.TheVariants.{Client, Server}
 use Rattle.capture3.specs.Chunks.{max_bytes}
 use Rattle.capture3.specs.Connections.{Context}
-use Rattle.capture3.specs.Mixing.{MixedPoint, SideWord, SideLength, SideChunk, Mixing, MixedEnd, MixedCloses, MixedRefuses, awaiting_side, sided, measured, mixed_step, mixed_next, mixing_from}
+use Rattle.capture3.specs.SidedChunksMachine.{MixedPoint, SideWord, SideLength, SideChunk, Mixing, MixedEnd, MixedCloses, MixedRefuses, awaiting_side, sided, measured, mixed_step, mixed_next, mixing_from}
 use Rattle.capture3.specs.SidedChunks.{Streams, size, SidedChunk, IsSidedChunk, side_word, of_side, gathered, carried_by, with_more, AreMixed}
 use Rattle.capture3.specs.Sides.{file_fault}
-use Rattle.capture3.proofs.Strict.{AfterLength, MixedShows, BadSide, NoLength, TooMuch}
+use Rattle.capture3.proofs.StrictRules.{AfterLength, MixedShows, BadSide, NoLength, TooMuch}
 
 -- after whole chunks, in a side word
 pub record InSideWord (context : Context) (bytes : List ℕ) (at total : ℕ) (streams : Streams) (part : List ℕ) : Type 0 where

@@ -14,11 +14,11 @@ use Rattle.capture3.specs.declared.container.position.Event.{Event}
 use Rattle.capture3.specs.declared.container.position.Event.TheVariants.{Begin, Record, Turn, Close}
 use Rattle.capture3.specs.declared.container.position.Event.TheVariants.{Streams as Gathered}
 use Rattle.capture3.specs.SidedChunks.{Streams, size, with_more}
-use Rattle.capture3.proofs.Unpackings.{side_chunk_kept}
+use Rattle.capture3.proofs.ContainerMachineLemmas.{side_chunk_kept}
 use Rattle.capture3.specs.declared.container.position.Position.{Position}
 use Rattle.capture3.specs.declared.container.position.Spot.TheVariants.{Chunk, SideChunk}
 use Rattle.capture3.specs.declared.container.position.Taken.{Taken}
-use Rattle.capture3.specs.machinery.Unpacking.{Unpacking, Has, in_chunk, in_side_chunk, in_record, record_joined, unpack_next}
+use Rattle.capture3.specs.machinery.ContainerMachine.{Unpacking, Has, in_chunk, in_side_chunk, in_record, record_joined, unpack_next}
 use Rattle.capture3.specs.machinery.Position.{AreEmpty, IsBeforeMark, unpacking_at, cost_of, IsOfContainer, Moves, ShowsFault, StoredAt, StoredWith, version_of}
 use Rattle.capture3.specs.machinery.Container.{AreStored, unpacking_of, Arrives, ShowsError, Leaves}
 use Rattle.capture3.specs.declared.container.Cursor.{Cursor}
@@ -29,7 +29,7 @@ use Rattle.capture3.specs.declared.container.position.Version as declared
 use Rattle.capture3.specs.Capture.{Version, Two}
 use Rattle.record_mark.specs.declared.word_part.WordPart.{WordPart}
 use Rattle.record_mark.specs.WordPart.{bytes_so_far}
-use Rattle.capture3.proofs.Positions.{at_spot}
+use Rattle.capture3.proofs.PositionLemmas.{at_spot}
 
 -- ---- one step of the container alone
 

@@ -9,11 +9,11 @@ use Rattle.capture3.specs.declared.fault.Side.{Side}
 use Rattle.capture3.specs.declared.fault.Side.TheVariants.{Client, Server}
 use Rattle.capture3.specs.Chunks.{max_bytes}
 use Rattle.capture3.specs.Connections.{Context, AfterLength, MixedShows, BadSide, NoLength, TooMuch}
-use Rattle.capture3.specs.Mixing.{SideWord, SideLength, SideChunk, Mixing, MixedEnd, MixedCloses, MixedRefuses, awaiting_side, measured, mixed_next, mixing_from}
+use Rattle.capture3.specs.SidedChunksMachine.{SideWord, SideLength, SideChunk, Mixing, MixedEnd, MixedCloses, MixedRefuses, awaiting_side, measured, mixed_next, mixing_from}
 use Rattle.capture3.specs.SidedChunks.{Streams, size, SidedChunk, IsSidedChunk, of_side, gathered, carried_by, with_more, AreMixed}
 use Rattle.capture3.specs.Sides.{file_fault}
-use Rattle.capture3.proofs.Mixes.{with_chunks, with_chunks_all, size_of, chunk_bytes, word_lands, header_lands, after_side, bad_side}
-use Rattle.capture3.proofs.Overs.{Gone, Over, gone_past, gone_more}
+use Rattle.capture3.proofs.SidedChunksMachineLemmas.{with_chunks, with_chunks_all, size_of, chunk_bytes, word_lands, header_lands, after_side, bad_side}
+use Rattle.capture3.proofs.EndedMachines.{Gone, Over, gone_past, gone_more}
 
 abbrev pub RefusedMixed : MixedEnd → Type 0
 RefusedMixed (MixedCloses at total streams) = ⊥

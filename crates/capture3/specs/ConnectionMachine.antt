@@ -8,10 +8,10 @@ use Rattle.capture3.specs.Capture.{Version, One, Two}
 use Rattle.capture3.specs.Connections.{ShownFault, refusal, client_refusal, server_refusal}
 use Rattle.capture3.specs.Entry.{Entry, Begin, Call, Turn}
 use Rattle.capture3.specs.BodyProgram.{judge_call, judge_reply}
-use Rattle.capture3.specs.Mixing.{Mixing, MixedEnd, MixedCloses, MixedRefuses, mixed_next, mixing_from}
-use Rattle.capture3.specs.Reading.{Judge, StreamEnd, Held, Faulty, stream_end}
+use Rattle.capture3.specs.SidedChunksMachine.{Mixing, MixedEnd, MixedCloses, MixedRefuses, mixed_next, mixing_from}
+use Rattle.capture3.specs.StreamMachine.{Judge, StreamEnd, Held, Faulty, stream_end}
 use Rattle.capture3.specs.Sides.{place_at}
-use Rattle.capture3.specs.Siding.{Siding, SideEnd, SideCloses, SideRefuses, side_next, siding_from}
+use Rattle.capture3.specs.SideMachine.{Siding, SideEnd, SideCloses, SideRefuses, side_next, siding_from}
 use Rattle.capture3.specs.Typed.{reply_entry, connection_entries}
 
 -- replies are judged by the calls, and not by the replies before
