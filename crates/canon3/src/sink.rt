@@ -1,3 +1,5 @@
+// What takes bytes and may fail: a sink over a writer, and one in memory.
+
 ghost use Rattle.std.specs.Prelude.{◌≡◌, ◌≤◌, ◌<◌, ◌+◌, ◌-◌, ◌↔◌, ◌⊎◌, ℕ, List, [], length, take, drop, min, Option, None, Some, IfOk, IsErr, OnOk, OnErr, vec_len, vec_capacity};
 ghost use Rattle.std.specs.Io.KnownBytes.{WriteAppends, Keeps};
 ghost use Rattle.capture3.specs.Device.{Counts};
@@ -45,6 +47,7 @@ pub struct ToWrite<W> {
 }
 
 impl<W: Write> ToWrite<W> {
+    /// A sink over the writer, of which no write has failed.
     pub fn new(writer: W) -> ToWrite<W>
         ensures writer { result.writer ≡ writer }
         ensures count { result.failures ≡ 0 }
@@ -55,6 +58,7 @@ impl<W: Write> ToWrite<W> {
         }
     }
 
+    /// The writer.
     pub fn inner(&self) -> &W
         ensures { result.now ≡ self.now.writer }
     {
@@ -146,6 +150,7 @@ impl MemSink {
         })
     }
 
+    /// What was written.
     pub fn bytes(&self) -> &[u8]
         ensures { result.now ≡ self.now.bytes }
     {

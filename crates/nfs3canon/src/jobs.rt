@@ -25,6 +25,7 @@ fn hashers(rt: &HostRuntime) -> io::Result<Hashers<RandomState>> {
     })
 }
 
+/// Checks the file with this name.
 pub fn checked(rt: &HostRuntime, name: &str) -> Outcome {
     let Ok(hashers) = hashers(rt) else {
         return Outcome::Counted(Err(Error::Read));

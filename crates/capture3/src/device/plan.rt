@@ -1,3 +1,5 @@
+// Which call of a device in memory fails.
+
 ghost use Rattle.std.specs.Prelude.{◌≡◌, ◌+◌, ◌-◌, ◌↔◌, ◌^◌, min, IsErr};
 ghost use Rattle.capture3.specs.Device.{Counts};
 
@@ -13,6 +15,7 @@ pub struct FaultPlan {
 }
 
 impl FaultPlan {
+    /// The call with this number is to fail, and none has failed yet.
     pub fn new(fails_in: u64) -> FaultPlan
         ensures { result ≡ record { fails_in = fails_in; failures = 0 } }
     {

@@ -1,3 +1,5 @@
+// What gives bytes and may fail: a source over a reader, and one in memory.
+
 ghost use Rattle.std.specs.Prelude.{◌≡◌, ◌≤◌, ◌<◌, ◌+◌, ◌-◌, ◌↔◌, ℕ, List, length, take, drop, min, Option, None, Some, IfOk, IsErr, OnOk, OnErr};
 ghost use Rattle.std.specs.Io.KnownBytes.{ReadConsumes};
 ghost use Rattle.capture3.specs.Device.{Counts};
@@ -32,6 +34,7 @@ pub struct FromRead<R> {
 }
 
 impl<R: Read> FromRead<R> {
+    /// A source over the reader, of which no read has failed.
     pub fn new(reader: R) -> FromRead<R>
         ensures { result ≡ record { reader = reader; failures = 0 } }
     {
