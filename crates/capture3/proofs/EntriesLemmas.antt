@@ -38,7 +38,7 @@ use Rattle.capture3.specs.machinery.EntryParser.{StandsAt, StandsOrRecalls, HasC
 use Rattle.capture3.specs.Kept.{IsOfKind}
 use Rattle.capture3.specs.Laws.{begins, most_bytes}
 use Rattle.capture3.specs.FileMachine.{Parsing, parsed, emitted}
-use Rattle.capture3.specs.machinery.Position.{AreEmpty, IsBeforeMark, IsEnded, IsSoundPosition, IsSoundSpot, StoredAt, opened_at}
+use Rattle.capture3.specs.machinery.Position.{AreEmpty, IsBeforeMark, IsEndSpot, IsSoundPosition, IsSoundSpot, StoredAt, opened_at}
 use Rattle.capture3.specs.Laws.{most_entries}
 use Rattle.capture3.specs.Reached.{AreFirstReached, AreWhole, Reached}
 use Rattle.capture3.specs.machinery.FileStanding.{parsing_at}
@@ -194,14 +194,14 @@ split_range block start end count fits =
 
 -- ---- the end, and a fault
 
-pub typed_here : (bytes : List ℕ) (p : Position) (t : Taking) (streams : Streams) (table : List NumberedCall) (model : List Entry) → AreBytes bytes → StandsAt p t streams table bytes model → IsEnded p.spot → Typed bytes (model ++ End ∷ [])
+pub typed_here : (bytes : List ℕ) (p : Position) (t : Taking) (streams : Streams) (table : List NumberedCall) (model : List Entry) → AreBytes bytes → StandsAt p t streams table bytes model → IsEndSpot p.spot → Typed bytes (model ++ End ∷ [])
 typed_here bytes p t streams table model are s ended = typed_at bytes p t streams table model are s ended
 
-pub cut_here : (bytes : List ℕ) (p : Position) (t : Taking) (streams : Streams) (table : List NumberedCall) (model : List Entry) → AreBytes bytes → StandsAt p t streams table bytes model → (IsEnded p.spot → ⊥) → FirstFault bytes (file_fault (length bytes) CaptureCut)
+pub cut_here : (bytes : List ℕ) (p : Position) (t : Taking) (streams : Streams) (table : List NumberedCall) (model : List Entry) → AreBytes bytes → StandsAt p t streams table bytes model → (IsEndSpot p.spot → ⊥) → FirstFault bytes (file_fault (length bytes) CaptureCut)
 cut_here bytes p t streams table model are s not = cut_at bytes p t streams table model are s not
 
 -- short of the end, what was emitted is what the bytes reach
-pub not_ended : (bytes : List ℕ) (p : Position) (t : Taking) (streams : Streams) (table : List NumberedCall) (model : List Entry) → AreBytes bytes → StandsAt p t streams table bytes model → (IsEnded p.spot → ⊥) → (IsWellFormed bytes → ⊥) × Reached bytes model
+pub not_ended : (bytes : List ℕ) (p : Position) (t : Taking) (streams : Streams) (table : List NumberedCall) (model : List Entry) → AreBytes bytes → StandsAt p t streams table bytes model → (IsEndSpot p.spot → ⊥) → (IsWellFormed bytes → ⊥) × Reached bytes model
 not_ended bytes p t streams table model are s not =
     let cut = verdict_from_fault bytes (file_fault (length bytes) CaptureCut) are (cut_here bytes p t streams table model are s not) in
     let bad : IsWellFormed bytes → ⊥ = λ w. let typed = verdict_from_typed bytes w.0 w.1 in cc in (
@@ -221,15 +221,15 @@ pub all_before_end : (bytes : List ℕ) (p : Position) (t : Taking) (streams : S
 all_before_end bytes p t streams table model are s = by_spot p.spot refl
   where
     by_spot : (spot : Spot) → p.spot ≡ spot → AreAllBeforeEnd bytes model
-    by_spot spots.Magic is = inr (not_ended bytes p t streams table model are s (λ e. subst IsEnded is e))
-    by_spot spots.Digit is = inr (not_ended bytes p t streams table model are s (λ e. subst IsEnded is e))
-    by_spot (spots.Mark version part) is = inr (not_ended bytes p t streams table model are s (λ e. subst IsEnded is e))
-    by_spot (spots.Length side part) is = inr (not_ended bytes p t streams table model are s (λ e. subst IsEnded is e))
-    by_spot (spots.Chunk side left) is = inr (not_ended bytes p t streams table model are s (λ e. subst IsEnded is e))
-    by_spot (spots.Side part) is = inr (not_ended bytes p t streams table model are s (λ e. subst IsEnded is e))
-    by_spot (spots.SideLength side part) is = inr (not_ended bytes p t streams table model are s (λ e. subst IsEnded is e))
-    by_spot (spots.SideChunk side left) is = inr (not_ended bytes p t streams table model are s (λ e. subst IsEnded is e))
-    by_spot (spots.Ended version) is = inl (typed_here bytes p t streams table model are s (subst IsEnded (sym is) tt))
+    by_spot spots.Magic is = inr (not_ended bytes p t streams table model are s (λ e. subst IsEndSpot is e))
+    by_spot spots.Digit is = inr (not_ended bytes p t streams table model are s (λ e. subst IsEndSpot is e))
+    by_spot (spots.Mark version part) is = inr (not_ended bytes p t streams table model are s (λ e. subst IsEndSpot is e))
+    by_spot (spots.Length side part) is = inr (not_ended bytes p t streams table model are s (λ e. subst IsEndSpot is e))
+    by_spot (spots.Chunk side left) is = inr (not_ended bytes p t streams table model are s (λ e. subst IsEndSpot is e))
+    by_spot (spots.Side part) is = inr (not_ended bytes p t streams table model are s (λ e. subst IsEndSpot is e))
+    by_spot (spots.SideLength side part) is = inr (not_ended bytes p t streams table model are s (λ e. subst IsEndSpot is e))
+    by_spot (spots.SideChunk side left) is = inr (not_ended bytes p t streams table model are s (λ e. subst IsEndSpot is e))
+    by_spot (spots.Ended version) is = inl (typed_here bytes p t streams table model are s (subst IsEndSpot (sym is) tt))
 
 -- ---- what was consumed
 
@@ -410,7 +410,7 @@ module _ {R S H : Type 0} {builds : BuildHasher.Ghosts S H} {hashes : Hasher.Gho
 
   -- ---- the end
 
-  pub finished : (old new : Entries R S H builds hashes) (given : List ℕ) (handed : List Entry) → old.stage ≡ Reading → new.stage ≡ Over → new.last ≡ Some kinds.End → vec_len new.block ≡ vec_len old.block → old.start ≡ old.end → old.capture.container.cursor ≡ None → IsEnded old.capture.container.position.spot → IsAtEnd (left new.source.now)
+  pub finished : (old new : Entries R S H builds hashes) (given : List ℕ) (handed : List Entry) → old.stage ≡ Reading → new.stage ≡ Over → new.last ≡ Some kinds.End → vec_len new.block ≡ vec_len old.block → old.start ≡ old.end → old.capture.container.cursor ≡ None → IsEndSpot old.capture.container.position.spot → IsAtEnd (left new.source.now)
       → StandsFor left old given handed → StandsFor left new given (handed ++ End ∷ [])
   finished old new given handed is over last block empty none ended end s =
       let typed = typed_here given _ _ _ _ handed s.bytes (machine_at old given handed empty none (reading_of old given handed is s)) ended in
@@ -423,7 +423,7 @@ module _ {R S H : Type 0} {builds : BuildHasher.Ghosts S H} {hashes : Hasher.Gho
         here = subst (λ (stage : Stage). StandsIn stage (left new.source.now) new given (handed ++ End ∷ [])) (sym over) (typed, end);
       }
 
-  pub cut_short : (old new : Entries R S H builds hashes) (error : Error) (given : List ℕ) (handed : List Entry) → old.stage ≡ Reading → new.stage ≡ Failed error → new.last ≡ None → vec_len new.block ≡ vec_len old.block → old.start ≡ old.end → old.capture.container.cursor ≡ None → (IsEnded old.capture.container.position.spot → ⊥)
+  pub cut_short : (old new : Entries R S H builds hashes) (error : Error) (given : List ℕ) (handed : List Entry) → old.stage ≡ Reading → new.stage ≡ Failed error → new.last ≡ None → vec_len new.block ≡ vec_len old.block → old.start ≡ old.end → old.capture.container.cursor ≡ None → (IsEndSpot old.capture.container.position.spot → ⊥)
       → error ≡ errors.Refused (file_fault old.judged CaptureCut) → IsAtEnd (left new.source.now) → StandsFor left old given handed → StandsFor left new given handed
   cut_short old new error given handed is fails none block empty unopened not cut end s =
       let r = reading_of old given handed is s in

@@ -26,7 +26,7 @@ use Rattle.capture3.specs.Kept.{IsKept, AreKept, begun}
 use Rattle.capture3.specs.Laws.{begins}
 use Rattle.capture3.specs.FileMachine.{concluded, verdict_of}
 use Rattle.capture3.specs.Entries.{OnRefused}
-use Rattle.capture3.specs.machinery.Position.{opened_at, version_of, IsEnded}
+use Rattle.capture3.specs.machinery.Position.{opened_at, version_of, IsEndSpot}
 use Rattle.capture3.specs.machinery.KeptStreams.{ShowsFirst}
 use Rattle.capture3.specs.machinery.FileStanding.{Judged, resumed_at, emitted_at}
 use Rattle.capture3.specs.SidedChunks.{Streams}
@@ -68,7 +68,7 @@ cut_concludes size at total connections joining (Chunk Server left) j not = refl
 cut_concludes size at total connections joining (Mixed streams point) j not = refl
 
 -- at the end
-ended_is : (spot : Spot) → IsEnded spot → (version : declared.Version) × (spot ≡ spots.Ended version)
+ended_is : (spot : Spot) → IsEndSpot spot → (version : declared.Version) × (spot ≡ spots.Ended version)
 ended_is (spots.Ended version) ended = (version, refl)
 ended_is spots.Magic ended = absurd ended
 ended_is spots.Digit ended = absurd ended
@@ -80,7 +80,7 @@ ended_is (spots.SideLength side part) ended = absurd ended
 ended_is (spots.SideChunk side left) ended = absurd ended
 
 -- the open part is the end only at the end
-ended_only : (version : Version) (streams : Streams) (spot : Spot) (at : ℕ) → opened_at streams spot at ≡ Ended version → IsEnded spot
+ended_only : (version : Version) (streams : Streams) (spot : Spot) (at : ℕ) → opened_at streams spot at ≡ Ended version → IsEndSpot spot
 ended_only version streams (spots.Ended told) at e = tt
 ended_only version streams spots.Magic at e = by_left (drop at MAGIC) e
   where
@@ -102,7 +102,7 @@ module _ (bytes : List ℕ) (p : Position) (t : Taking) (streams : Streams) (tab
   opened_here : Opened
   opened_here = opened_at streams p.spot p.at
 
-  pub typed_at : IsEnded p.spot → Typed bytes (model ++ End ∷ [])
+  pub typed_at : IsEndSpot p.spot → Typed bytes (model ++ End ∷ [])
   unfolding opened_here
   typed_at ended =
       let is = ended_is p.spot ended in
@@ -111,7 +111,7 @@ module _ (bytes : List ℕ) (p : Position) (t : Taking) (streams : Streams) (tab
       ∙ ended_concludes (length bytes) p.at p.total p.connections (unpacking_of p t streams).joining (version_of is.0) opened_here s.so_far (ap (λ (spot : Spot). opened_at streams spot p.at) is.1)
       ∙ ap (λ (m : List Entry). Ok (m ++ End ∷ [])) (sym s.emitted))
 
-  pub cut_at : (IsEnded p.spot → ⊥) → FirstFault bytes (file_fault (length bytes) CaptureCut)
+  pub cut_at : (IsEndSpot p.spot → ⊥) → FirstFault bytes (file_fault (length bytes) CaptureCut)
   unfolding opened_here
   cut_at not =
       fault_from_verdict bytes (file_fault (length bytes) CaptureCut) are

@@ -8,7 +8,7 @@ pub(crate) mod side_words;
 ghost use Rattle.std.specs.Prelude.{◌≡◌, ◌≢◌, ◌≤◌, ◌<◌, ◌+◌, length, take, IfOk, IfErr, OnOk, None, Some};
 ghost use Rattle.capture3.specs.machinery.Container.{AreStored, Arrives, Comes, ComesToFault, ShowsError, first_cursor, IsCutInRecord, IsReady, IsStored, Leaves, RecallFails, Recalled, room_in, unpacking_in};
 ghost use Rattle.record_mark.specs.Joining.{Between};
-ghost use Rattle.capture3.specs.machinery.Position.{AreEmpty, cost_of, IsEnded, IsOpenBody, IsSoundPosition, KeepsStreams, most_things, room_of, StoredWith, TakesRoom, TakesSome};
+ghost use Rattle.capture3.specs.machinery.Position.{AreEmpty, cost_of, IsEndSpot, IsOpenBody, IsSoundPosition, KeepsStreams, most_things, room_of, StoredWith, TakesRoom, TakesSome};
 ghost use Rattle.capture3.specs.machinery.ContainerMachine.{unpacking_start};
 ghost use Rattle.record_mark.specs.RecordMark.{max_body};
 ghost use Rattle.record_mark.specs.Taking.{IsRunning, IsWhole, body_of, joining_of, released, unbegun};
@@ -182,8 +182,8 @@ impl Container {
 
     /// Tests that the file may end here, after so many bytes.
     pub(crate) fn end(&self, size: u64) -> Result<(), Error>
-        ensures ok { OnOk result (IsEnded self.now.position.spot) }
-        ensures err { IfErr result (λ error. (IsEnded self.now.position.spot → ⊥)
+        ensures ok { OnOk result (IsEndSpot self.now.position.spot) }
+        ensures err { IfErr result (λ error. (IsEndSpot self.now.position.spot → ⊥)
             × (error ≡ Error.Refused (record
             { place = Place.File size; reason = Reason.CaptureCut }))) }
     {

@@ -114,9 +114,9 @@ IsBeforeMark version (Mark told part) = (version_of told ≡ version) × (bytes_
 IsBeforeMark version spot = ⊥
 
 -- the last word 0 has come
-abbrev pub IsEnded : Spot → Type 0
-IsEnded (Ended version) = Unit {0}
-IsEnded spot = ⊥
+abbrev pub IsEndSpot : Spot → Type 0
+IsEndSpot (Ended version) = Unit {0}
+IsEndSpot spot = ⊥
 
 -- a side word, at its first byte
 abbrev pub IsBeforeSides : Spot → Type 0

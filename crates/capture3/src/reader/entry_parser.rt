@@ -10,7 +10,7 @@ ghost use Rattle.capture3.specs.Kept.{IsLent, kind_of};
 ghost use Rattle.capture3.specs.machinery.Spelled.{SpellsCall, SpellsReply};
 ghost use Rattle.capture3.specs.BodyProgram.{judge_call, judge_reply};
 ghost use Rattle.capture3.specs.machinery.Messages.{IsTableOf};
-ghost use Rattle.capture3.specs.machinery.Position.{IsEnded, IsSoundPosition, most_things};
+ghost use Rattle.capture3.specs.machinery.Position.{IsEndSpot, IsSoundPosition, most_things};
 
 use crate::container::Container;
 use crate::container::position::Event;
@@ -125,8 +125,8 @@ impl<C: CallTable + Drop> EntryParser<C> {
 
     /// Tests that the file may end here, after so many bytes.
     pub(crate) fn end(&self, size: u64) -> Result<(), Error>
-        ensures ok { OnOk result (IsEnded self.now.container.position.spot) }
-        ensures err { IfErr result (λ error. (IsEnded self.now.container.position.spot → ⊥)
+        ensures ok { OnOk result (IsEndSpot self.now.container.position.spot) }
+        ensures err { IfErr result (λ error. (IsEndSpot self.now.container.position.spot → ⊥)
             × (error ≡ Error.Refused (record
             { place = Place.File size; reason = Reason.CaptureCut }))) }
     {
