@@ -14,7 +14,6 @@ BY_NAME = {
     'StandsFor': 'a history of a reader of entries: `through` gives one, each call takes one on, and what is concluded names none',
     'entries_left': 'a number that falls with each entry, by which a loop over them ends',
 }
-ALIKE = {'words', '◌then◌'}  # defined in several crates, and each time the same
 ITEM = re.compile(r'pub fn (\w+)|pub trait (\w+)|impl\b(?:<[^{]*?>)? ?(?:.* for )?(\w+)[^{]*\{$')
 METHOD = re.compile(r' {4}pub fn \w+')
 GHOST = re.compile(r'^ *ghost (?!use\b).*?;$', re.M | re.S)
@@ -111,4 +110,4 @@ def of_several_meanings():
     for file in files(tool()):
         for one in file.definitions:
             places[one.name].append('%s.%s' % (file.crate, file.module))
-    return ['%s: %s' % (name, ', '.join(some)) for name, some in sorted(places.items()) if len(some) > 1 and name not in ALIKE]
+    return ['%s: %s' % (name, ', '.join(some)) for name, some in sorted(places.items()) if len(some) > 1]

@@ -6,12 +6,12 @@ use Rattle.std.proofs.lemmas.List.{map-append}
 use Rattle.std.proofs.lemmas.Bool.Decides.{Decides-eqb}
 use Rattle.byteorder.specs.Numbers.{length-bytes_high_first}
 use Rattle.xdr3.specs.Item.{Item, Word, Hyper, Fixed, WriteVerf, Opaque, Rest, Var, Text, Handle, Spells, word_bytes, zero_spelling}
-use Rattle.xdr3.specs.Shape.{Shape, both, nothing, opaque, word, listed, Fits}
+use Rattle.xdr3.specs.Shape.{Shape, ◌then◌, both, nothing, opaque, word, listed, Fits}
 use Rattle.xdr3.specs.Layout.{Layout, exactly, after, FitsLayout, number_of_word, word_in}
 use Rattle.rpc_head.specs.declared.call.ProcId.{ProcId}
 use Rattle.rpc_head.specs.Names.{head_names}
 use Rattle.rpc_head.specs.Messages.{procedure_in, call_start, reply_start, call_layout, reply_layout, has_results}
-use Rattle.rpc_head.specs.Shapes.{◌then◌, call_head, reply_head, credential, auth_sys, parameters, gids, verifier, accept, deny, versions, auth_stats}
+use Rattle.rpc_head.specs.Shapes.{call_head, reply_head, credential, auth_sys, parameters, gids, verifier, accept, deny, versions, auth_stats}
 use Rattle.procs3.specs.Table.{arguments_of, results_of}
 use Rattle.canon3.specs.Rank.{rank}
 use Rattle.canon3.specs.Canonical.{numbered_item, numbered_message}

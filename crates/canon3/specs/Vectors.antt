@@ -3,7 +3,8 @@ use Rattle.std.specs.Prelude.{◌≡◌, ℕ, ◌+◌, ◌^◌, List, [], ◌∷
 use Rattle.std.specs.List.{flat_map}
 use Rattle.xdr3.specs.declared.reason.Reason.{Reason}
 use Rattle.xdr3.specs.declared.reason.Reason.TheVariants.{AuthLength, BadBool, BadEnum, Flavor, NoCall, RpcVersion, Short, TooLong, Trailing, WrongSide, XidConflict}
-use Rattle.xdr3.specs.Item.{Item, Word, Hyper, Fixed, Opaque, Rest, Var, Text, Handle, word_bytes}
+use Rattle.xdr3.specs.Item.{Item, Word, Hyper, Fixed, Opaque, Rest, Var, Text, Handle}
+use Rattle.xdr3.specs.Examples.{words}
 use Rattle.capture3.specs.declared.fault.Side.{Side}
 use Rattle.capture3.specs.declared.fault.Side.TheVariants.{Client, Server}
 use Rattle.capture3.specs.declared.fault.Place.TheVariants as places
@@ -20,10 +21,6 @@ pub record IsWorked (file : List ℕ) (entries : List Entry) (form : List ℕ) :
   pub form_is : bytes_of (canonical entries) ≡ form
 
 -- ---- bytes
-
--- each number in four bytes (RFC 4506, section 4.2)
-abbrev pub words : List ℕ → List ℕ
-words numbers = flat_map word_bytes numbers
 
 -- a body as one chunk of one last fragment (RFC 5531, section 11)
 abbrev pub chunk : List ℕ → List ℕ

@@ -82,11 +82,7 @@ impl<S: BuildHasher + Drop> Visit for HandleTable<S> {
         if bytes.is_empty() {
             return Ok(());
         }
-        let Some(handle) = Handle::new(bytes) else {
-            // A visitor is told no handle of more than 64 bytes.
-            unreachable!()
-        };
-        self.add(handle)
+        self.add(Handle::from_short(bytes))
     }
 
     fn rest(&mut self, _name: &'static str, _bytes: &[u8]) -> Result<(), AllocError> {

@@ -47,11 +47,7 @@ fn number_of_handle<S: BuildHasher + Drop>(
     ensures given { (hs : List (List ℕ)) → HoldsHandles handles.old hs
         → OnOk result (HoldsHandles handles.new (hs ++ bytes.now ∷ [])) }
 {
-    let Some(handle) = Handle::new(bytes) else {
-        // There are at most 64 bytes.
-        unreachable!()
-    };
-    handles.number_of(handle)
+    handles.number_of(Handle::from_short(bytes))
 }
 
 impl<S: BuildHasher + Drop> MessageWriter<S> {

@@ -46,11 +46,18 @@ pub struct ToWrite<W> {
     failures: u64,
 }
 
+impl<W: Write> Model for ToWrite<W> {
+    ghost use Rattle.capture3.specs.Device.{CountedDevice};
+
+    ghost Value = { CountedDevice W };
+
+    ghost view = { λ s. record { device = s.writer; failures = s.failures } };
+}
+
 impl<W: Write> ToWrite<W> {
-    /// A sink over the writer, of which no write has failed.
+    /// A sink over the writer, of which no write or flush has failed.
     pub fn new(writer: W) -> ToWrite<W>
-        ensures writer { result.writer ≡ writer }
-        ensures count { result.failures ≡ 0 }
+        ensures { result ≡ record { device = writer; failures = 0 } }
     {
         ToWrite {
             writer,
@@ -60,14 +67,14 @@ impl<W: Write> ToWrite<W> {
 
     /// The writer.
     pub fn inner(&self) -> &W
-        ensures { result.now ≡ self.now.writer }
+        ensures { result.now ≡ self.now.device }
     {
         &self.writer
     }
 }
 
 impl<W: Write> Sink for ToWrite<W> {
-    ghost written = { λ s. W.contents s.writer };
+    ghost written = { λ s. W.contents s.device };
 
     ghost flushed = { λ s. None };
 

@@ -6,7 +6,7 @@ use Rattle.xdr3.specs.declared.reason.Stop.{Stop}
 use Rattle.xdr3.specs.Item.{Item, Word, AreBytes, Spells}
 use Rattle.xdr3.specs.Layout.{Layout, ReadsLayout, word_in}
 use Rattle.xdr3.specs.Reading.{◌>>=◌, reading, refused}
-use Rattle.xdr3.specs.Shape.{Fits, Reads, Refuses, is_listed, listed, word}
+use Rattle.xdr3.specs.Shape.{Fits, Reads, Refuses, ◌then◌, is_listed, listed, word}
 use Rattle.xdr3.proofs.Bytes.{ok_is}
 use Rattle.xdr3.proofs.Complete.{complete}
 use Rattle.xdr3.proofs.Decided.{both_ways}
@@ -15,7 +15,7 @@ use Rattle.xdr3.proofs.Layouts.{reads_whole}
 use Rattle.rpc_head.specs.declared.call.ProcId.{ProcId}
 use Rattle.rpc_head.specs.Messages.{call_layout, call_start, reply_layout, reply_start, procedure_in}
 use Rattle.rpc_head.specs.Names.{head_names}
-use Rattle.rpc_head.specs.Shapes.{◌then◌, message_start, message_types}
+use Rattle.rpc_head.specs.Shapes.{message_start, message_types}
 use Rattle.procs3.specs.Table.{arguments_of, results_of}
 use Rattle.capture3.specs.Bodies.{ReplyItems, IsCall, IsReply, xid_in, procedure_of, Starts, LeavesMore, AcceptsCall, RefusesCall, AReply, BadCall, LongCall, OtherCall, AcceptsReply, RefusesReply, ACall, Unasked, BadReply, LongReply}
 use Rattle.capture3.specs.Bodies as bodies

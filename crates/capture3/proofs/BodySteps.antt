@@ -8,10 +8,10 @@ use Rattle.xdr3.specs.Layout.{Layout, reading_layout}
 use Rattle.xdr3.specs.Reading.{◌>>=◌, reading, refused}
 use Rattle.xdr3.proofs.Linked.{with_front}
 use Rattle.rpc_head.specs.declared.call.ProcId.{ProcId}
-use Rattle.rpc_head.specs.declared.message.Start.{Start}
+use Rattle.rpc_head.specs.declared.message_start.MessageStart.{MessageStart}
 use Rattle.rpc_head.specs.Messages.{call_layout, reply_layout, procedure_in}
 use Rattle.rpc_head.specs.Shapes.{call_head, message_start, reply_head}
-use Rattle.rpc_head.specs.Starts.{start_items}
+use Rattle.rpc_head.specs.MessageStart.{start_items}
 use Rattle.rpc_head.specs.HeadScan.{procedure_told, tells_success}
 use Rattle.rpc_head.proofs.Messages.{call_read, call_head_refused, procedure_read, reply_read, reply_head_refused}
 use Rattle.procs3.specs.Table.{arguments_of, results_of}
@@ -45,7 +45,7 @@ front_refused front stop = refl
 -- ---- calls
 
 -- what was read of a call: its start, and its head of this procedure
-pub record CallBegins (body : List ℕ) (s : Start) (id : ProcId) (front : List Item) (head end : ℕ) : Type 0 where
+pub record CallBegins (body : List ℕ) (s : MessageStart) (id : ProcId) (front : List Item) (head end : ℕ) : Type 0 where
   pub start : reading message_start body 0 ≡ Ok (start_items s, head)
   pub is_call : s.is_reply ≡ false
   pub read : reading call_head body head ≡ Ok (front, end)
@@ -55,30 +55,30 @@ pub call_bad_start : (before : List (List Item)) (body : List ℕ) (stop : Stop)
 unfolding judge_call
 call_bad_start before body stop e = rw e refl
 
-pub call_wrong_side : (before : List (List Item)) (body : List ℕ) (s : Start) (to : ℕ) → reading message_start body 0 ≡ Ok (start_items s, to) → s.is_reply ≡ true
+pub call_wrong_side : (before : List (List Item)) (body : List ℕ) (s : MessageStart) (to : ℕ) → reading message_start body 0 ≡ Ok (start_items s, to) → s.is_reply ≡ true
     → judge_call before body ≡ refused 4 WrongSide
 unfolding judge_call
 call_wrong_side before body s to e is = rw (e, is) refl
 
 -- on the right side the whole call is read
-call_read_on : (before : List (List Item)) (body : List ℕ) (s : Start) (to : ℕ) → reading message_start body 0 ≡ Ok (start_items s, to) → s.is_reply ≡ false
+call_read_on : (before : List (List Item)) (body : List ℕ) (s : MessageStart) (to : ℕ) → reading message_start body 0 ≡ Ok (start_items s, to) → s.is_reply ≡ false
     → judge_call before body ≡ (read_whole (call_layout arguments_of) body >>= agreed before)
 unfolding judge_call
 call_read_on before body s to e is = rw (e, is) refl
 
-pub call_bad_head : (before : List (List Item)) (body : List ℕ) (s : Start) (stop : Stop) (head : ℕ) → reading message_start body 0 ≡ Ok (start_items s, head) → s.is_reply ≡ false
+pub call_bad_head : (before : List (List Item)) (body : List ℕ) (s : MessageStart) (stop : Stop) (head : ℕ) → reading message_start body 0 ≡ Ok (start_items s, head) → s.is_reply ≡ false
     → reading call_head body head ≡ Err stop → judge_call before body ≡ Err stop
 call_bad_head before body s stop head e is read =
     call_read_on before body s head e is
     ∙ ap (λ r. r >>= agreed before) (whole_refused (call_layout arguments_of) body stop (call_head_refused arguments_of body s stop 0 head e is read))
 
-call_laid : (body : List ℕ) (s : Start) (id : ProcId) (front : List Item) (head end : ℕ) → CallBegins body s id front head end
+call_laid : (body : List ℕ) (s : MessageStart) (id : ProcId) (front : List Item) (head end : ℕ) → CallBegins body s id front head end
     → reading_layout (call_layout arguments_of) body 0 ≡ with_front (start_items s ++ front) (reading_layout (arguments_of id) body end)
 call_laid body s id front head end b =
     call_read arguments_of body s front 0 head end b.start b.is_call b.read
     ∙ ap (λ (p : ProcId). with_front (start_items s ++ front) (reading_layout (arguments_of p) body end)) b.told
 
-pub call_bad_arguments : (before : List (List Item)) (body : List ℕ) (s : Start) (id : ProcId) (front : List Item) (head end : ℕ) (stop : Stop) → CallBegins body s id front head end
+pub call_bad_arguments : (before : List (List Item)) (body : List ℕ) (s : MessageStart) (id : ProcId) (front : List Item) (head end : ℕ) (stop : Stop) → CallBegins body s id front head end
     → reading_layout (arguments_of id) body end ≡ Err stop → judge_call before body ≡ Err stop
 call_bad_arguments before body s id front head end stop b read =
     call_read_on before body s head b.start b.is_call
@@ -86,7 +86,7 @@ call_bad_arguments before body s id front head end stop b read =
     (whole_refused (call_layout arguments_of) body stop
     (call_laid body s id front head end b ∙ ap (with_front (start_items s ++ front)) read ∙ front_refused (start_items s ++ front) stop))
 
-pub call_trails : (before : List (List Item)) (body : List ℕ) (s : Start) (id : ProcId) (front : List Item) (head end to : ℕ) (more : List Item) → CallBegins body s id front head end
+pub call_trails : (before : List (List Item)) (body : List ℕ) (s : MessageStart) (id : ProcId) (front : List Item) (head end to : ℕ) (more : List Item) → CallBegins body s id front head end
     → reading_layout (arguments_of id) body end ≡ Ok (more, to) → to ≢ length body → judge_call before body ≡ refused to Trailing
 call_trails before body s id front head end to more b read other =
     call_read_on before body s head b.start b.is_call
@@ -95,19 +95,19 @@ call_trails before body s id front head end to more b read other =
     (call_laid body s id front head end b ∙ ap (with_front (start_items s ++ front)) read) other)
 
 -- a whole call's items: its start, its head and its arguments
-abbrev pub whole_call : Start → List Item → List Item → List Item
+abbrev pub whole_call : MessageStart → List Item → List Item → List Item
 whole_call s front more = followed_by (start_items s) (followed_by front more)
 
 -- the procedure and the xid stand among its items
-pub call_procedure : (body : List ℕ) (s : Start) (id : ProcId) (front more : List Item) (head end : ℕ) → CallBegins body s id front head end → procedure_in (whole_call s front more) ≡ id
+pub call_procedure : (body : List ℕ) (s : MessageStart) (id : ProcId) (front more : List Item) (head end : ℕ) → CallBegins body s id front head end → procedure_in (whole_call s front more) ≡ id
 unfolding followed_by
 call_procedure body s id front more head end b = procedure_read body front more head end b.read ∙ b.told
 
-pub call_xid : (s : Start) (front more : List Item) → xid_in (whole_call s front more) ≡ s.xid
+pub call_xid : (s : MessageStart) (front more : List Item) → xid_in (whole_call s front more) ≡ s.xid
 unfolding followed_by
 call_xid s front more = refl
 
-pub call_whole : (before : List (List Item)) (body : List ℕ) (s : Start) (id : ProcId) (front : List Item) (head end to : ℕ) (more : List Item) → CallBegins body s id front head end
+pub call_whole : (before : List (List Item)) (body : List ℕ) (s : MessageStart) (id : ProcId) (front : List Item) (head end to : ℕ) (more : List Item) → CallBegins body s id front head end
     → reading_layout (arguments_of id) body end ≡ Ok (more, to) → to ≡ length body
     → judge_call before body ≡ cond (agrees (procedure_of before s.xid) id) (Ok (whole_call s front more)) (refused 0 XidConflict)
 unfolding followed_by
@@ -119,7 +119,7 @@ call_whole before body s id front head end to more b read is =
     ∙ ap (λ (items : List Item). Ok items) (append_assoc (start_items s) front more))
     ∙ ap (λ (p : ProcId). cond (agrees (procedure_of before s.xid) p) (Ok (whole_call s front more)) (refused 0 XidConflict)) (call_procedure body s id front more head end b)
 
-pub call_accepted : (before : List (List Item)) (body : List ℕ) (s : Start) (id : ProcId) (front : List Item) (head end to : ℕ) (more : List Item) → CallBegins body s id front head end
+pub call_accepted : (before : List (List Item)) (body : List ℕ) (s : MessageStart) (id : ProcId) (front : List Item) (head end to : ℕ) (more : List Item) → CallBegins body s id front head end
     → reading_layout (arguments_of id) body end ≡ Ok (more, to) → to ≡ length body → agrees (procedure_of before s.xid) id ≡ true
     → judge_call before body ≡ Ok (whole_call s front more)
 call_accepted before body s id front head end to more b read is agree =
@@ -128,7 +128,7 @@ call_accepted before body s id front head end to more b read is agree =
 -- ---- replies
 
 -- what was read of a reply to a call of this procedure: its start, and its head, of a success or not
-pub record ReplyBegins (calls : List (List Item)) (body : List ℕ) (s : Start) (id : ProcId) (success : Bool) (front : List Item) (head end : ℕ) : Type 0 where
+pub record ReplyBegins (calls : List (List Item)) (body : List ℕ) (s : MessageStart) (id : ProcId) (success : Bool) (front : List Item) (head end : ℕ) : Type 0 where
   pub start : reading message_start body 0 ≡ Ok (start_items s, head)
   pub is_reply : s.is_reply ≡ true
   pub asked : procedure_of calls s.xid ≡ Some id
@@ -139,38 +139,38 @@ pub reply_bad_start : (calls : List (List Item)) (body : List ℕ) (stop : Stop)
 unfolding judge_reply
 reply_bad_start calls body stop e = rw e refl
 
-pub reply_wrong_side : (calls : List (List Item)) (body : List ℕ) (s : Start) (to : ℕ) → reading message_start body 0 ≡ Ok (start_items s, to) → s.is_reply ≡ false
+pub reply_wrong_side : (calls : List (List Item)) (body : List ℕ) (s : MessageStart) (to : ℕ) → reading message_start body 0 ≡ Ok (start_items s, to) → s.is_reply ≡ false
     → judge_reply calls body ≡ refused 4 WrongSide
 unfolding judge_reply
 reply_wrong_side calls body s to e is = rw (e, is) refl
 
-reply_read_on : (calls : List (List Item)) (body : List ℕ) (s : Start) (to : ℕ) → reading message_start body 0 ≡ Ok (start_items s, to) → s.is_reply ≡ true
+reply_read_on : (calls : List (List Item)) (body : List ℕ) (s : MessageStart) (to : ℕ) → reading message_start body 0 ≡ Ok (start_items s, to) → s.is_reply ≡ true
     → judge_reply calls body ≡ answering body (procedure_of calls s.xid)
 unfolding judge_reply
 reply_read_on calls body s to e is = rw (e, is) refl
 
-pub reply_unasked : (calls : List (List Item)) (body : List ℕ) (s : Start) (to : ℕ) → reading message_start body 0 ≡ Ok (start_items s, to) → s.is_reply ≡ true
+pub reply_unasked : (calls : List (List Item)) (body : List ℕ) (s : MessageStart) (to : ℕ) → reading message_start body 0 ≡ Ok (start_items s, to) → s.is_reply ≡ true
     → procedure_of calls s.xid ≡ None → judge_reply calls body ≡ refused 0 NoCall
 reply_unasked calls body s to e is none = reply_read_on calls body s to e is ∙ ap (answering body) none
 
-pub reply_bad_head : (calls : List (List Item)) (body : List ℕ) (s : Start) (id : ProcId) (stop : Stop) (head : ℕ) → reading message_start body 0 ≡ Ok (start_items s, head) → s.is_reply ≡ true
+pub reply_bad_head : (calls : List (List Item)) (body : List ℕ) (s : MessageStart) (id : ProcId) (stop : Stop) (head : ℕ) → reading message_start body 0 ≡ Ok (start_items s, head) → s.is_reply ≡ true
     → procedure_of calls s.xid ≡ Some id → reading reply_head body head ≡ Err stop → judge_reply calls body ≡ Err stop
 reply_bad_head calls body s id stop head e is asked read =
     reply_read_on calls body s head e is
     ∙ ap (answering body) asked
     ∙ ap (λ r. r >>= λ items. Ok (record { id = id; items = items })) (whole_refused (reply_layout (results_of id)) body stop (reply_head_refused (results_of id) body s stop 0 head e is read))
 
-reply_laid : (calls : List (List Item)) (body : List ℕ) (s : Start) (id : ProcId) (success : Bool) (front : List Item) (head end : ℕ) → ReplyBegins calls body s id success front head end
+reply_laid : (calls : List (List Item)) (body : List ℕ) (s : MessageStart) (id : ProcId) (success : Bool) (front : List Item) (head end : ℕ) → ReplyBegins calls body s id success front head end
     → reading_layout (reply_layout (results_of id)) body 0 ≡ with_front (start_items s ++ front) (reading_layout (results_after success id) body end)
 reply_laid calls body s id success front head end b =
     reply_read (results_of id) body s front 0 head end b.start b.is_reply b.read
     ∙ ap (λ (c : Bool). with_front (start_items s ++ front) (reading_layout (results_after c id) body end)) b.told
 
-reply_answers : (calls : List (List Item)) (body : List ℕ) (s : Start) (id : ProcId) (success : Bool) (front : List Item) (head end : ℕ) → ReplyBegins calls body s id success front head end
+reply_answers : (calls : List (List Item)) (body : List ℕ) (s : MessageStart) (id : ProcId) (success : Bool) (front : List Item) (head end : ℕ) → ReplyBegins calls body s id success front head end
     → judge_reply calls body ≡ (read_whole (reply_layout (results_of id)) body >>= λ items. Ok (record { id = id; items = items }))
 reply_answers calls body s id success front head end b = reply_read_on calls body s head b.start b.is_reply ∙ ap (answering body) b.asked
 
-pub reply_bad_results : (calls : List (List Item)) (body : List ℕ) (s : Start) (id : ProcId) (success : Bool) (front : List Item) (head end : ℕ) (stop : Stop) → ReplyBegins calls body s id success front head end
+pub reply_bad_results : (calls : List (List Item)) (body : List ℕ) (s : MessageStart) (id : ProcId) (success : Bool) (front : List Item) (head end : ℕ) (stop : Stop) → ReplyBegins calls body s id success front head end
     → reading_layout (results_after success id) body end ≡ Err stop → judge_reply calls body ≡ Err stop
 reply_bad_results calls body s id success front head end stop b read =
     reply_answers calls body s id success front head end b
@@ -178,7 +178,7 @@ reply_bad_results calls body s id success front head end stop b read =
     (whole_refused (reply_layout (results_of id)) body stop
     (reply_laid calls body s id success front head end b ∙ ap (with_front (start_items s ++ front)) read ∙ front_refused (start_items s ++ front) stop))
 
-pub reply_trails : (calls : List (List Item)) (body : List ℕ) (s : Start) (id : ProcId) (success : Bool) (front : List Item) (head end to : ℕ) (more : List Item) → ReplyBegins calls body s id success front head end
+pub reply_trails : (calls : List (List Item)) (body : List ℕ) (s : MessageStart) (id : ProcId) (success : Bool) (front : List Item) (head end to : ℕ) (more : List Item) → ReplyBegins calls body s id success front head end
     → reading_layout (results_after success id) body end ≡ Ok (more, to) → to ≢ length body → judge_reply calls body ≡ refused to Trailing
 reply_trails calls body s id success front head end to more b read other =
     reply_answers calls body s id success front head end b
@@ -187,14 +187,14 @@ reply_trails calls body s id success front head end to more b read other =
     (reply_laid calls body s id success front head end b ∙ ap (with_front (start_items s ++ front)) read) other)
 
 -- a whole reply's items: its start, its head and its results
-abbrev pub whole_reply : Start → List Item → List Item → List Item
+abbrev pub whole_reply : MessageStart → List Item → List Item → List Item
 whole_reply s front more = followed_by (start_items s) (followed_by front more)
 
-pub reply_xid : (s : Start) (front more : List Item) → xid_in (whole_reply s front more) ≡ s.xid
+pub reply_xid : (s : MessageStart) (front more : List Item) → xid_in (whole_reply s front more) ≡ s.xid
 unfolding followed_by
 reply_xid s front more = refl
 
-pub reply_accepted : (calls : List (List Item)) (body : List ℕ) (s : Start) (id : ProcId) (success : Bool) (front : List Item) (head end to : ℕ) (more : List Item) → ReplyBegins calls body s id success front head end
+pub reply_accepted : (calls : List (List Item)) (body : List ℕ) (s : MessageStart) (id : ProcId) (success : Bool) (front : List Item) (head end to : ℕ) (more : List Item) → ReplyBegins calls body s id success front head end
     → reading_layout (results_after success id) body end ≡ Ok (more, to) → to ≡ length body → judge_reply calls body ≡ Ok (record { id = id; items = whole_reply s front more })
 unfolding followed_by
 reply_accepted calls body s id success front head end to more b read is =

@@ -5,13 +5,13 @@ use Rattle.xdr3.specs.declared.reason.Reason.{Reason}
 use Rattle.xdr3.specs.declared.reason.Reason.TheVariants.{RpcVersion}
 use Rattle.xdr3.specs.Item.{Item, Spells, Var}
 use Rattle.xdr3.specs.Layout.{exactly, RefusesLayout}
-use Rattle.xdr3.specs.Shape.{Shape, Fits, Refuses, listed, nothing, opaque, word}
+use Rattle.xdr3.specs.Shape.{Shape, Fits, Refuses, ◌then◌, listed, nothing, opaque, word}
 use Rattle.xdr3.proofs.Items.{length_of_spelling}
 use Rattle.xdr3.proofs.Reasons.{HasItemReasons, IsOfItem, LayoutHasItemReasons, layout_refused_for, refused_for}
 use Rattle.rpc_head.specs.declared.call.ProcId.{ProcId}
 use Rattle.rpc_head.specs.Messages.{call_layout, call_start, has_results, procedure_in, reply_layout, reply_start}
 use Rattle.rpc_head.specs.Names.{head_names}
-use Rattle.rpc_head.specs.Shapes.{◌then◌, accept, auth_stats, auth_sys, call_head, credential, deny, gids, message_start, parameters, reply_head, verifier, versions}
+use Rattle.rpc_head.specs.Shapes.{accept, auth_stats, auth_sys, call_head, credential, deny, gids, message_start, parameters, reply_head, verifier, versions}
 use Rattle.procs3.specs.Table.{arguments_of, results_of}
 use Rattle.capture3.proofs.BodiesLemmas.{start_of, two_words}
 use Rattle.capture3.proofs.ProcedureReasons.{arguments_have_reasons, layout_reasons_if, reasons_if, results_have_reasons}

@@ -14,10 +14,10 @@ use Rattle.xdr3.specs.View.{View}
 use Rattle.xdr3.specs.Visit.{Adds}
 use Rattle.xdr3.proofs.Walks.{adds_both}
 use Rattle.rpc_head.specs.declared.call.ProcId.{ProcId}
-use Rattle.rpc_head.specs.declared.message.Start.{Start}
+use Rattle.rpc_head.specs.declared.message_start.MessageStart.{MessageStart}
 use Rattle.rpc_head.specs.HeadScan.{ScansCallHead, ScansReplyHead}
 use Rattle.rpc_head.specs.Shapes.{call_head, message_start, reply_head}
-use Rattle.rpc_head.specs.Starts.{start_items}
+use Rattle.rpc_head.specs.MessageStart.{start_items}
 use Rattle.procs3.specs.Table.{arguments_of}
 use Rattle.capture3.specs.declared.message.calls.NumberedCall.{NumberedCall}
 use Rattle.capture3.specs.Bodies.{procedure_of}
@@ -40,18 +40,18 @@ error_stops (Ok m) judged error h answers = absurd h
 error_stops (Err e) judged error h answers = λ stop same. answers stop (sym h ∙ same)
 
 -- the start of a message of this side was read, up to this view
-pub record StartRead (body : List ℕ) (s : Start) (is_reply : Bool) (view : View) : Type 0 where
+pub record StartRead (body : List ℕ) (s : MessageStart) (is_reply : Bool) (view : View) : Type 0 where
   pub start : reading message_start body 0 ≡ Ok (start_items s, view.at)
   pub side : s.is_reply ≡ is_reply
   pub same_body : view.body ≡ body
 
 -- ---- calls
 
-pub call_head_stops : (before : List (List Item)) (body : List ℕ) (s : Start) (v1 : View) (e : GetError) → StartRead body s false v1 → Stops call_head v1 e → StopsMessage e (judge_call before body)
+pub call_head_stops : (before : List (List Item)) (body : List ℕ) (s : MessageStart) (v1 : View) (e : GetError) → StartRead body s false v1 → Stops call_head v1 e → StopsMessage e (judge_call before body)
 unfolding Stops
 call_head_stops before body s v1 e b h = λ stop is. call_bad_head before body s stop v1.at b.start b.side (subst (λ (l : List ℕ). reading call_head l v1.at ≡ Err stop) b.same_body (h stop is))
 
-call_begun : {V : Type 0} (stands : V → List Item → Type 0) (body : List ℕ) (s : Start) (id : ProcId) (v1 v2 : View) (n1 n2 : V) → StartRead body s false v1 → ScansCallHead stands id v1 v2 n1 n2
+call_begun : {V : Type 0} (stands : V → List Item → Type 0) (body : List ℕ) (s : MessageStart) (id : ProcId) (v1 v2 : View) (n1 n2 : V) → StartRead body s false v1 → ScansCallHead stands id v1 v2 n1 n2
     → (front : List Item) × CallBegins body s id front v1.at v2.at × (v2.body ≡ body) × Adds stands n1 n2 front
 unfolding ScansCallHead
 call_begun stands body s id v1 v2 n1 n2 b h = (
@@ -66,7 +66,7 @@ call_begun stands body s id v1 v2 n1 n2 b h = (
   h.4,
 )
 
-pub arguments_stop : {V : Type 0} (stands : V → List Item → Type 0) (before : List (List Item)) (body : List ℕ) (s : Start) (id : ProcId) (v1 v2 : View) (n1 n2 : V) (e : GetError) → StartRead body s false v1
+pub arguments_stop : {V : Type 0} (stands : V → List Item → Type 0) (before : List (List Item)) (body : List ℕ) (s : MessageStart) (id : ProcId) (v1 v2 : View) (n1 n2 : V) (e : GetError) → StartRead body s false v1
     → ScansCallHead stands id v1 v2 n1 n2 → StopsLayout (arguments_of id) v2 e → StopsMessage e (judge_call before body)
 unfolding StopsLayout
 arguments_stop stands before body s id v1 v2 n1 n2 e b h x = λ stop is.
@@ -74,7 +74,7 @@ arguments_stop stands before body s id v1 v2 n1 n2 e b h x = λ stop is.
     call_bad_arguments before body s id c.0 v1.at v2.at stop c.1 (subst (λ (l : List ℕ). reading_layout (arguments_of id) l v2.at ≡ Err stop) c.2 (x stop is))
 
 -- a call was read up to the last view, and a visitor was told its items
-pub record CallRead {V : Type 0} (stands : V → List Item → Type 0) (body : List ℕ) (s : Start) (id : ProcId) (head end : ℕ) (last : View) (old new : V) : Type 0 where
+pub record CallRead {V : Type 0} (stands : V → List Item → Type 0) (body : List ℕ) (s : MessageStart) (id : ProcId) (head end : ℕ) (last : View) (old new : V) : Type 0 where
   pub front : List Item
   pub more : List Item
   pub begins : CallBegins body s id front head end
@@ -82,7 +82,7 @@ pub record CallRead {V : Type 0} (stands : V → List Item → Type 0) (body : L
   pub same_body : last.body ≡ body
   pub adds : Adds stands old new (whole_call s front more)
 
-pub call_told : {V : Type 0} (stands : V → List Item → Type 0) (body : List ℕ) (s : Start) (id : ProcId) (v1 v2 v3 : View) (n0 n1 n2 n3 : V) → StartRead body s false v1 → Adds stands n0 n1 (start_items s)
+pub call_told : {V : Type 0} (stands : V → List Item → Type 0) (body : List ℕ) (s : MessageStart) (id : ProcId) (v1 v2 v3 : View) (n0 n1 n2 n3 : V) → StartRead body s false v1 → Adds stands n0 n1 (start_items s)
     → ScansCallHead stands id v1 v2 n1 n2 → ScansLayout stands (arguments_of id) v2 v3 n2 n3 → CallRead stands body s id v1.at v2.at v3 n0 n3
 unfolding ScansLayout followed_by
 call_told stands body s id v1 v2 v3 n0 n1 n2 n3 b a h x =
@@ -96,7 +96,7 @@ call_told stands body s id v1 v2 v3 n0 n1 n2 n3 b a h x =
       adds = adds_both stands n0 n1 n3 (start_items s) (c.0 ++ x.0) a (adds_both stands n1 n2 n3 c.0 x.0 c.3 x.3);
     }
 
-pub call_scans : {V : Type 0} (stands : V → List Item → Type 0) (body : List ℕ) (s : Start) (id : ProcId) (head end : ℕ) (last : View) (old new : V) → AreBytes body
+pub call_scans : {V : Type 0} (stands : V → List Item → Type 0) (body : List ℕ) (s : MessageStart) (id : ProcId) (head end : ℕ) (last : View) (old new : V) → AreBytes body
     → CallRead stands body s id head end last old new → last.at ≡ length body → ScansCall stands body (record { xid = s.xid; id = id }) old new
 call_scans stands body s id head end last old new are r is = record {
   items = whole_call s r.front r.more;
@@ -114,13 +114,13 @@ call_agrees stands before body call old new s agree = s.judged before ∙ ap (λ
 
 -- ---- replies
 
-pub reply_head_stops : (calls : List (List Item)) (body : List ℕ) (s : Start) (id : ProcId) (v1 : View) (e : GetError) → StartRead body s true v1 → procedure_of calls s.xid ≡ Some id → Stops reply_head v1 e
+pub reply_head_stops : (calls : List (List Item)) (body : List ℕ) (s : MessageStart) (id : ProcId) (v1 : View) (e : GetError) → StartRead body s true v1 → procedure_of calls s.xid ≡ Some id → Stops reply_head v1 e
     → StopsMessage e (judge_reply calls body)
 unfolding Stops
 reply_head_stops calls body s id v1 e b asked h = λ stop is.
     reply_bad_head calls body s id stop v1.at b.start b.side asked (subst (λ (l : List ℕ). reading reply_head l v1.at ≡ Err stop) b.same_body (h stop is))
 
-reply_begun : {V : Type 0} (stands : V → List Item → Type 0) (calls : List (List Item)) (body : List ℕ) (s : Start) (id : ProcId) (success : Bool) (v1 v2 : View) (n1 n2 : V) → StartRead body s true v1
+reply_begun : {V : Type 0} (stands : V → List Item → Type 0) (calls : List (List Item)) (body : List ℕ) (s : MessageStart) (id : ProcId) (success : Bool) (v1 v2 : View) (n1 n2 : V) → StartRead body s true v1
     → procedure_of calls s.xid ≡ Some id → ScansReplyHead stands success v1 v2 n1 n2
     → (front : List Item) × ReplyBegins calls body s id success front v1.at v2.at × (v2.body ≡ body) × Adds stands n1 n2 front
 unfolding ScansReplyHead
@@ -137,7 +137,7 @@ reply_begun stands calls body s id success v1 v2 n1 n2 b asked h = (
   h.4,
 )
 
-pub results_stop : {V : Type 0} (stands : V → List Item → Type 0) (calls : List (List Item)) (body : List ℕ) (s : Start) (id : ProcId) (success : Bool) (v1 v2 : View) (n1 n2 : V) (e : GetError)
+pub results_stop : {V : Type 0} (stands : V → List Item → Type 0) (calls : List (List Item)) (body : List ℕ) (s : MessageStart) (id : ProcId) (success : Bool) (v1 v2 : View) (n1 n2 : V) (e : GetError)
     → StartRead body s true v1 → procedure_of calls s.xid ≡ Some id → ScansReplyHead stands success v1 v2 n1 n2 → StopsLayout (results_after success id) v2 e → StopsMessage e (judge_reply calls body)
 unfolding StopsLayout
 results_stop stands calls body s id success v1 v2 n1 n2 e b asked h x = λ stop is.
@@ -145,7 +145,7 @@ results_stop stands calls body s id success v1 v2 n1 n2 e b asked h x = λ stop 
     reply_bad_results calls body s id success c.0 v1.at v2.at stop c.1 (subst (λ (l : List ℕ). reading_layout (results_after success id) l v2.at ≡ Err stop) c.2 (x stop is))
 
 -- a reply was read up to the last view, and a visitor was told its items
-pub record ReplyRead {V : Type 0} (stands : V → List Item → Type 0) (body : List ℕ) (s : Start) (id : ProcId) (success : Bool) (head end : ℕ) (last : View) (old new : V) : Type 0 where
+pub record ReplyRead {V : Type 0} (stands : V → List Item → Type 0) (body : List ℕ) (s : MessageStart) (id : ProcId) (success : Bool) (head end : ℕ) (last : View) (old new : V) : Type 0 where
   pub front : List Item
   pub more : List Item
   pub begins : (calls : List (List Item)) → procedure_of calls s.xid ≡ Some id → ReplyBegins calls body s id success front head end
@@ -157,7 +157,7 @@ pub record ReplyRead {V : Type 0} (stands : V → List Item → Type 0) (body : 
 asked_by : (xid : ℕ) (id : ProcId) → procedure_of (asking xid id ∷ []) xid ≡ Some id
 asked_by xid id = ap (λ (b : Bool). cond b (Some id) None) (eq-eqb xid xid refl)
 
-pub reply_told : {V : Type 0} (stands : V → List Item → Type 0) (body : List ℕ) (s : Start) (id : ProcId) (success : Bool) (v1 v2 v3 : View) (n0 n1 n2 n3 : V) → StartRead body s true v1
+pub reply_told : {V : Type 0} (stands : V → List Item → Type 0) (body : List ℕ) (s : MessageStart) (id : ProcId) (success : Bool) (v1 v2 v3 : View) (n0 n1 n2 n3 : V) → StartRead body s true v1
     → Adds stands n0 n1 (start_items s) → ScansReplyHead stands success v1 v2 n1 n2 → ScansLayout stands (results_after success id) v2 v3 n2 n3 → ReplyRead stands body s id success v1.at v2.at v3 n0 n3
 unfolding ScansReplyHead ScansLayout followed_by
 reply_told stands body s id success v1 v2 v3 n0 n1 n2 n3 b a h x =
@@ -177,7 +177,7 @@ reply_told stands body s id success v1 v2 v3 n0 n1 n2 n3 b a h x =
       adds = adds_both stands n0 n1 n3 (start_items s) (h.0 ++ x.0) a (adds_both stands n1 n2 n3 h.0 x.0 h.4 x.3);
     }
 
-pub reply_scans : {V : Type 0} (stands : V → List Item → Type 0) (table : List NumberedCall) (body : List ℕ) (s : Start) (id : ProcId) (success : Bool) (head end : ℕ) (last : View) (old new : V) → AreBytes body
+pub reply_scans : {V : Type 0} (stands : V → List Item → Type 0) (table : List NumberedCall) (body : List ℕ) (s : MessageStart) (id : ProcId) (success : Bool) (head end : ℕ) (last : View) (old new : V) → AreBytes body
     → ReplyRead stands body s id success head end last old new → last.at ≡ length body → found table s.xid ≡ Some id → ScansReply stands table body id old new
 reply_scans stands table body s id success head end last old new are r is asked = record {
   items = whole_reply s r.front r.more;

@@ -5,11 +5,11 @@ use Rattle.xdr3.specs.Item.{Item, Word}
 use Rattle.xdr3.specs.Reading.{reading}
 use Rattle.xdr3.proofs.Layouts.{reads_whole}
 use Rattle.rpc_head.specs.declared.call.ProcId.{ProcId}
-use Rattle.rpc_head.specs.declared.message.Start.{Start}
+use Rattle.rpc_head.specs.declared.message_start.MessageStart.{MessageStart}
 use Rattle.rpc_head.specs.Messages.{call_layout, reply_layout, procedure_in}
 use Rattle.rpc_head.specs.Names.{head_names}
 use Rattle.rpc_head.specs.Shapes.{message_start}
-use Rattle.rpc_head.specs.Starts.{start_items}
+use Rattle.rpc_head.specs.MessageStart.{start_items}
 use Rattle.procs3.specs.Table.{arguments_of, results_of}
 use Rattle.capture3.specs.declared.message.calls.NumberedCall.{NumberedCall}
 use Rattle.capture3.specs.Bodies.{IsCall, IsReply, Starts, xid_in, procedure_of}
@@ -27,7 +27,7 @@ same_ok r a b x y = cc
 -- ---- calls
 
 -- the start of what begins with one is read, with its xid
-xid_read : (body : List ℕ) (xid mtype : ℕ) (start : Start) (to : ℕ) → Starts body xid mtype → reading message_start body 0 ≡ Ok (start_items start, to) → start.xid ≡ xid
+xid_read : (body : List ℕ) (xid mtype : ℕ) (start : MessageStart) (to : ℕ) → Starts body xid mtype → reading message_start body 0 ≡ Ok (start_items start, to) → start.xid ≡ xid
 xid_read body xid mtype start to starts read =
     let r = start_read body xid mtype starts in
     ap (λ (x : List Item × ℕ). xid_in x.0) (same_ok (reading message_start body 0) (start_items start, to) (start_of xid mtype, r.0) read r.1)
@@ -43,7 +43,7 @@ call_start body items is = call_starts body items [] ((reads_whole (call_layout 
 pub call_start_is_whole : (id : ProcId) (body : List ℕ) (stop : Stop) → SpellsCall id body → reading message_start body 0 ≡ Err stop → ⊥
 call_start_is_whole id body stop s e = start_is_whole body (xid_in s.0) 0 stop (call_start body s.0 s.1) e
 
-pub call_has_xid : (body : List ℕ) (items : List Item) (start : Start) (to : ℕ) → IsCall body items → reading message_start body 0 ≡ Ok (start_items start, to) → start.xid ≡ xid_in items
+pub call_has_xid : (body : List ℕ) (items : List Item) (start : MessageStart) (to : ℕ) → IsCall body items → reading message_start body 0 ≡ Ok (start_items start, to) → start.xid ≡ xid_in items
 call_has_xid body items start to is read = xid_read body (xid_in items) 0 start to (call_start body items is) read
 
 call_judged : (body : List ℕ) (items : List Item) → IsCall body items → judge_call [] body ≡ Ok items
@@ -67,7 +67,7 @@ reply_start id body items is = reply_starts (results_of id) body items [] ((read
 pub reply_start_is_whole : (id : ProcId) (body : List ℕ) (stop : Stop) → SpellsReply id body → reading message_start body 0 ≡ Err stop → ⊥
 reply_start_is_whole id body stop s e = start_is_whole body (xid_in s.0) 1 stop (reply_start id body s.0 s.1) e
 
-pub reply_has_xid : (id : ProcId) (body : List ℕ) (items : List Item) (start : Start) (to : ℕ) → IsReply body (record { id = id; items = items }) → reading message_start body 0 ≡ Ok (start_items start, to) → start.xid ≡ xid_in items
+pub reply_has_xid : (id : ProcId) (body : List ℕ) (items : List Item) (start : MessageStart) (to : ℕ) → IsReply body (record { id = id; items = items }) → reading message_start body 0 ≡ Ok (start_items start, to) → start.xid ≡ xid_in items
 reply_has_xid id body items start to is read = xid_read body (xid_in items) 1 start to (reply_start id body items is) read
 
 -- and one reply of each procedure

@@ -2,12 +2,12 @@
 use Rattle.std.proofs.Common.{ℕ, List, refl}
 use Rattle.std.specs.Prelude.{nat_eq, ◌||◌, if◌then◌else◌}
 use Rattle.xdr3.specs.Item.{Var}
-use Rattle.xdr3.specs.Shape.{Shape, fixed, hyper, listed, nothing, opaque, optional, word}
+use Rattle.xdr3.specs.Shape.{Shape, ◌then◌, fixed, hyper, listed, nothing, opaque, optional, word}
 use Rattle.xdr3.specs.Layout.{exactly, rest}
 use Rattle.rpc_head.specs.declared.call.ProcId.{ProcId}
 use Rattle.rpc_head.specs.Messages.{call_layout, call_start, has_results, procedure_in, reply_layout, reply_start}
 use Rattle.rpc_head.specs.Names as head
-use Rattle.rpc_head.specs.Shapes.{accept, auth_stats, auth_sys, call_head, credential, deny, gids, parameters, reply_head, verifier, versions, ◌then◌}
+use Rattle.rpc_head.specs.Shapes.{accept, auth_stats, auth_sys, call_head, credential, deny, gids, parameters, reply_head, verifier, versions}
 use Rattle.nfs3_types.specs.Names.{names}
 use Rattle.nfs3_types.specs.Shapes.{attributes, dir_op, export, exports, file_kind, flavor, group, guard, handle, mount_list, mount_ok, mounted, post_op_attr, post_op_fh, results, set_hyper, set_word, settable, time, time_how, times, wcc, wcc_attr}
 use Rattle.procs3.specs.Shapes.{access_args, access_ok, commit_ok, create_args, create_how, create_ok, device, dirpath, entry, entry_plus, file_range, fsinfo_ok, fsstat_ok, link_args, link_wcc, lookup_ok, mkdir_args, mknod_args, mknod_what, mount_results, pathconf_ok, read_ok, readdir_args, readdir_ok, readdirplus_args, readdirplus_ok, readlink_ok, rename_args, rename_wcc, setattr_args, symlink_args, write_args, write_ok}

@@ -1,11 +1,12 @@
 -- Attributes by the ends of their shapes.
 use Rattle.std.proofs.Common.{List}
+use Rattle.xdr3.specs.Shape.{◌then◌}
 use Rattle.xdr3.specs.declared.reason.GetError.{GetError}
 use Rattle.xdr3.specs.Item.{Item}
 use Rattle.xdr3.specs.Scan.{Scans, Stops}
 use Rattle.xdr3.specs.View.{View}
 use Rattle.nfs3_types.specs.machinery.AttributeTails.{after_type, settable_times}
-use Rattle.nfs3_types.specs.Shapes.{attributes, file_kind, ◌then◌, time_how}
+use Rattle.nfs3_types.specs.Shapes.{attributes, file_kind, time_how}
 use Rattle.nfs3_types.specs.Names.{names}
 
 pub attributes_scanned : {V : Type 0} (stands : V → List Item → Type 0) (v0 v1 : View) (s0 s1 : V) → Scans stands (file_kind then after_type) v0 v1 s0 s1 → Scans stands attributes v0 v1 s0 s1

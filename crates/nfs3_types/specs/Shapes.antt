@@ -1,16 +1,12 @@
 -- The shapes of the parts (RFC 1813, sections 2.5, 2.6 and 5).
 use Rattle.std.specs.Prelude.{ℕ, ◌==◌, if◌then◌else◌, List, [], ◌∷◌}
-use Rattle.xdr3.specs.Shape.{Shape, both, choose, counted, hyper, is_listed, linked, listed, nothing, opaque, optional, word}
+use Rattle.xdr3.specs.Shape.{Shape, ◌then◌, choose, counted, hyper, is_listed, linked, listed, nothing, opaque, optional, word}
 use Rattle.xdr3.specs.declared.reason.Reason.TheVariants.{BadEnum}
 use Rattle.xdr3.specs.Item.{Handle, Text}
 use Rattle.nfs3_types.specs.FileKind.{file_kind_words}
 use Rattle.nfs3_types.specs.MountStatus.{mount_status_words}
 use Rattle.nfs3_types.specs.Names.{names}
 use Rattle.nfs3_types.specs.Status.{status_words}
-
-infixr 5 ◌then◌
-abbrev pub ◌then◌ : Shape → Shape → Shape
-a then b = both a b
 
 -- the longest opaque data, string or array that has no maximum of its own (RFC 4506, sections 4.10, 4.11 and 4.13)
 abbrev pub no_maximum : ℕ

@@ -36,7 +36,8 @@ impl Handle {
         }
     }
 
-    fn from_short(bytes: &[u8]) -> Handle
+    /// The handle of these bytes, of which there are at most 64.
+    pub fn from_short(bytes: &[u8]) -> Handle
         requires { length bytes.now ≤ 64 }
         ensures { handle_bytes result ≡ bytes.now }
     {

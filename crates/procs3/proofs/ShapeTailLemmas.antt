@@ -3,10 +3,9 @@ use Rattle.std.proofs.Common.{List}
 use Rattle.xdr3.specs.declared.reason.GetError.{GetError}
 use Rattle.xdr3.specs.Item.{Item}
 use Rattle.xdr3.specs.Scan.{Scans, Stops}
-use Rattle.xdr3.specs.Shape.{word}
+use Rattle.xdr3.specs.Shape.{◌then◌, word}
 use Rattle.xdr3.specs.View.{View}
 use Rattle.nfs3_types.specs.Names.{names}
-use Rattle.nfs3_types.specs.Shapes.{◌then◌}
 use Rattle.procs3.specs.machinery.ShapeTails.{directory_counts, fsinfo_numbers, fsinfo_parts, fsstat_numbers, fsstat_parts, pathconf_limits, pathconf_names, pathconf_parts, range, range_parts, write_parts, written}
 use Rattle.procs3.specs.Shapes.{file_range, fsinfo_ok, fsstat_ok, pathconf_ok, write_args}
 

@@ -1,12 +1,12 @@
 -- The shapes of arguments and results that are not parts of their own (RFC 1813, sections 3.3 and 5.2).
 use Rattle.std.specs.Prelude.{ℕ, ◌==◌, ◌||◌, if◌then◌else◌, List, [], ◌∷◌}
-use Rattle.xdr3.specs.Shape.{Shape, boolean, choose, fixed, hyper, is_listed, linked, listed, nothing, opaque, word, write_verf}
+use Rattle.xdr3.specs.Shape.{Shape, ◌then◌, boolean, choose, fixed, hyper, is_listed, linked, listed, nothing, opaque, word, write_verf}
 use Rattle.xdr3.specs.declared.reason.Reason.TheVariants.{BadEnum}
 use Rattle.xdr3.specs.Item.{Text, Var}
 use Rattle.nfs3_types.specs.FileKind.{file_kind_words}
 use Rattle.nfs3_types.specs.MountStatus.{mount_status_words}
 use Rattle.nfs3_types.specs.Names.{names}
-use Rattle.nfs3_types.specs.Shapes.{◌then◌, dir_op, guard, handle, mount_ok, no_maximum, post_op_attr, post_op_fh, settable, time, wcc}
+use Rattle.nfs3_types.specs.Shapes.{dir_op, guard, handle, mount_ok, no_maximum, post_op_attr, post_op_fh, settable, time, wcc}
 use Rattle.nfs3_types.specs.Stable.{stable_words}
 
 -- SETATTR3args (RFC 1813, section 3.3.2)

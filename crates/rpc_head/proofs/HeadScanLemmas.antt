@@ -7,7 +7,7 @@ use Rattle.xdr3.specs.declared.reason.Reason.TheVariants.{BadEnum, Flavor, RpcVe
 use Rattle.xdr3.specs.Item.{Item, Word, Opaque, Var}
 use Rattle.xdr3.specs.Reading.{reading, word_at, opaque_at}
 use Rattle.xdr3.specs.Scan.{Scans, ScansWord, Stops}
-use Rattle.xdr3.specs.Shape.{is_any, is_listed, opaque}
+use Rattle.xdr3.specs.Shape.{◌then◌, is_any, is_listed, opaque}
 use Rattle.xdr3.specs.View.{View}
 use Rattle.xdr3.proofs.Bytes.{bind_ok, pair_is}
 use Rattle.xdr3.proofs.ScanLemmas.{moves_both}
@@ -15,7 +15,7 @@ use Rattle.xdr3.proofs.Walks.{adds_joined}
 use Rattle.rpc_head.specs.HeadScan.{ScansCallHead, ScansReplyHead}
 use Rattle.rpc_head.specs.machinery.HeadScan.{ScansAccept, credentials}
 use Rattle.rpc_head.specs.Names.{head_names}
-use Rattle.rpc_head.specs.Shapes.{◌then◌, accept, accept_stats, call_head, credential, deny, reply_head, reply_stats, rpc_versions, verifier, verifier_flavors}
+use Rattle.rpc_head.specs.Shapes.{accept, accept_stats, call_head, credential, deny, reply_head, reply_stats, rpc_versions, verifier, verifier_flavors}
 
 pub credentials_scanned : {V : Type 0} (stands : V → List Item → Type 0) (v0 v1 : View) (s0 s1 : V) → Scans stands credentials v0 v1 s0 s1 → Scans stands (credential then verifier) v0 v1 s0 s1
 unfolding credentials

@@ -1,5 +1,5 @@
 pub mod Lengths
 pub mod Limits
 pub mod Messages
-pub mod Started
+pub mod MessageStartLemmas
 pub mod HeadScanLemmas

@@ -5,17 +5,17 @@ use Rattle.xdr3.specs.declared.reason.Stop.{Stop}
 use Rattle.xdr3.specs.Item.{Item, Word}
 use Rattle.xdr3.specs.Layout.{Layout, after, exactly, reading_layout}
 use Rattle.xdr3.specs.Reading.{◌>>=◌, number_at, reading, refused, word_at}
-use Rattle.xdr3.specs.Shape.{Shape, both, choose, is_any, is_listed, listed, nothing, word}
+use Rattle.xdr3.specs.Shape.{Shape, ◌then◌, both, choose, is_any, is_listed, listed, nothing, word}
 use Rattle.xdr3.specs.View.{word_of}
 use Rattle.xdr3.proofs.Bytes.{accept_ok, bind_ok, ok_is}
 use Rattle.xdr3.proofs.Linked.{with_front}
 use Rattle.rpc_head.specs.declared.call.ProcId.{ProcId}
-use Rattle.rpc_head.specs.declared.message.Start.{Start}
+use Rattle.rpc_head.specs.declared.message_start.MessageStart.{MessageStart}
 use Rattle.rpc_head.specs.HeadScan.{procedure_told, tells_success}
 use Rattle.rpc_head.specs.Messages.{call_layout, call_start, has_results, procedure_in, reply_layout, reply_start}
 use Rattle.rpc_head.specs.Names.{head_names}
-use Rattle.rpc_head.specs.Shapes.{◌then◌, call_head, credential, message_start, message_types, reply_head, rpc_versions, verifier}
-use Rattle.rpc_head.specs.Starts.{start_items}
+use Rattle.rpc_head.specs.Shapes.{call_head, credential, message_start, message_types, reply_head, rpc_versions, verifier}
+use Rattle.rpc_head.specs.MessageStart.{start_items}
 
 -- ---- the first two words
 
@@ -40,7 +40,7 @@ one_read name accepted body at z e =
     let n = bind_ok (word_at accepted BadEnum body at) (λ n. Ok (Word name n.0 ∷ [], n.1)) z e in
     (n.0, n.1, ok_is (Word name n.0.0 ∷ [], n.0.1) z n.2)
 
-types_narrowed : (fewer body : List ℕ) (s : Start) (at to : ℕ) → reading message_start body at ≡ Ok (start_items s, to) → is_listed fewer (word_of s.is_reply) ≡ true → reading (word head_names.xid then listed head_names.mtype fewer) body at ≡ Ok (start_items s, to)
+types_narrowed : (fewer body : List ℕ) (s : MessageStart) (at to : ℕ) → reading message_start body at ≡ Ok (start_items s, to) → is_listed fewer (word_of s.is_reply) ≡ true → reading (word head_names.xid then listed head_names.mtype fewer) body at ≡ Ok (start_items s, to)
 unfolding message_start reading
 types_narrowed fewer body s at to e is =
     let z = both_read (word head_names.xid) (listed head_names.mtype message_types) body at (start_items s, to) e in
@@ -54,11 +54,11 @@ types_narrowed fewer body s at to e is =
     let narrow = subst (λ p. word_at (is_listed fewer) BadEnum body p ≡ Ok y.0) place (word_narrowed message_types fewer body y.0.0 z.0.1 y.0.1 y.1 accepted) in
     rw (x.1, narrow) (ap (λ (v : List Item × ℕ). Ok v) whole)
 
-pub call_started : (body : List ℕ) (s : Start) (at to : ℕ) → reading message_start body at ≡ Ok (start_items s, to) → s.is_reply ≡ false → reading call_start body at ≡ Ok (start_items s, to)
+pub call_started : (body : List ℕ) (s : MessageStart) (at to : ℕ) → reading message_start body at ≡ Ok (start_items s, to) → s.is_reply ≡ false → reading call_start body at ≡ Ok (start_items s, to)
 unfolding call_start
 call_started body s at to e is = types_narrowed (0 ∷ []) body s at to e (rw is refl)
 
-pub reply_started : (body : List ℕ) (s : Start) (at to : ℕ) → reading message_start body at ≡ Ok (start_items s, to) → s.is_reply ≡ true → reading reply_start body at ≡ Ok (start_items s, to)
+pub reply_started : (body : List ℕ) (s : MessageStart) (at to : ℕ) → reading message_start body at ≡ Ok (start_items s, to) → s.is_reply ≡ true → reading reply_start body at ≡ Ok (start_items s, to)
 unfolding reply_start
 reply_started body s at to e is = types_narrowed (1 ∷ []) body s at to e (rw is refl)
 
@@ -98,24 +98,24 @@ procedure_read body xs more at to e =
     ∙ ap (λ (v : List Item × ℕ). v.0) all in
     subst (λ (l : List Item). procedure_told (l ++ more) ≡ procedure_told l) are refl
 
-pub call_read : (arguments : ProcId → Layout) (body : List ℕ) (s : Start) (xs : List Item) (at head end : ℕ) → reading message_start body at ≡ Ok (start_items s, head) → s.is_reply ≡ false → reading call_head body head ≡ Ok (xs, end) → reading_layout (call_layout arguments) body at ≡ with_front (start_items s ++ xs) (reading_layout (arguments (procedure_told xs)) body end)
+pub call_read : (arguments : ProcId → Layout) (body : List ℕ) (s : MessageStart) (xs : List Item) (at head end : ℕ) → reading message_start body at ≡ Ok (start_items s, head) → s.is_reply ≡ false → reading call_head body head ≡ Ok (xs, end) → reading_layout (call_layout arguments) body at ≡ with_front (start_items s ++ xs) (reading_layout (arguments (procedure_told xs)) body end)
 unfolding call_layout
 call_read arguments body s xs at head end start is read =
     layout_read call_start call_head (λ items. arguments (procedure_in items)) body (start_items s) xs at head end (call_started body s at head start is) read
 
-pub call_head_refused : (arguments : ProcId → Layout) (body : List ℕ) (s : Start) (stop : Stop) (at head : ℕ) → reading message_start body at ≡ Ok (start_items s, head) → s.is_reply ≡ false → reading call_head body head ≡ Err stop → reading_layout (call_layout arguments) body at ≡ Err stop
+pub call_head_refused : (arguments : ProcId → Layout) (body : List ℕ) (s : MessageStart) (stop : Stop) (at head : ℕ) → reading message_start body at ≡ Ok (start_items s, head) → s.is_reply ≡ false → reading call_head body head ≡ Err stop → reading_layout (call_layout arguments) body at ≡ Err stop
 unfolding call_layout
 call_head_refused arguments body s stop at head start is read =
     head_refused call_start call_head (λ items. arguments (procedure_in items)) body (start_items s) stop at head (call_started body s at head start is) read
 
 -- ---- replies
 
-pub reply_read : (results : Layout) (body : List ℕ) (s : Start) (xs : List Item) (at head end : ℕ) → reading message_start body at ≡ Ok (start_items s, head) → s.is_reply ≡ true → reading reply_head body head ≡ Ok (xs, end) → reading_layout (reply_layout results) body at ≡ with_front (start_items s ++ xs) (reading_layout (cond (tells_success xs) results (exactly nothing)) body end)
+pub reply_read : (results : Layout) (body : List ℕ) (s : MessageStart) (xs : List Item) (at head end : ℕ) → reading message_start body at ≡ Ok (start_items s, head) → s.is_reply ≡ true → reading reply_head body head ≡ Ok (xs, end) → reading_layout (reply_layout results) body at ≡ with_front (start_items s ++ xs) (reading_layout (cond (tells_success xs) results (exactly nothing)) body end)
 unfolding reply_layout
 reply_read results body s xs at head end start is read =
     layout_read reply_start reply_head (λ items. cond (has_results items) results (exactly nothing)) body (start_items s) xs at head end (reply_started body s at head start is) read
 
-pub reply_head_refused : (results : Layout) (body : List ℕ) (s : Start) (stop : Stop) (at head : ℕ) → reading message_start body at ≡ Ok (start_items s, head) → s.is_reply ≡ true → reading reply_head body head ≡ Err stop → reading_layout (reply_layout results) body at ≡ Err stop
+pub reply_head_refused : (results : Layout) (body : List ℕ) (s : MessageStart) (stop : Stop) (at head : ℕ) → reading message_start body at ≡ Ok (start_items s, head) → s.is_reply ≡ true → reading reply_head body head ≡ Err stop → reading_layout (reply_layout results) body at ≡ Err stop
 unfolding reply_layout
 reply_head_refused results body s stop at head start is read =
     head_refused reply_start reply_head (λ items. cond (has_results items) results (exactly nothing)) body (start_items s) stop at head (reply_started body s at head start is) read

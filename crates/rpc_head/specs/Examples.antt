@@ -1,17 +1,14 @@
 -- Messages worked by hand: how their bytes are laid out.
 use Rattle.std.specs.Prelude.{◌≡◌, ℕ, ◌==◌, if◌then◌else◌, List, [], ◌∷◌, ◌++◌, Ok, codes}
-use Rattle.std.specs.List.{flat_map}
 use Rattle.xdr3.specs.declared.reason.Reason.TheVariants.{BadEnum}
-use Rattle.xdr3.specs.Item.{Item, Handle, Opaque, Rest, Text, Var, Word, word_bytes}
+use Rattle.xdr3.specs.Item.{Item, Handle, Opaque, Rest, Text, Var, Word}
+use Rattle.xdr3.specs.Examples.{words}
 use Rattle.xdr3.specs.Layout.{Layout, exactly, rest, reading_layout}
 use Rattle.xdr3.specs.Reading.{refused}
 use Rattle.xdr3.specs.Shape.{nothing, opaque}
 use Rattle.rpc_head.specs.declared.call.ProcId.{ProcId}
 use Rattle.rpc_head.specs.Messages.{call_layout, reply_layout}
 use Rattle.rpc_head.specs.Names.{head_names}
-
-abbrev pub words : List ℕ → List ℕ
-words numbers = flat_map word_bytes numbers
 
 -- a file handle in procedure 1, nothing in any other
 abbrev pub handle_in_one : ProcId → Layout

@@ -2,7 +2,7 @@ pub mod Names
 pub mod Shapes
 pub mod Gids
 pub mod Groups
-pub mod Starts
+pub mod MessageStart
 pub mod Credentials
 pub mod Calls
 pub mod Replies

@@ -2,10 +2,10 @@
 use Rattle.std.specs.Prelude.{Bool, ◌==◌, ◌&&◌, if◌then◌else◌, List, [], ◌∷◌}
 use Rattle.xdr3.specs.Item.{Item}
 use Rattle.xdr3.specs.Layout.{Layout, after, exactly, word_in}
-use Rattle.xdr3.specs.Shape.{Shape, listed, nothing, word}
+use Rattle.xdr3.specs.Shape.{Shape, ◌then◌, listed, nothing, word}
 use Rattle.rpc_head.specs.declared.call.ProcId.{ProcId}
 use Rattle.rpc_head.specs.Names.{head_names}
-use Rattle.rpc_head.specs.Shapes.{◌then◌, call_head, reply_head}
+use Rattle.rpc_head.specs.Shapes.{call_head, reply_head}
 
 -- an mtype is CALL (0) in a call and REPLY (1) in a reply (RFC 5531, section 9)
 unfoldable pub call_start : Shape

@@ -1,13 +1,9 @@
 -- The shapes of the heads of messages (RFC 5531, sections 8.2 and 9, appendix A).
 use Rattle.std.specs.Prelude.{ℕ, ◌==◌, if◌then◌else◌, List, [], ◌∷◌}
-use Rattle.xdr3.specs.Shape.{Shape, both, choose, counted, is_listed, listed, nothing, opaque, sized, word}
+use Rattle.xdr3.specs.Shape.{Shape, ◌then◌, choose, counted, is_listed, listed, nothing, opaque, sized, word}
 use Rattle.xdr3.specs.declared.reason.Reason.TheVariants.{BadEnum, Flavor, RpcVersion}
 use Rattle.xdr3.specs.Item.{Text, Var}
 use Rattle.rpc_head.specs.Names.{head_names}
-
-infixr 5 ◌then◌
-abbrev pub ◌then◌ : Shape → Shape → Shape
-a then b = both a b
 
 -- an mtype is CALL (0) or REPLY (1) (RFC 5531, section 9)
 abbrev pub message_types : List ℕ

@@ -4,15 +4,13 @@
 mod call;
 mod credential;
 pub mod examples;
-mod first_words;
-mod message;
+mod message_start;
 mod reply;
 mod scan;
 mod word;
 
 pub use call::{CallHead, ProcId};
 pub use credential::{AuthSys, Cred, Gids, Verf};
-pub use first_words::start;
-pub use message::Start;
+pub use message_start::{MessageStart, start};
 pub use reply::{Accept, Deny, ReplyHead};
 pub use scan::{scan_call_head, scan_reply_head};

@@ -8,7 +8,7 @@ use Rattle.xdr3.specs.Item.{Item, followed_by}
 use Rattle.xdr3.specs.Reading.{reading}
 use Rattle.rpc_head.specs.declared.call.CallHead.{CallHead}
 use Rattle.rpc_head.specs.declared.call.ProcId.{ProcId}
-use Rattle.rpc_head.specs.declared.message.Start.{Start}
+use Rattle.rpc_head.specs.declared.message_start.MessageStart.{MessageStart}
 use Rattle.rpc_head.specs.declared.reply.Accept.TheVariants.{Success, ProgUnavail, ProgMismatch, ProcUnavail, GarbageArgs, SystemErr}
 use Rattle.rpc_head.specs.declared.reply.Deny.TheVariants.{RpcMismatch, AuthError}
 use Rattle.rpc_head.specs.declared.reply.ReplyHead.{ReplyHead}
@@ -18,7 +18,7 @@ use Rattle.rpc_head.specs.HeadScan.{procedure_told, tells_success}
 use Rattle.rpc_head.specs.Messages.{procedure_in}
 use Rattle.rpc_head.specs.Replies.{reply_head_items}
 use Rattle.rpc_head.specs.Shapes.{message_start}
-use Rattle.rpc_head.specs.Starts.{start_items}
+use Rattle.rpc_head.specs.MessageStart.{start_items}
 use Rattle.capture3.specs.Bodies.{IsCall, IsReply, procedure_of, xid_in}
 use Rattle.capture3.specs.BodyProgram.{is_same, judge_call, judge_reply}
 use Rattle.capture3.specs.machinery.MessageScan.{StopsMessage}
@@ -72,7 +72,7 @@ pub asked_by : (xid : ℕ) (id : ProcId) → procedure_of (the_call xid id) xid 
 asked_by xid id = ap (λ (b : Bool). cond b (Some id) None) (eq-eqb xid xid refl)
 
 -- a call with the xid of the reply that a body spells is asked for by the xid that is read
-pub asked : (id : ProcId) (body : List ℕ) (items : List Item) (s : Start) (to : ℕ) → IsReply body (record { id = id; items = items }) → reading message_start body 0 ≡ Ok (start_items s, to)
+pub asked : (id : ProcId) (body : List ℕ) (items : List Item) (s : MessageStart) (to : ℕ) → IsReply body (record { id = id; items = items }) → reading message_start body 0 ≡ Ok (start_items s, to)
     → procedure_of (the_call (xid_in items) id) s.xid ≡ Some id
 asked id body items s to is read = ap (procedure_of (the_call (xid_in items) id)) (reply_has_xid id body items s to is read) ∙ asked_by (xid_in items) id
 

@@ -6,7 +6,7 @@ use Rattle.rpc_head.specs.declared.reply.ReplyHead.{ReplyHead}
 use Rattle.rpc_head.specs.declared.reply.ReplyHead.TheVariants.{Accepted, Denied}
 use Rattle.rpc_head.specs.Calls.{call_head_items}
 use Rattle.rpc_head.specs.Replies.{reply_head_items}
-use Rattle.rpc_head.specs.Starts.{start_items}
+use Rattle.rpc_head.specs.MessageStart.{start_items}
 use Rattle.capture3.specs.Bodies.{ReplyItems}
 use Rattle.typed3.specs.declared.message.CallMsg.{CallMsg}
 use Rattle.typed3.specs.declared.message.ReplyMsg.{ReplyMsg}

@@ -5,7 +5,7 @@ use Rattle.xdr3.specs.declared.reason.Reason.{Reason}
 use Rattle.xdr3.specs.declared.reason.Reason.TheVariants.{Short, Trailing, BadBool, BadEnum, TooLong, AuthLength}
 use Rattle.xdr3.specs.declared.reason.Stop.{Stop}
 use Rattle.xdr3.specs.Item.{Item, Word, Hyper, Opaque, Rest, Var, Text, word_bytes, zero_spelling}
-use Rattle.xdr3.specs.Shape.{Shape, both, boolean, choose, counted, hyper, linked, nothing, opaque, optional, sized, word}
+use Rattle.xdr3.specs.Shape.{Shape, ◌then◌, boolean, choose, counted, hyper, linked, nothing, opaque, optional, sized, word}
 use Rattle.xdr3.specs.Layout.{Layout, after, exactly, rest, reading_layout}
 use Rattle.xdr3.specs.Reading.{◌>>=◌, refused}
 
@@ -33,7 +33,7 @@ file_type =
     (λ n. if n == 0 then nothing else (if n == 1 then opaque Text (codes "creator") 255 else opaque Text (codes "interpretor") 255))
 
 abbrev pub file : Layout
-file = exactly (both (opaque Text (codes "filename") 255) (both file_type (both (opaque Text (codes "owner") 32) (opaque Var (codes "data") 65535))))
+file = exactly (opaque Text (codes "filename") 255 then file_type then opaque Text (codes "owner") 32 then opaque Var (codes "data") 65535)
 
 -- the bytes, with residual bytes of this value
 abbrev pub file_bytes : ℕ → List ℕ
@@ -68,11 +68,11 @@ numbers = exactly (counted (codes "numbers") 2 (hyper (codes "number")))
 
 -- one optional number (RFC 4506, section 4.19), and a truth value (section 4.4)
 abbrev pub choices : Layout
-choices = exactly (both (optional (codes "some") (word (codes "number"))) (boolean (codes "truth")))
+choices = exactly (optional (codes "some") (word (codes "number")) then boolean (codes "truth"))
 
 -- two words in as many bytes as a length says, and then the rest
 abbrev pub window : Layout
-window = after (sized (codes "length") (both (word (codes "first")) (word (codes "second")))) (λ items. rest (codes "rest"))
+window = after (sized (codes "length") (word (codes "first") then word (codes "second"))) (λ items. rest (codes "rest"))
 
 pub record Parts : Type 0 where
   pub two_strings : reading_verdict strings (words (1 ∷ 1 ∷ []) ++ (codes "a" ++ (0 ∷ 0 ∷ 0 ∷ words (1 ∷ 0 ∷ 0 ∷ [])))) ≡ Ok (

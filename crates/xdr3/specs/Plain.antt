@@ -4,7 +4,7 @@ use Rattle.byteorder.specs.Endian.{big_number}
 use Rattle.xdr3.specs.declared.plain.PlainField.{PlainField}
 use Rattle.xdr3.specs.declared.plain.PlainField.TheVariants as fields
 use Rattle.xdr3.specs.Item.{Item, Word, Hyper}
-use Rattle.xdr3.specs.Shape.{Shape, both, hyper, nothing, word}
+use Rattle.xdr3.specs.Shape.{Shape, ◌then◌, hyper, nothing, word}
 
 -- how many bytes a field has (RFC 4506, sections 4.1 and 4.5)
 abbrev pub width : PlainField → ℕ
@@ -29,7 +29,7 @@ run_size (field ∷ more) = width field + run_size more
 -- the shape of the fields, one after another
 abbrev pub run_shape : List PlainField → Shape
 run_shape [] = nothing
-run_shape (field ∷ more) = both (shape_of field) (run_shape more)
+run_shape (field ∷ more) = shape_of field then run_shape more
 
 -- the items that the first of the bytes spell, one after another
 abbrev pub run_items : List PlainField → List ℕ → List Item

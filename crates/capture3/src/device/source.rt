@@ -33,10 +33,18 @@ pub struct FromRead<R> {
     failures: u64,
 }
 
+impl<R: Read> Model for FromRead<R> {
+    ghost use Rattle.capture3.specs.Device.{CountedDevice};
+
+    ghost Value = { CountedDevice R };
+
+    ghost view = { λ s. record { device = s.reader; failures = s.failures } };
+}
+
 impl<R: Read> FromRead<R> {
     /// A source over the reader, of which no read has failed.
     pub fn new(reader: R) -> FromRead<R>
-        ensures { result ≡ record { reader = reader; failures = 0 } }
+        ensures { result ≡ record { device = reader; failures = 0 } }
     {
         FromRead {
             reader,
@@ -46,7 +54,7 @@ impl<R: Read> FromRead<R> {
 }
 
 impl<R: Read> Source for FromRead<R> {
-    ghost left = { λ s. R.remaining s.reader };
+    ghost left = { λ s. R.remaining s.device };
 
     ghost failures = { λ s. s.failures };
 

@@ -1,7 +1,7 @@
 -- Ends of the shapes of attributes, for the functions that share them.
-use Rattle.xdr3.specs.Shape.{Shape, hyper, word}
+use Rattle.xdr3.specs.Shape.{Shape, ◌then◌, hyper, word}
 use Rattle.nfs3_types.specs.Names.{names}
-use Rattle.nfs3_types.specs.Shapes.{◌then◌, time_how, times}
+use Rattle.nfs3_types.specs.Shapes.{time_how, times}
 
 unfoldable pub after_type : Shape
 after_type =

@@ -1,8 +1,8 @@
 -- Ends of long shapes, for the functions that share them.
 use Rattle.xdr3.specs.Item.{Var}
-use Rattle.xdr3.specs.Shape.{Shape, boolean, hyper, listed, opaque, word}
+use Rattle.xdr3.specs.Shape.{Shape, ◌then◌, boolean, hyper, listed, opaque, word}
 use Rattle.nfs3_types.specs.Names.{names}
-use Rattle.nfs3_types.specs.Shapes.{◌then◌, handle, no_maximum, post_op_attr, time}
+use Rattle.nfs3_types.specs.Shapes.{handle, no_maximum, post_op_attr, time}
 use Rattle.nfs3_types.specs.Stable.{stable_words}
 
 unfoldable pub written : Shape

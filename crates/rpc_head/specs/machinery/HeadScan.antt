@@ -3,10 +3,10 @@ use Rattle.std.specs.Prelude.{◌≡◌, ℕ, List, Ok}
 use Rattle.xdr3.specs.Layout.{word_in}
 use Rattle.xdr3.specs.Item.{Item}
 use Rattle.xdr3.specs.Reading.{reading}
-use Rattle.xdr3.specs.Shape.{Shape}
+use Rattle.xdr3.specs.Shape.{Shape, ◌then◌}
 use Rattle.xdr3.specs.View.{MovesOn, View}
 use Rattle.xdr3.specs.Visit.{Adds}
-use Rattle.rpc_head.specs.Shapes.{◌then◌, accept, credential, verifier}
+use Rattle.rpc_head.specs.Shapes.{accept, credential, verifier}
 
 -- the end of a call's head
 unfoldable pub credentials : Shape

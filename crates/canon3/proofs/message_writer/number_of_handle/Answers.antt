@@ -4,8 +4,8 @@ use Rattle.canon3.proofs.message_writer.number_of_handle.Goals as goal
 
 pub returns-clause-number : goal.returns-clause-number
 returns-clause-number g c hs h =
-    number_by_bytes c.number_of.result h.0 c.in-Some.handle hs c.args.bytes.now h.2 c.in-Some.ensures.bytes (c.number_of.ensures.number h.0 h.1)
+    number_by_bytes c.number_of.result h.0 c.from_short.result hs c.args.bytes.now h.2 c.from_short.ensures (c.number_of.ensures.number h.0 h.1)
 
 pub returns-clause-given : goal.returns-clause-given
 returns-clause-given g c hs h =
-    still_ok c.number_of.result (holds_more c.number_of.new.self h.0 c.in-Some.handle hs c.args.bytes.now h.2 c.in-Some.ensures.bytes) (c.number_of.ensures.given h.0 h.1)
+    still_ok c.number_of.result (holds_more c.number_of.new.self h.0 c.from_short.result hs c.args.bytes.now h.2 c.from_short.ensures) (c.number_of.ensures.given h.0 h.1)

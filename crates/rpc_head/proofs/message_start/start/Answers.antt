@@ -2,8 +2,8 @@ use Rattle.std.proofs.Common.{Ok, rules}
 use Rattle.std.specs.Prelude.{◌==◌}
 use Rattle.xdr3.specs.Reading.{reading}
 use Rattle.rpc_head.specs.Shapes.{message_start}
-use Rattle.rpc_head.proofs.Started.{is_start}
-use Rattle.rpc_head.proofs.first_words.start.Goals as goal
+use Rattle.rpc_head.proofs.MessageStartLemmas.{is_start}
+use Rattle.rpc_head.proofs.message_start.start.Goals as goal
 
 pub returns-clause-is_start : goal.returns-clause-is_start
 unfolding reading message_start

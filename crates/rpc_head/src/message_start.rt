@@ -1,17 +1,23 @@
-// The first two words of a message.
+// How a message starts (RFC 5531, section 9).
 
 ghost use Rattle.rpc_head.specs.Shapes.{message_start};
-ghost use Rattle.rpc_head.specs.Starts.{IsStart, start_items};
+ghost use Rattle.rpc_head.specs.MessageStart.{IsStart, start_items};
 ghost use Rattle.xdr3.specs.Reading.{reading};
 ghost use Rattle.xdr3.specs.View.{Answers, MovesOn};
 
-use crate::message::Start;
 use xdr3::{Input, Stop};
+
+/// The first two words of a message: its xid, and whether it is a reply (mtype 1) or a call (mtype 0).
+#[derive(Clone, Copy, Debug, PartialEq, Eq)]
+pub struct MessageStart {
+    pub xid: u32,
+    pub is_reply: bool,
+}
 
 /// Reads the xid and the mtype. A word that is not whole is `Short`, another mtype `BadEnum`, each at
 /// its own first byte.
-#[tactic(auto, using(crate::proofs::Started::is_start), unfolding(xdr3::specs::Reading::reading, crate::specs::Shapes::message_start))]
-pub fn start(input: &mut Input) -> Result<Start, Stop>
+#[tactic(auto, using(crate::proofs::MessageStartLemmas::is_start), unfolding(xdr3::specs::Reading::reading, crate::specs::Shapes::message_start))]
+pub fn start(input: &mut Input) -> Result<MessageStart, Stop>
     ensures read { Answers start_items result input.new.at
         (reading message_start input.old.body input.old.at) }
     ensures is_start { IsStart input.old result input.new }
@@ -21,7 +27,7 @@ pub fn start(input: &mut Input) -> Result<Start, Stop>
     input.at();
     let xid = input.word()?;
     let mtype = input.listed(&[0, 1])?;
-    Ok(Start {
+    Ok(MessageStart {
         xid,
         is_reply: mtype == 1,
     })

@@ -5,11 +5,11 @@ use Rattle.xdr3.specs.Item.{AreBytes}
 use Rattle.xdr3.specs.Reading.{reading}
 use Rattle.xdr3.specs.View.{Answers, View}
 use Rattle.xdr3.proofs.Sound.{sound}
-use Rattle.rpc_head.specs.declared.message.Start.{Start}
+use Rattle.rpc_head.specs.declared.message_start.MessageStart.{MessageStart}
 use Rattle.rpc_head.specs.Shapes.{message_start}
-use Rattle.rpc_head.specs.Starts.{IsStart, start_items}
+use Rattle.rpc_head.specs.MessageStart.{IsStart, start_items}
 
-pub is_start : (old new : View) (answer : Result Start Stop) → AreBytes old.body → old.at ≤ length old.body → Answers start_items answer new.at (reading message_start old.body old.at) → IsStart old answer new
+pub is_start : (old new : View) (answer : Result MessageStart Stop) → AreBytes old.body → old.at ≤ length old.body → Answers start_items answer new.at (reading message_start old.body old.at) → IsStart old answer new
 is_start old new (Ok s) bytes h e =
     let t = (sound message_start).takes old.body old.at new.at (start_items s) bytes h e in
     record { front = t.1.front; fits = t.0; spells = t.1.spells; whole = t.1.is }
