@@ -5,6 +5,13 @@ use Rattle.canon3.specs.declared.passed.Passed.{Passed}
 use Rattle.canon3.specs.Progress.{HasPassed, steps_of}
 use Rattle.canon3.specs.Summary.{is_call, is_reply}
 
+-- how many connections began, and how many records the open stream has so far
+abbrev pub connections_in : Passed → ℕ
+connections_in passed = passed.progress.connections
+
+abbrev pub records_in : Passed → ℕ
+records_in passed = passed.progress.records
+
 -- these entries came
 pub record ArePassed (passed : Passed) (entries : List Entry) : Type 0 where
   pub progress : HasPassed passed.progress entries

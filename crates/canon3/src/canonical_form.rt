@@ -8,6 +8,7 @@ ghost use Rattle.canon3.specs.Laws.{AreFirst};
 ghost use Rattle.canon3.specs.machinery.MessageWriter.{WriterStands, told_after, values_of};
 ghost use Rattle.canon3.specs.CanonicalForm.{RewritesGiven};
 ghost use Rattle.canon3.specs.machinery.CanonicalForm.{Follows, magic_before};
+ghost use Rattle.canon3.specs.Passed.{connections_in};
 ghost use Rattle.capture3.specs.Kept.{IsOfKind};
 ghost use Rattle.capture3.specs.Entry.{items_of};
 ghost use Rattle.canon3.specs.WriteErrors.{CountsWriting, IsOfWriting};
@@ -60,10 +61,10 @@ pub fn canon<R: Source, W: Sink, S: BuildHasher + Drop>(
 fn open<W: Sink>(passed: &Passed, sink: &mut W) -> Result<(), Error>
     ensures ok { OnOk result
         (Appends (W.written sink.old) (W.written sink.new)
-        (magic_before passed.now.progress.connections)) }
+        (magic_before (connections_in passed.now))) }
     ensures err { OnErr result
         (AppendsFront (W.written sink.old) (W.written sink.new)
-        (magic_before passed.now.progress.connections)) }
+        (magic_before (connections_in passed.now))) }
     ensures count { CountsWriting (W.failures sink.old) (W.failures sink.new) result }
     ensures error { IfErr result (λ error. error ≡ Error.Write) }
 {

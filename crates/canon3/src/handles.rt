@@ -11,18 +11,28 @@ use crate::numbers::Numbers;
 use nfs3_types::Handle;
 use std::alloc::{AllocError, Global};
 use std::hash::BuildHasher;
+use std::marker::Model;
 use xdr3::{PlainField, Visit};
 
 /// A visitor that gathers the distinct file handles that are not empty (RFC 1813, section 2.5).
 #[derive(Drop)]
 pub struct HandleTable<S: BuildHasher + Drop> {
-    pub(crate) numbers: Numbers<Handle, S>,
+    numbers: Numbers<Handle, S>,
+}
+
+impl<S: BuildHasher + Drop> Model for HandleTable<S> {
+    ghost use Rattle.std.specs.Prelude.{List};
+    ghost use Rattle.nfs3_types.specs.declared.handle.Handle.{Handle};
+
+    ghost Value = { List Handle };
+
+    ghost view = { λ t. t.numbers };
 }
 
 impl<S: BuildHasher + Drop> HandleTable<S> {
     /// No handles.
     pub fn new(alloc: Global, hasher: S) -> HandleTable<S>
-        ensures { Gathers result.numbers [] }
+        ensures { Gathers result [] }
     {
         HandleTable {
             numbers: Numbers::new(alloc, hasher),
@@ -31,9 +41,9 @@ impl<S: BuildHasher + Drop> HandleTable<S> {
 
     fn add(&mut self, handle: Handle) -> Result<(), AllocError>
         ensures ok { (given : List handles.Handle)
-            → HoldsDistinct same_handle self.old.numbers given
-            → OnOk result (HoldsDistinct same_handle self.new.numbers (given ++ handle ∷ [])) }
-        ensures err { OnErr result (self.new.numbers ≡ self.old.numbers) }
+            → HoldsDistinct same_handle self.old given
+            → OnOk result (HoldsDistinct same_handle self.new (given ++ handle ∷ [])) }
+        ensures err { OnErr result (self.new ≡ self.old) }
     {
         self.numbers.number_of(handle)?;
         Ok(())
@@ -41,7 +51,7 @@ impl<S: BuildHasher + Drop> HandleTable<S> {
 
     /// How many there are, at most 4,294,967,295.
     pub fn len(&self) -> u32
-        ensures { (items : List Item) → Gathers self.now.numbers items
+        ensures { (items : List Item) → Gathers self.now items
             → result ≡ min (length (distinct bytes_eq (handles_in items))) number_limit }
     {
         self.numbers.len()
@@ -52,7 +62,7 @@ impl<S: BuildHasher + Drop> HandleTable<S> {
 impl<S: BuildHasher + Drop> Visit for HandleTable<S> {
     ghost use Rattle.canon3.specs.HandleTable.{Gathers};
 
-    ghost stands = { λ table items. Gathers table.numbers items };
+    ghost stands = { Gathers };
 
     fn word(&mut self, _name: &'static str, _n: u32) -> Result<(), AllocError> {
         Ok(())

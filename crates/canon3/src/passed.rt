@@ -2,7 +2,7 @@
 
 ghost use Rattle.std.specs.Prelude.{◌≡◌, ◌<◌, ◌≤◌, ◌+◌, ◌^◌, ◌++◌, ◌∷◌, List, [], bytes_eq, if◌then◌else◌, length, min};
 ghost use Rattle.capture3.specs.Entry as spec;
-ghost use Rattle.canon3.specs.Passed.{ArePassed, passed_steps};
+ghost use Rattle.canon3.specs.Passed.{ArePassed, connections_in, passed_steps, records_in};
 ghost use Rattle.canon3.specs.machinery.Passed.{calls, replies};
 ghost use Rattle.canon3.specs.Rank.{distinct, number_limit};
 ghost use Rattle.canon3.specs.machinery.Summary.{Sums};
@@ -36,14 +36,14 @@ impl Passed {
 
     /// How many connections began.
     pub fn connections(&self) -> u32
-        ensures { result ≡ self.now.progress.connections }
+        ensures { result ≡ connections_in self.now }
     {
         self.progress.connections()
     }
 
     /// How many records the open stream has so far.
     pub fn records(&self) -> u32
-        ensures { result ≡ self.now.progress.records }
+        ensures { result ≡ records_in self.now }
     {
         self.progress.records()
     }

@@ -46,7 +46,7 @@ pub struct ToWrite<W> {
     failures: u64,
 }
 
-impl<W: Write> Model for ToWrite<W> {
+impl<W> Model for ToWrite<W> {
     ghost use Rattle.capture3.specs.Device.{CountedDevice};
 
     ghost Value = { CountedDevice W };

@@ -268,32 +268,32 @@ module _ {R S H : Type 0} {builds : BuildHasher.Ghosts S H} {hashes : Hasher.Gho
       by_stage Over is h = absurd (cc)
       by_stage (Failed error) is h = absurd (cc)
 
-  left_is : (e : Entries R S H builds hashes) → e.stage ≡ Reading → entries_left e ≡ room_in e.capture.container + 1
-  left_is e is = ap (λ (stage : Stage). entries_left_in stage e.capture.container) is
+  left_is : (e : Entries R S H builds hashes) → e.stage ≡ Reading → entries_left e ≡ room_in e.parser.container + 1
+  left_is e is = ap (λ (stage : Stage). entries_left_in stage e.parser.container) is
 
   -- ---- the entry that was handed out last
 
   none_last : (e : Entries R S H builds hashes) (handed : List Entry) → e.last ≡ None → HoldsLast e handed
   none_last e handed none front entry ends kind is = absurd (cc)
 
-  same_last : (old new : Entries R S H builds hashes) (handed : List Entry) → new.last ≡ old.last → new.capture ≡ old.capture → HoldsLast old handed → HoldsLast new handed
+  same_last : (old new : Entries R S H builds hashes) (handed : List Entry) → new.last ≡ old.last → new.parser ≡ old.parser → HoldsLast old handed → HoldsLast new handed
   same_last old new handed last same h front entry ends kind is =
       subst (λ (c : EntryParser (List NumberedCall)). IsHeld kind c.container.joiner entry) (sym same) (h front entry ends kind (sym last ∙ is))
 
-  now_last : (e : Entries R S H builds hashes) (handed : List Entry) (came : Kind) (entry : Entry) → e.last ≡ Some came → IsHeld came e.capture.container.joiner entry → HoldsLast e (handed ++ entry ∷ [])
+  now_last : (e : Entries R S H builds hashes) (handed : List Entry) (came : Kind) (entry : Entry) → e.last ≡ Some came → IsHeld came e.parser.container.joiner entry → HoldsLast e (handed ++ entry ∷ [])
   now_last e handed came entry last held front other ends kind is =
       let one : Some other ≡ Some entry = (popped_last handed front entry (Some other) ends refl).0 in
       let entries : entry ≡ other = cc in
       let kinds : came ≡ kind = cc in
-      subst (λ (one : Entry). IsHeld kind e.capture.container.joiner one) entries (subst (λ (k : Kind). IsHeld k e.capture.container.joiner entry) kinds held)
+      subst (λ (one : Entry). IsHeld kind e.parser.container.joiner one) entries (subst (λ (k : Kind). IsHeld k e.parser.container.joiner entry) kinds held)
 
   -- what was handed out are the first entries that the bytes reach
   first_in : (e : Entries R S H builds hashes) (given : List ℕ) (handed : List Entry) → AreBytes given → IsReading e given handed → AreFirstReached given handed
   first_in e given handed are r =
-      subst (λ (b : List ℕ). AreFirstReached b handed) (sym r.split) (come_first e.capture.container e.capture.calls r.judged (unjudged e) handed (subst AreBytes r.split are) r.machine)
+      subst (λ (b : List ℕ). AreFirstReached b handed) (sym r.split) (come_first e.parser.container e.parser.calls r.judged (unjudged e) handed (subst AreBytes r.split are) r.machine)
 
   -- it reads on
-  pub stands_reading : (e : Entries R S H builds hashes) (given : List ℕ) (handed : List Entry) → e.stage ≡ Reading → AreBytes given → length handed + (room_in e.capture.container + 1) ≤ most_entries → length given ≤ most_bytes Two + vec_len e.block → HoldsLast e handed → IsReading e given handed → StandsFor left e given handed
+  pub stands_reading : (e : Entries R S H builds hashes) (given : List ℕ) (handed : List Entry) → e.stage ≡ Reading → AreBytes given → length handed + (room_in e.parser.container + 1) ≤ most_entries → length given ≤ most_bytes Two + vec_len e.block → HoldsLast e handed → IsReading e given handed → StandsFor left e given handed
   stands_reading e given handed is are few most holds r = record {
     bytes = are;
     few = omega (arith, few, left_is e is);
@@ -307,14 +307,14 @@ module _ {R S H : Type 0} {builds : BuildHasher.Ghosts S H} {hashes : Hasher.Gho
   pub stands_failed : (old new : Entries R S H builds hashes) (error : Error) (given : List ℕ) (handed : List Entry) → new.stage ≡ Failed error → new.last ≡ None → vec_len new.block ≡ vec_len old.block → StandsFor left old given handed → IsMetBy error (left new.source.now) given handed → StandsFor left new given handed
   stands_failed old new error given handed is none block s met = record {
     bytes = s.bytes;
-    few = omega (arith, s.few, ap (λ (stage : Stage). entries_left_in stage new.capture.container) is);
+    few = omega (arith, s.few, ap (λ (stage : Stage). entries_left_in stage new.parser.container) is);
     connections = s.connections;
     most = omega (arith, s.most, block);
     holds = none_last new handed none;
     here = subst (λ (stage : Stage). StandsIn stage (left new.source.now) new given handed) (sym is) met;
   }
 
-  room_before : (e : Entries R S H builds hashes) (given : List ℕ) (handed : List Entry) → e.stage ≡ Reading → StandsFor left e given handed → length handed + (room_in e.capture.container + 1) ≤ most_entries
+  room_before : (e : Entries R S H builds hashes) (given : List ℕ) (handed : List Entry) → e.stage ≡ Reading → StandsFor left e given handed → length handed + (room_in e.parser.container + 1) ≤ most_entries
   room_before e given handed is s = omega (arith, s.few, left_is e is)
 
   pub stands_first : (e : Entries R S H builds hashes) (given : List ℕ) (handed : List Entry) → failure_of e ≡ None → StandsFor left e given handed → AreFirstReached given handed
@@ -330,12 +330,12 @@ module _ {R S H : Type 0} {builds : BuildHasher.Ghosts S H} {hashes : Hasher.Gho
   all_judged : (e : Entries R S H builds hashes) (given : List ℕ) (handed : List Entry) → e.start ≡ e.end → (r : IsReading e given handed) → given ≡ r.judged
   all_judged e given handed empty r = r.split ∙ ap (λ (b : List ℕ). r.judged ++ b) (empty_range e.block.items e.start e.end empty) ∙ append-nil r.judged
 
-  machine_at : (e : Entries R S H builds hashes) (given : List ℕ) (handed : List Entry) → e.start ≡ e.end → e.capture.container.cursor ≡ None → IsReading e given handed
-      → StandsAt e.capture.container.position (released e.capture.container.joiner) e.capture.container.streams e.capture.calls given handed
+  machine_at : (e : Entries R S H builds hashes) (given : List ℕ) (handed : List Entry) → e.start ≡ e.end → e.parser.container.cursor ≡ None → IsReading e given handed
+      → StandsAt e.parser.container.position (released e.parser.container.joiner) e.parser.container.streams e.parser.calls given handed
   machine_at e given handed empty none r =
-      stands_unopened e.capture.container e.capture.calls given handed none (subst (λ (b : List ℕ). HasCome e.capture.container e.capture.calls b handed) (sym (all_judged e given handed empty r)) r.machine)
+      stands_unopened e.parser.container e.parser.calls given handed none (subst (λ (b : List ℕ). HasCome e.parser.container e.parser.calls b handed) (sym (all_judged e given handed empty r)) r.machine)
 
-  pub has_read : (old new : Entries R S H builds hashes) (given more : List ℕ) (handed : List Entry) → old.stage ≡ Reading → new.stage ≡ Reading → old.start ≡ old.end → old.capture.container.cursor ≡ None → new.capture ≡ old.capture → new.last ≡ old.last → new.judged ≡ old.judged → unjudged new ≡ more → AreBytes more → length more ≤ vec_len new.block
+  pub has_read : (old new : Entries R S H builds hashes) (given more : List ℕ) (handed : List Entry) → old.stage ≡ Reading → new.stage ≡ Reading → old.start ≡ old.end → old.parser.container.cursor ≡ None → new.parser ≡ old.parser → new.last ≡ old.last → new.judged ≡ old.judged → unjudged new ≡ more → AreBytes more → length more ≤ vec_len new.block
       → Consumes (left old.source.now) (left new.source.now) more → StandsFor left old given handed → HasRead left old new given handed
   has_read old new given more handed is goes empty none same last count block are within consumed s =
       let r = reading_of old given handed is s in
@@ -352,7 +352,7 @@ module _ {R S H : Type 0} {builds : BuildHasher.Ghosts S H} {hashes : Hasher.Gho
             (record { judged = r.judged; split = split; counted = count ∙ r.counted; machine = subst (λ (c : EntryParser (List NumberedCall)). HasCome c.container c.calls r.judged handed) (sym same) r.machine });
       }
 
-  pub has_failed : (old new : Entries R S H builds hashes) (given : List ℕ) (handed : List Entry) → old.stage ≡ Reading → new.stage ≡ Failed errors.Read → new.last ≡ None → vec_len new.block ≡ vec_len old.block → old.start ≡ old.end → old.capture.container.cursor ≡ None
+  pub has_failed : (old new : Entries R S H builds hashes) (given : List ℕ) (handed : List Entry) → old.stage ≡ Reading → new.stage ≡ Failed errors.Read → new.last ≡ None → vec_len new.block ≡ vec_len old.block → old.start ≡ old.end → old.parser.container.cursor ≡ None
       → Keeps (left old.source.now) (left new.source.now) → StandsFor left old given handed → HasRead left old new given handed
   has_failed old new given handed is fails none block empty unopened kept s =
       record {
@@ -365,7 +365,7 @@ module _ {R S H : Type 0} {builds : BuildHasher.Ghosts S H} {hashes : Hasher.Gho
   -- ---- judging the block
 
   pub moves_on : (old new : Entries R S H builds hashes) (count : ℕ) (given : List ℕ) (handed all : List Entry) → new.judged ≡ old.judged + count → unjudged new ≡ slice_range old.block.items (old.start + count) old.end → old.start + count ≤ old.end → old.end ≤ length old.block.items
-      → (r : IsReading old given handed) → HasCome new.capture.container new.capture.calls (r.judged ++ take count (unjudged old)) all → IsReading new given all
+      → (r : IsReading old given handed) → HasCome new.parser.container new.parser.calls (r.judged ++ take count (unjudged old)) all → IsReading new given all
   moves_on old new count given handed all judged block fits within r machine =
       let piece : List ℕ = take count (unjudged old) in
       let inner = length-take (old.end - old.start) (drop old.start old.block.items) in
@@ -381,8 +381,8 @@ module _ {R S H : Type 0} {builds : BuildHasher.Ghosts S H} {hashes : Hasher.Gho
   -- with the entry that is whole, if one is
   pub judged_on : {V : Type 0} (stands : V → List Item → Type 0) (was now : V) (old new : Entries R S H builds hashes) (count : ℕ) (given : List ℕ) (handed : List Entry) (came : Option Kind) → old.stage ≡ Reading → new.stage ≡ Reading → new.last ≡ came → vec_len new.block ≡ vec_len old.block
       → new.judged ≡ old.judged + count → unjudged new ≡ slice_range old.block.items (old.start + count) old.end → old.start + count ≤ old.end → old.end ≤ length old.block.items
-      → room_in new.capture.container + entry_cost came ≤ room_in old.capture.container → (s : StandsFor left old given handed)
-      → ((judged : List ℕ) → HasCome old.capture.container old.capture.calls judged handed → GoesTo stands was now came new.capture.container new.capture.calls (judged ++ take count (unjudged old)) handed) → HandsOutOrGoesOn left stands new was now given handed (Ok came)
+      → room_in new.parser.container + entry_cost came ≤ room_in old.parser.container → (s : StandsFor left old given handed)
+      → ((judged : List ℕ) → HasCome old.parser.container old.parser.calls judged handed → GoesTo stands was now came new.parser.container new.parser.calls (judged ++ take count (unjudged old)) handed) → HandsOutOrGoesOn left stands new was now given handed (Ok came)
   judged_on stands was now old new count given handed None is goes last size judged block fits within room s leads =
       let r = reading_of old given handed is s in
       stands_reading new given handed goes s.bytes (omega (arith, room_before old given handed is s, room)) (omega (arith, s.most, size)) (none_last new handed last) (moves_on old new count given handed handed judged block fits within r (leads r.judged r.machine))
@@ -390,7 +390,7 @@ module _ {R S H : Type 0} {builds : BuildHasher.Ghosts S H} {hashes : Hasher.Gho
       let r = reading_of old given handed is s in
       let (entry, held, adds, machine) = leads r.judged r.machine in (
         entry,
-        kind_held kind new.capture.container.joiner entry held,
+        kind_held kind new.parser.container.joiner entry held,
         adds,
         stands_reading new given (handed ++ entry ∷ []) goes s.bytes (omega (arith, room_before old given handed is s, room, length-append handed (entry ∷ []))) (omega (arith, s.most, size)) (now_last new handed kind entry last held) (moves_on old new count given handed (handed ++ entry ∷ []) judged block fits within r machine),
       )
@@ -402,7 +402,7 @@ module _ {R S H : Type 0} {builds : BuildHasher.Ghosts S H} {hashes : Hasher.Gho
   fails_by e errors.Memory given handed known are r f = first_in e given handed are r
 
   pub judged_failed : (old new : Entries R S H builds hashes) (error : Error) (given : List ℕ) (handed : List Entry) → old.stage ≡ Reading → new.stage ≡ Failed error → new.last ≡ None → vec_len new.block ≡ vec_len old.block → (s : StandsFor left old given handed)
-      → ((judged : List ℕ) → HasCome old.capture.container old.capture.calls judged handed → FailsAt (judged ++ unjudged old) handed error) → StandsFor left new given handed
+      → ((judged : List ℕ) → HasCome old.parser.container old.parser.calls judged handed → FailsAt (judged ++ unjudged old) handed error) → StandsFor left new given handed
   judged_failed old new error given handed is fails none block s shows =
       let r = reading_of old given handed is s in
       stands_failed old new error given handed fails none block s
@@ -410,20 +410,20 @@ module _ {R S H : Type 0} {builds : BuildHasher.Ghosts S H} {hashes : Hasher.Gho
 
   -- ---- the end
 
-  pub finished : (old new : Entries R S H builds hashes) (given : List ℕ) (handed : List Entry) → old.stage ≡ Reading → new.stage ≡ Over → new.last ≡ Some kinds.End → vec_len new.block ≡ vec_len old.block → old.start ≡ old.end → old.capture.container.cursor ≡ None → IsEndSpot old.capture.container.position.spot → IsAtEnd (left new.source.now)
+  pub finished : (old new : Entries R S H builds hashes) (given : List ℕ) (handed : List Entry) → old.stage ≡ Reading → new.stage ≡ Over → new.last ≡ Some kinds.End → vec_len new.block ≡ vec_len old.block → old.start ≡ old.end → old.parser.container.cursor ≡ None → IsEndSpot old.parser.container.position.spot → IsAtEnd (left new.source.now)
       → StandsFor left old given handed → StandsFor left new given (handed ++ End ∷ [])
   finished old new given handed is over last block empty none ended end s =
       let typed = typed_here given _ _ _ _ handed s.bytes (machine_at old given handed empty none (reading_of old given handed is s)) ended in
       record {
         bytes = s.bytes;
-        few = omega (arith, room_before old given handed is s, length-append handed (End ∷ []), ap (λ (stage : Stage). entries_left_in stage new.capture.container) over);
+        few = omega (arith, room_before old given handed is s, length-append handed (End ∷ []), ap (λ (stage : Stage). entries_left_in stage new.parser.container) over);
         connections = (typed_within given (handed ++ End ∷ []) typed).few;
         most = omega (arith, s.most, block);
         holds = now_last new handed kinds.End End last refl;
         here = subst (λ (stage : Stage). StandsIn stage (left new.source.now) new given (handed ++ End ∷ [])) (sym over) (typed, end);
       }
 
-  pub cut_short : (old new : Entries R S H builds hashes) (error : Error) (given : List ℕ) (handed : List Entry) → old.stage ≡ Reading → new.stage ≡ Failed error → new.last ≡ None → vec_len new.block ≡ vec_len old.block → old.start ≡ old.end → old.capture.container.cursor ≡ None → (IsEndSpot old.capture.container.position.spot → ⊥)
+  pub cut_short : (old new : Entries R S H builds hashes) (error : Error) (given : List ℕ) (handed : List Entry) → old.stage ≡ Reading → new.stage ≡ Failed error → new.last ≡ None → vec_len new.block ≡ vec_len old.block → old.start ≡ old.end → old.parser.container.cursor ≡ None → (IsEndSpot old.parser.container.position.spot → ⊥)
       → error ≡ errors.Refused (file_fault old.judged CaptureCut) → IsAtEnd (left new.source.now) → StandsFor left old given handed → StandsFor left new given handed
   cut_short old new error given handed is fails none block empty unopened not cut end s =
       let r = reading_of old given handed is s in
@@ -480,7 +480,7 @@ module _ {R S H : Type 0} {builds : BuildHasher.Ghosts S H} {hashes : Hasher.Gho
       → most_bytes Two + 1 < mid.judged → Turns left stands old new was now given handed result
   too_long stands was now old mid new given handed result read is far =
       let r = reading_of mid (given ++ read.more) handed is read.stands in
-      absurd (omega (arith, far, r.counted, come_length mid.capture.container _ r.judged handed (split_bytes (given ++ read.more) r.judged (unjudged mid) r.split read.stands.bytes).0 r.machine))
+      absurd (omega (arith, far, r.counted, come_length mid.parser.container _ r.judged handed (split_bytes (given ++ read.more) r.judged (unjudged mid) r.split read.stands.bytes).0 r.machine))
 
   -- ---- the answers
 

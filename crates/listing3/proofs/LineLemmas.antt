@@ -80,7 +80,7 @@ pub after_front-append : (front items more : List Item) → after_front front it
 after_front-append front items more = ap (λ (l : List Item). Word [] (length front) ∷ l) (append_assoc front items more)
 
 module _ {S H : Type 0} (old new : LineWriter S H) (i : Item) where
-  pub adds : ((front : List Item) → Gathers old.handles.numbers front → Gathers new.handles.numbers (front ++ i ∷ []))
+  pub adds : ((front : List Item) → Gathers old.handles front → Gathers new.handles (front ++ i ∷ []))
       → ((items : List Item) → IsTextOf old.xid old.items items → IsTextOf new.xid new.items (items ++ i ∷ []))
       → Adds LineStands old new (i ∷ [])
   unfolding Adds
@@ -88,10 +88,10 @@ module _ {S H : Type 0} (old new : LineWriter S H) (i : Item) where
     front,
     items ++ i ∷ [],
     ap (λ (l : List Item). l ++ i ∷ []) are ∙ after_front-append front items (i ∷ []),
-    record { gathered = subst (Gathers new.handles.numbers) (append_assoc front items (i ∷ [])) (gathers (front ++ items) is.gathered); text = text items is.text },
+    record { gathered = subst (Gathers new.handles) (append_assoc front items (i ∷ [])) (gathers (front ++ items) is.gathered); text = text items is.text },
   )
 
-  pub keeps : ((items : List Item) → Gathers old.handles.numbers items → Gathers new.handles.numbers items)
+  pub keeps : ((items : List Item) → Gathers old.handles items → Gathers new.handles items)
       → ((items : List Item) → IsTextOf old.xid old.items items → IsTextOf new.xid new.items items) → Keeps LineStands old new
   unfolding Keeps
   keeps gathers text all (front, items, are, is) = (front, items, are, record { gathered = gathers (front ++ items) is.gathered; text = text items is.text })
@@ -130,18 +130,18 @@ module _ {S H : Type 0} (writer : LineWriter S H) (text : List ℕ) where
 
   pub adds_plain : (i : Item) → handles_in (i ∷ []) ≡ [] → IsLater writer.xid i → Adds TextOf writer.items text (i ∷ []) → Adds LineStands writer with_text (i ∷ [])
   adds_plain i none later write =
-      adds writer with_text i (λ front h. gathers_none writer.handles.numbers front (i ∷ []) none h) (text_more writer.xid writer.items text i later write)
+      adds writer with_text i (λ front h. gathers_none writer.handles front (i ∷ []) none h) (text_more writer.xid writer.items text i later write)
 
   pub keeps_text : Keeps TextOf writer.items text → Keeps LineStands writer with_text
   keeps_text kept = keeps writer with_text (Word [] 0) (λ items h. h) (text_still writer.xid writer.items text kept)
 
   -- the text and the table with the handle
   pub adds_both : (table : List handles.Handle) (name bytes : List ℕ) → text ≡ writer.items ++ shown_item (Opaque Handle name bytes)
-      → Adds Gathers writer.handles.numbers table (Opaque Handle name bytes ∷ [])
-      → Adds LineStands writer (record { handles = record { numbers = table }; xid = writer.xid; items = text; head = writer.head }) (Opaque Handle name bytes ∷ [])
+      → Adds Gathers writer.handles table (Opaque Handle name bytes ∷ [])
+      → Adds LineStands writer (record { handles = table; xid = writer.xid; items = text; head = writer.head }) (Opaque Handle name bytes ∷ [])
   unfolding Adds
   adds_both table name bytes is gathers =
-      adds writer (record { handles = record { numbers = table }; xid = writer.xid; items = text; head = writer.head }) (Opaque Handle name bytes) gathers
+      adds writer (record { handles = table; xid = writer.xid; items = text; head = writer.head }) (Opaque Handle name bytes) gathers
       (text_more writer.xid writer.items text (Opaque Handle name bytes) (no_word writer.xid (Opaque Handle name bytes) tt)
       (λ items t. is ∙ ap (λ (l : List ℕ). l ++ shown_item (Opaque Handle name bytes)) t ∙ sym (flat_map-append shown_item items (Opaque Handle name bytes ∷ []) ∙ ap (λ (l : List ℕ). shown_items items ++ l) (append-nil (shown_item (Opaque Handle name bytes))))))
 
@@ -149,7 +149,7 @@ module _ {S H : Type 0} (writer : LineWriter S H) (text : List ℕ) where
 pub adds_xid : {S H : Type 0} (writer : LineWriter S H) (name : List ℕ) (n : ℕ) → writer.xid ≡ None
     → Adds LineStands writer (record { handles = writer.handles; xid = Some n; items = writer.items; head = writer.head }) (Word name n ∷ [])
 adds_xid writer name n none =
-    adds writer (record { handles = writer.handles; xid = Some n; items = writer.items; head = writer.head }) (Word name n) (λ front h. gathers_none writer.handles.numbers front (Word name n ∷ []) refl h) text
+    adds writer (record { handles = writer.handles; xid = Some n; items = writer.items; head = writer.head }) (Word name n) (λ front h. gathers_none writer.handles front (Word name n ∷ []) refl h) text
   where
     text : (items : List Item) → IsTextOf writer.xid writer.items items → IsTextOf (Some n) writer.items (items ++ Word name n ∷ [])
     text [] t = (refl, t.1)
@@ -168,18 +168,18 @@ both_err P Q (Err e) p q = (p, q)
 
 module _ {S H : Type 0} (writer : LineWriter S H) (table : List handles.Handle) (new : List ℕ) where
   abbrev pub with_both : LineWriter S H
-  with_both = record { handles = record { numbers = table }; xid = writer.xid; items = new; head = writer.head }
+  with_both = record { handles = table; xid = writer.xid; items = new; head = writer.head }
 
-  kept_both : Keeps Gathers writer.handles.numbers table → new ≡ writer.items → Keeps LineStands writer with_both
+  kept_both : Keeps Gathers writer.handles table → new ≡ writer.items → Keeps LineStands writer with_both
   unfolding Keeps
   kept_both gathers same = keeps writer with_both (Word [] 0) gathers (λ items t. subst (λ (l : List ℕ). IsTextOf writer.xid l items) (sym same) t)
 
   -- the text is cut where the handle was not added
   pub settled_err : {T E : Type 0} (written result : Result T E) (between more : List ℕ) (before : ℕ) → result ≡ written → OnErr written (new ≡ take before between) → before ≡ length writer.items → between ≡ writer.items ++ more
-      → OnErr written (Keeps Gathers writer.handles.numbers table) → OnErr result (Keeps LineStands writer with_both)
+      → OnErr written (Keeps Gathers writer.handles table) → OnErr result (Keeps LineStands writer with_both)
   settled_err {T = T} {E = E} written result between more before same cut size is kept =
       subst (λ (r : Result T E). OnErr r (Keeps LineStands writer with_both)) (sym same)
-      (still_err written (λ (c : Keeps Gathers writer.handles.numbers table × (new ≡ take before between)). kept_both c.0 (c.1 ∙ ap (λ n. take n between) size ∙ ap (take (length writer.items)) is ∙ take-append_seam writer.items more)) (both_err _ _ written kept cut))
+      (still_err written (λ (c : Keeps Gathers writer.handles table × (new ≡ take before between)). kept_both c.0 (c.1 ∙ ap (λ n. take n between) size ∙ ap (take (length writer.items)) is ∙ take-append_seam writer.items more)) (both_err _ _ written kept cut))
 
 -- ---- an entry's line
 

@@ -11,7 +11,7 @@ ghost use Rattle.capture3.specs.Entry.{items_of};
 ghost use Rattle.capture3.specs.Kept.{IsOfKind};
 ghost use Rattle.canon3.specs.HandleTable.{Gathers};
 ghost use Rattle.canon3.specs.Laws.{AreFirst};
-ghost use Rattle.canon3.specs.Passed.{passed_steps};
+ghost use Rattle.canon3.specs.Passed.{connections_in, passed_steps, records_in};
 ghost use Rattle.canon3.specs.machinery.Summary.{all_items};
 ghost use Rattle.canon3.specs.WriteErrors.{CountsWriting, IsOfWriting};
 ghost use Rattle.canon3.specs.SinkWrites.{AppendsFront};
@@ -76,7 +76,7 @@ impl<S: BuildHasher + Drop> LineWriter<S> {
 
     /// Begins a message in place of the one before.
     fn begin_message(&mut self)
-        ensures { (items : List Item) → Gathers self.old.handles.numbers items
+        ensures { (items : List Item) → Gathers self.old.handles items
             → LineStands self.new (after_front items []) }
     {
         self.xid = None;
@@ -108,7 +108,7 @@ impl<S: BuildHasher + Drop> LineWriter<S> {
         ensures handles { self.new.handles ≡ self.old.handles }
         ensures head { OnOk result
             (self.new.head ≡
-            prefix passed.now.progress.connections side.now (passed.now.progress.records + 1)
+            prefix (connections_in passed.now) side.now (records_in passed.now + 1)
             ++ ((opening (codes "xid") ++ decimal xid) ++ (32 ∷ procedure_name id))) }
         ensures items { OnOk result (self.new.items ≡ self.old.items ++ 10 ∷ []) }
     {
@@ -150,13 +150,13 @@ impl<S: BuildHasher + Drop> LineWriter<S> {
             → LineStands self.old (after_front front (Word head_names.xid n ∷ rest))
             → OnOk result
             (Appends (W.written sink.old) (W.written sink.new)
-            (line passed.now.progress.connections side.now (passed.now.progress.records + 1) id
+            (line (connections_in passed.now) side.now (records_in passed.now + 1) id
             (Word head_names.xid n ∷ rest))) }
         ensures err { (front rest : List Item) (n : ℕ)
             → LineStands self.old (after_front front (Word head_names.xid n ∷ rest))
             → OnErr result
             (AppendsFront (W.written sink.old) (W.written sink.new)
-            (line passed.now.progress.connections side.now (passed.now.progress.records + 1) id
+            (line (connections_in passed.now) side.now (records_in passed.now + 1) id
             (Word head_names.xid n ∷ rest))) }
         ensures count { CountsWriting (W.failures sink.old) (W.failures sink.new) result }
         ensures error { IfErr result IsOfWriting }
@@ -184,13 +184,13 @@ impl<S: BuildHasher + Drop> LineWriter<S> {
             → LineStands self.old (after_front (all_items entries) (items_of one))
             → OnOk result
             (Appends (W.written sink.old) (W.written sink.new)
-            (entry_line passed.now.progress.connections passed.now.progress.records one)) }
+            (entry_line (connections_in passed.now) (records_in passed.now) one)) }
         ensures err { (entries : List spec.Entry) (one : spec.Entry) → IsOfKind kind one
             → AreFirst (entries ++ one ∷ [])
             → LineStands self.old (after_front (all_items entries) (items_of one))
             → OnErr result
             (AppendsFront (W.written sink.old) (W.written sink.new)
-            (entry_line passed.now.progress.connections passed.now.progress.records one)) }
+            (entry_line (connections_in passed.now) (records_in passed.now) one)) }
         ensures count { CountsWriting (W.failures sink.old) (W.failures sink.new) result }
         ensures error { IfErr result IsOfWriting }
     {

@@ -17,7 +17,7 @@ use Rattle.canon3.specs.machinery.Summary.{all_items}
 -- these entries came, and their handles were gathered
 pub record Tallies {S H : Type 0} (tally : Tally S H) (entries : List Entry) : Type 0 where
   pub passed : ArePassed tally.passed entries
-  pub handles : Gathers tally.handles.numbers (all_items entries)
+  pub handles : Gathers tally.handles (all_items entries)
 
 -- the bytes met an error
 pub record HasFailed {R S H : Type 0} {builds : BuildHasher.Ghosts S H} {hashes : Hasher.Ghosts H} (left : R → Option (List ℕ)) (first : Option (List ℕ)) (reader : Entries R S H builds hashes) (error : Error) : Type 0 where

@@ -29,11 +29,11 @@ entries_left_in (Failed error) container = 0
 
 module _ {R S H : Type 0} {builds : BuildHasher.Ghosts S H} {hashes : Hasher.Ghosts H} where
   abbrev pub entries_left : Entries R S H builds hashes → ℕ
-  entries_left entries = entries_left_in entries.stage entries.capture.container
+  entries_left entries = entries_left_in entries.stage entries.parser.container
 
   -- the record of this entry stands, if it was the last
   abbrev pub HoldsRecordOf : Entries R S H builds hashes → Entry → Type 0
-  HoldsRecordOf entries entry = (kind : Kind) → entries.last ≡ Some kind → IsHeld kind entries.capture.container.joiner entry
+  HoldsRecordOf entries entry = (kind : Kind) → entries.last ≡ Some kind → IsHeld kind entries.parser.container.joiner entry
 
   abbrev pub HoldsLast : Entries R S H builds hashes → List Entry → Type 0
   HoldsLast entries handed = (front : List Entry) (entry : Entry) → handed ≡ front ++ entry ∷ [] → HoldsRecordOf entries entry
@@ -47,7 +47,7 @@ module _ {R S H : Type 0} {builds : BuildHasher.Ghosts S H} {hashes : Hasher.Gho
     pub judged : List ℕ
     pub split : given ≡ judged ++ unjudged entries
     pub counted : entries.judged ≡ length judged
-    pub machine : HasCome entries.capture.container entries.capture.calls judged handed
+    pub machine : HasCome entries.parser.container entries.parser.calls judged handed
 
   abbrev pub StandsIn : Stage → Option (List ℕ) → Entries R S H builds hashes → List ℕ → List Entry → Type 0
   StandsIn Reading left entries given handed = IsReading entries given handed

@@ -33,7 +33,7 @@ pub struct FromRead<R> {
     failures: u64,
 }
 
-impl<R: Read> Model for FromRead<R> {
+impl<R> Model for FromRead<R> {
     ghost use Rattle.capture3.specs.Device.{CountedDevice};
 
     ghost Value = { CountedDevice R };

@@ -57,18 +57,18 @@ pub struct Entries<'r, R, S: BuildHasher + Drop> {
     end: usize,
     // How many bytes were judged.
     judged: u64,
-    capture: EntryParser<HashedCalls<S>>,
+    parser: EntryParser<HashedCalls<S>>,
     // What the entry is that was handed out last, whose record stands.
     last: Option<Kind>,
     stage: Stage,
     ghost ordered: { start ≤ end },
     ghost within: { end ≤ vec_len block },
     ghost roomy: { 0 < vec_len block },
-    ghost sound: { stage ≡ stages.Reading → ∥ IsSoundPosition capture.container.position ∥₁ },
-    ghost stored: { stage ≡ stages.Reading → ∥ IsStored capture.container ∥₁ },
+    ghost sound: { stage ≡ stages.Reading → ∥ IsSoundPosition parser.container.position ∥₁ },
+    ghost stored: { stage ≡ stages.Reading → ∥ IsStored parser.container ∥₁ },
     ghost ready: { stage ≡ stages.Reading
-        → ∥ IsReady capture.container.cursor (released capture.container.joiner) ∥₁ },
-    ghost spells: { ∥ SpellsLast last capture.container.joiner ∥₁ },
+        → ∥ IsReady parser.container.cursor (released parser.container.joiner) ∥₁ },
+    ghost spells: { ∥ SpellsLast last parser.container.joiner ∥₁ },
     ghost never_writes: { stage ≢ stages.Failed errors.Write },
     ghost unlent: { (error : Error) → stage ≡ stages.Failed error → last ≡ None },
 }
@@ -96,7 +96,7 @@ impl<'r, R: Source, S: BuildHasher + Drop> Entries<'r, R, S> {
             start: 0,
             end: 0,
             judged: 0,
-            capture: EntryParser::new(alloc, HashedCalls::new(alloc, hasher)),
+            parser: EntryParser::new(alloc, HashedCalls::new(alloc, hasher)),
             last: None,
             stage: Stage::Reading,
         }
@@ -158,7 +158,7 @@ impl<'r, R: Source, S: BuildHasher + Drop> Entries<'r, R, S> {
             → IfSome result (λ lent. IsLent lent entry) }
     {
         match self.last {
-            Some(kind) => Some(self.capture.lend(kind)),
+            Some(kind) => Some(self.parser.lend(kind)),
             None => None,
         }
     }
@@ -237,11 +237,11 @@ impl<'r, R: Source, S: BuildHasher + Drop> Entries<'r, R, S> {
     /// Tells that all bytes at hand are judged, and no streams that were kept are.
     fn is_used_up(&self) -> bool
         ensures judged { IsTrue result → self.now.start ≡ self.now.end }
-        ensures unopened { IsTrue result → self.now.capture.container.cursor ≡ None }
-        ensures left { IsFalse result → self.now.capture.container.cursor ≡ None
+        ensures unopened { IsTrue result → self.now.parser.container.cursor ≡ None }
+        ensures left { IsFalse result → self.now.parser.container.cursor ≡ None
             → self.now.start < self.now.end }
     {
-        self.start == self.end && !self.capture.is_recalling()
+        self.start == self.end && !self.parser.is_recalling()
     }
 
     /// Reads the next block. False stands for the end of the bytes.
@@ -249,7 +249,7 @@ impl<'r, R: Source, S: BuildHasher + Drop> Entries<'r, R, S> {
         requires reading { self.old.stage ≡ Stage.Reading }
         requires bounded { self.old.judged ≤ most_bytes Two + 1 }
         requires judged { self.old.start ≡ self.old.end }
-        requires unopened { self.old.capture.container.cursor ≡ None }
+        requires unopened { self.old.parser.container.cursor ≡ None }
         ensures has_read { (given : List ℕ) (handed : List spec.Entry)
             → StandsFor R.left self.old given handed
             → HasRead R.left self.old self.new given handed }
@@ -257,7 +257,7 @@ impl<'r, R: Source, S: BuildHasher + Drop> Entries<'r, R, S> {
         ensures none { IfOk result (λ more. IsFalse more → self.new.start ≡ self.new.end) }
         ensures end { IfOk result
             (λ more. IsFalse more → IsAtEnd (R.left (source_of self.new))) }
-        ensures same_capture { self.new.capture ≡ self.old.capture }
+        ensures same_parser { self.new.parser ≡ self.old.parser }
         ensures same_count { self.new.judged ≡ self.old.judged }
         ensures reading { OnOk result (self.new.stage ≡ Stage.Reading) }
         ensures failed { IfErr result (λ error. self.new.stage ≡ Stage.Failed error) }
@@ -285,7 +285,7 @@ impl<'r, R: Source, S: BuildHasher + Drop> Entries<'r, R, S> {
     fn judge<V: Visit>(&mut self, visitor: &mut V) -> Result<Option<Kind>, Error>
         requires reading { self.old.stage ≡ Stage.Reading }
         requires bounded { self.old.judged ≤ most_bytes Two + 1 }
-        requires some { self.old.capture.container.cursor ≡ None → self.old.start < self.old.end }
+        requires some { self.old.parser.container.cursor ≡ None → self.old.start < self.old.end }
         ensures goes_on { (given : List ℕ) (handed : List spec.Entry)
             → StandsFor R.left self.old given handed
             → HandsOutOrGoesOn R.left V.stands self.new visitor.old visitor.new given handed
@@ -307,7 +307,7 @@ impl<'r, R: Source, S: BuildHasher + Drop> Entries<'r, R, S> {
         ensures same_reference { loan_of self.new ≡ loan_of self.old }
     {
         let piece = &self.block[self.start..self.end];
-        match self.capture.next(piece, visitor) {
+        match self.parser.next(piece, visitor) {
             Ok((count, kind)) => {
                 self.start += count;
                 self.judged += count as u64;
@@ -326,7 +326,7 @@ impl<'r, R: Source, S: BuildHasher + Drop> Entries<'r, R, S> {
     fn finish(&mut self) -> Result<(), Error>
         requires reading { self.old.stage ≡ Stage.Reading }
         requires judged { self.old.start ≡ self.old.end }
-        requires unopened { self.old.capture.container.cursor ≡ None }
+        requires unopened { self.old.parser.container.cursor ≡ None }
         requires end { IsAtEnd (R.left (source_of self.old)) }
         ensures ok { (given : List ℕ) (handed : List spec.Entry)
             → StandsFor R.left self.old given handed
@@ -343,7 +343,7 @@ impl<'r, R: Source, S: BuildHasher + Drop> Entries<'r, R, S> {
         ensures same_block { block_size self.new ≡ block_size self.old }
         ensures same_reference { loan_of self.new ≡ loan_of self.old }
     {
-        match self.capture.end(self.judged) {
+        match self.parser.end(self.judged) {
             Ok(()) => {
                 self.last = Some(Kind::End);
                 self.stage = Stage::Over;

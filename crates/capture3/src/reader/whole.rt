@@ -36,18 +36,18 @@ pub fn parse(alloc: Global, bytes: &[u8]) -> Result<Vec<Entry>, Error>
         (λ _. (entries : List spec.Entry) → Typed bytes.now entries → spelled entries ≤ max_bytes) }
     ensures few { IfOk result (λ kept. vec_len kept ≤ most_entries) }
 {
-    let mut capture = EntryParser::new(alloc, CallList::new(alloc));
+    let mut parser = EntryParser::new(alloc, CallList::new(alloc));
     let mut entries = Vec::new(alloc);
     let mut taken = 0;
-    while taken < bytes.len() || capture.is_recalling() {
-        let (count, kind) = capture.next(&bytes[taken..], &mut Silent)?;
+    while taken < bytes.len() || parser.is_recalling() {
+        let (count, kind) = parser.next(&bytes[taken..], &mut Silent)?;
         taken += count;
         if let Some(kind) = kind {
-            let entry = capture.lend(kind).keep(alloc)?;
+            let entry = parser.lend(kind).keep(alloc)?;
             entries.push(entry)?;
         }
     }
-    capture.end(bytes.len() as u64)?;
+    parser.end(bytes.len() as u64)?;
     entries.push(Entry::End)?;
     Ok(entries)
 }

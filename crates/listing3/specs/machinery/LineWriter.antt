@@ -19,7 +19,7 @@ after_front front items = Word [] (length front) ∷ (front ++ items)
 
 -- a message under way, after these items
 pub record HasLineUnderWay {S H : Type 0} (writer : LineWriter S H) (front items : List Item) : Type 0 where
-  pub gathered : Gathers writer.handles.numbers (front ++ items)
+  pub gathered : Gathers writer.handles (front ++ items)
   pub text : IsTextOf writer.xid writer.items items
 
 abbrev pub LineStands : {S H : Type 0} → LineWriter S H → List Item → Type 0

@@ -5,4 +5,4 @@ use Rattle.canon3.proofs.handles.HandleTableVisit.plain.Goals as goal
 
 pub returns : goal.returns
 unfolding Adds
-returns g c = record { ok = λ before gathers. gathers_none c.args.self.now.numbers before (run_items c.args._fields.now c.args._bytes.now) (none_in_run c.args._fields.now c.args._bytes.now) gathers }
+returns g c = record { ok = λ before gathers. gathers_none c.args.self.now before (run_items c.args._fields.now c.args._bytes.now) (none_in_run c.args._fields.now c.args._bytes.now) gathers }

@@ -14,7 +14,7 @@ pub returns-in-Some-clause-goes_on : goal.returns-in-Some-clause-goes_on
 unfolding Adds
 returns-in-Some-clause-goes_on g c first u =
     let a = c.in_ok-kind.ensures.answers u.given u.handed u.stands in
-    let (one, is, reached, adds, stands) = subst (λ next. HandsOut g.R.Source.left (λ table items. Gathers table.numbers items) c.next.new.self c.args.self.now.handles c.next.new.visitor (u.given ++ a.more) u.handed (Ok next)) c.in-Some.is a.hands_out in
+    let (one, is, reached, adds, stands) = subst (λ next. HandsOut g.R.Source.left Gathers c.next.new.self c.args.self.now.handles c.next.new.visitor (u.given ++ a.more) u.handed (Ok next)) c.in-Some.is a.hands_out in
     record {
       given = u.given ++ a.more;
       handed = u.handed ++ one ∷ [];
@@ -22,7 +22,7 @@ returns-in-Some-clause-goes_on g c first u =
       stands = stands;
       tallied = record {
         passed = c.add.ensures.passed u.handed one is u.tallied.passed;
-        handles = subst (λ (l : List Item). Gathers c.next.new.visitor.numbers l) (sym (items_with_last u.handed one)) (adds (all_items u.handed) u.tallied.handles);
+        handles = subst (λ (l : List Item). Gathers c.next.new.visitor l) (sym (items_with_last u.handed one)) (adds (all_items u.handed) u.tallied.handles);
       };
     }
 

@@ -8,12 +8,12 @@ use Rattle.capture3.proofs.reader.whole.parse.Given as goal
 abbrev pub invariant-loop-taken : goal.invariant-loop-taken
 invariant-loop-taken l = record {
   within : l.taken ≤ length l.bytes;
-  sound : IsSoundPosition l.capture.container.position;
-  stored : IsStored l.capture.container;
-  ready : IsReady l.capture.container.cursor (released l.capture.container.joiner);
-  room : vec_len l.entries + room_in l.capture.container ≤ most_things;
-  machine : Keeps l.capture.container l.capture.calls (take l.taken l.bytes) l.entries.items;
+  sound : IsSoundPosition l.parser.container.position;
+  stored : IsStored l.parser.container;
+  ready : IsReady l.parser.container.cursor (released l.parser.container.joiner);
+  room : vec_len l.entries + room_in l.parser.container ≤ most_things;
+  machine : Keeps l.parser.container l.parser.calls (take l.taken l.bytes) l.entries.items;
 }
 
 abbrev pub decreases-loop-taken : goal.decreases-loop-taken
-decreases-loop-taken l = (room_in l.capture.container) + (length l.bytes - l.taken)
+decreases-loop-taken l = (room_in l.parser.container) + (length l.bytes - l.taken)

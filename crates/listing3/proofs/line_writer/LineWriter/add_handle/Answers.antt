@@ -14,17 +14,17 @@ pub returns-clause-ok : goal.returns-clause-ok
 unfolding Adds
 returns-clause-ok g c =
     let w = c.args.self.now in
-    let table = c.handle-gathered.new.self.numbers in
+    let table = c.handle-gathered.new.self in
     let name = c.args.name.now in
     let bytes = c.args.bytes.now in
-    settled (λ t. Adds (LineStands {S = g.row.S.Denot} {H = g.row.S-Hasher.Denot}) w (record { handles = record { numbers = table }; xid = w.xid; items = t; head = w.head }) (Opaque Handle name bytes ∷ []))
+    settled (λ t. Adds (LineStands {S = g.row.S.Denot} {H = g.row.S-Hasher.Denot}) w (record { handles = table; xid = w.xid; items = t; head = w.head }) (Opaque Handle name bytes ∷ []))
     c.handle-gathered.result c.settle.result c.append_hex.new.self c.settle.new.self c.settle.ensures.result c.settle.ensures.ok
     (still_ok c.handle-gathered.result (adds_both w c.append_hex.new.self table name bytes c.in_ok-append_hex.ensures.ok) c.handle-gathered.ensures.ok)
 
 pub returns-clause-err : goal.returns-clause-err
 unfolding Keeps
 returns-clause-err g c =
-    settled_err c.args.self.now c.handle-gathered.new.self.numbers c.settle.new.self c.handle-gathered.result c.settle.result c.append_hex.new.self (opening c.args.name.now ++ encode_lower c.args.bytes.now) (length c.bytes-before.result.now)
+    settled_err c.args.self.now c.handle-gathered.new.self c.settle.new.self c.handle-gathered.result c.settle.result c.append_hex.new.self (opening c.args.name.now ++ encode_lower c.args.bytes.now) (length c.bytes-before.result.now)
     c.settle.ensures.result c.settle.ensures.err (ap length c.bytes-before.ensures) c.in_ok-append_hex.ensures.ok c.handle-gathered.ensures.err
 
 pub returns-in_err-append_hex-clause-err : goal.returns-in_err-append_hex-clause-err

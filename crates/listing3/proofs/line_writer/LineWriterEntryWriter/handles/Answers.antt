@@ -9,5 +9,5 @@ use Rattle.listing3.proofs.line_writer.LineWriterEntryWriter.handles.Goals as go
 
 pub returns : goal.returns
 returns g c entries goes stands =
-    let gathered = subst (Gathers c.args.self.now.handles.numbers) (append-nil (all_items entries)) (is_after c.args.self.now (all_items entries) [] stands).gathered in
+    let gathered = subst (Gathers c.args.self.now.handles) (append-nil (all_items entries)) (is_after c.args.self.now (all_items entries) [] stands).gathered in
     c.len.ensures (all_items entries) gathered ∙ ap (λ (l : List (List ℕ)). min (length (distinct bytes_eq l)) number_limit) (handles_of_all entries)

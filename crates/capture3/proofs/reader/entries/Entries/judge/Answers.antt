@@ -7,10 +7,10 @@ pub next-requires-clause-sound : goal.next-requires-clause-sound
 next-requires-clause-sound g c = sound_position _ (c.args.self.now.sound c.requires.reading)
 
 pub next-requires-clause-stored : goal.next-requires-clause-stored
-next-requires-clause-stored g c = stored_container c.args.self.now.capture.container (c.args.self.now.stored c.requires.reading)
+next-requires-clause-stored g c = stored_container c.args.self.now.parser.container (c.args.self.now.stored c.requires.reading)
 
 pub next-requires-clause-ready : goal.next-requires-clause-ready
-next-requires-clause-ready g c = ready_joiner c.args.self.now.capture.container.cursor _ (c.args.self.now.ready c.requires.reading)
+next-requires-clause-ready g c = ready_joiner c.args.self.now.parser.container.cursor _ (c.args.self.now.ready c.requires.reading)
 
 pub invariant_of-self-in-Err-clause-never_writes : goal.invariant_of-self-in-Err-clause-never_writes
 invariant_of-self-in-Err-clause-never_writes g c = failed_not_write c.in-Err.error c.in-Err.ensures.device
