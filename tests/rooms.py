@@ -1,5 +1,5 @@
-"""Where the definitions of crates/*/specs stand: what a public call of any crate believes, and all else in rooms named machinery. And
-which names stand for several of them."""
+"""Where the definitions of crates/*/specs stand: what a public call of any crate believes, and all else in rooms named machinery. Which
+names stand for several of them, which clauses of public calls name a private field, and which clauses have a line over 100 columns."""
 import collections
 import importlib.machinery
 import importlib.util
@@ -16,6 +16,9 @@ BY_NAME = {
 }
 ITEM = re.compile(r'pub fn (\w+)|pub trait (\w+)|impl\b(?:<[^{]*?>)? ?(?:.* for )?(\w+)[^{]*\{$')
 METHOD = re.compile(r' {4}pub fn \w+')
+STRUCT = re.compile(r'^pub struct (\w+)[^{;]*\{(.*?)^\}', re.M | re.S)
+PRIVATE = re.compile(r'^    (?:pub\(crate\) )?(\w+):', re.M)
+NAMED_FIELD = re.compile(r'\b(?:self\.(?:now|old|new)|result)\.(\w+)')
 GHOST = re.compile(r'^ *ghost (?!use\b).*?;$', re.M | re.S)
 
 
@@ -102,6 +105,30 @@ def in_the_wrong_room():
             wrong += ['%s imports of %s: %s' % (file.path, module, name) for _, module, name in places
                       if module.startswith(ROOM + '.') and name not in BY_NAME]
     return wrong
+
+
+def private_fields(text):
+    """The private fields of a file's public structs, but of those whose clauses speak of the value of a Model."""
+    return {field for name, body in STRUCT.findall(text) for field in PRIVATE.findall(body)
+            if not re.search(r'\bModel for %s\b' % name, text)}
+
+
+def of_private_fields():
+    """The private fields that clauses of public calls name, with their files."""
+    believed, found = tool(), set()
+    for crate in libraries():
+        for path, text in public_texts(crate):
+            private = private_fields(path.read_text())
+            named = (name for clause in believed.CLAUSE.finditer(text) for name in NAMED_FIELD.findall(clause[0]))
+            found |= {'%s: %s' % (path.relative_to(TOP), name) for name in named if name in private}
+    return sorted(found)
+
+
+def long_lines():
+    """The lines of clauses over 100 columns, with their files."""
+    pattern, paths = tool().CLAUSE, sorted(TOP.glob('crates/*/src/**/*.rt'))
+    clauses = ((path, clause[0]) for path in paths for clause in pattern.finditer(path.read_text()))
+    return ['%s: %s' % (path.relative_to(TOP), line) for path, clause in clauses for line in clause.splitlines() if len(line) > 100]
 
 
 def of_several_meanings():

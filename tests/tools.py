@@ -17,7 +17,7 @@ import tempfile
 
 from captures import SMALL, Runs, capture_in, rows_of
 from recordings import ACK, CLIENT, RST, SERVER, Talk, pcap, pcapng
-from rooms import in_the_wrong_room, of_several_meanings
+from rooms import in_the_wrong_room, long_lines, of_private_fields, of_several_meanings
 from running import try_all, words_of
 from traffic import NFS, Names, Traffic, call, messages, success
 
@@ -340,24 +340,18 @@ def what_is_believed(tools):
 
 
 def rooms_stand_apart(tools):
-    """What public calls believe, and machinery; and each definition has a name of its own."""
+    """What public calls believe, and machinery; each definition has a name of its own; and clauses are short and name no private field."""
     tools.want('rooms', in_the_wrong_room(), [])
     tools.want('names', of_several_meanings(), [])
-
-
-def clauses_are_short(tools):
-    """A clause has lines of at most 100 columns."""
-    for path in sorted(TOP.glob('crates/*/src/*.rt')):
-        lines = path.read_text().splitlines()
-        long = [at + 1 for at, line in enumerate(lines) if len(line) > 100 and re.match(r' *(ensures|requires) ', line)]
-        tools.want('long clauses of %s' % path, long, [])
+    tools.want('private fields in clauses', of_private_fields(), [])
+    tools.want('long lines of clauses', long_lines(), [])
 
 
 STRINGS = ('name', 'path', 'machinename', 'dirpath', 'hostname', 'directory')
 OF_TSHARK = [recordings_of_all_kinds, segments_in_any_order, who_is_the_client, what_is_left_out, recordings_of_the_readme]
 TESTS = [*OF_TSHARK, explained, explained_as_documented, layouts_agree_with_the_listing, commands_of_the_readme,
          lines_for_many_captures, examples_are_used, answers_of_the_examples, examples_are_made_alike, pages_agree, what_is_believed,
-         rooms_stand_apart, clauses_are_short]
+         rooms_stand_apart]
 
 
 def tried(program, test):

@@ -1,5 +1,5 @@
 pub mod Device
-pub mod Memory
+pub mod MemSource
 pub mod Entry
 pub mod Bodies
 pub mod Capture

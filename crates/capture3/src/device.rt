@@ -1,5 +1,6 @@
 // What a device's call that failed answers.
 
+pub(crate) mod mem_source;
 pub(crate) mod plan;
 pub(crate) mod source;
 

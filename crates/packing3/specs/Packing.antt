@@ -34,12 +34,20 @@ module _ {W : Type 0} where
   abbrev pub ending_of : Packing W → Option (Result (Unit {0}) Error)
   ending_of packing = packing.ended
 
+  -- where the capture is written to, as the writes have left it
+  abbrev pub sink_of : Packing W → W
+  sink_of packing = packing.sink
+
+  -- A write or a flush that failed counts once, and nothing else counts.
+  abbrev pub CountsWrites : {X : Type 0} → (W → ℕ) → Packing W → Packing W → Result X Error → Type 0
+  CountsWrites failures old new result = CountsWriting (failures (sink_of old)) (failures (sink_of new)) result
+
   -- The sink held `old` before the start, and was given the magic and the connections of these pairs since.
   pub record HasAdded (written : W → Option (List ℕ)) (packing : Packing W) (old : Option (List ℕ)) (pairs : List Streams) : Type 0 where
     pub going : ending_of packing ≡ None
     pub front : List ℕ
     pub packed : ArePacked front pairs
-    pub appended : Appends old (written packing.sink) front
+    pub appended : Appends old (written (sink_of packing)) front
     pub count : packing.connections ≡ length pairs
     pub streamed : packing.extent.streamed ≡ total_size pairs
     pub at : packing.extent.at ≡ length front
@@ -49,8 +57,8 @@ module _ {W : Type 0} where
   abbrev pub AddsStreams : (W → Option (List ℕ)) → Packing W → (old client server : Option (List ℕ)) → List Streams → Streams → Result (Unit {0}) Error → Type 0
   AddsStreams written new old client server pairs streams (Ok done) = IsAtEnd client × IsAtEnd server × HasAdded written new old (pairs ++ streams ∷ [])
   AddsStreams written new old client server pairs streams (Err error) =
-      ((streams ≡ record { client = []; server = [] }) × HasNoRoom old (written new.sink) pairs error)
-      ⊎ BreaksOff old (written new.sink) (pairs ++ streams ∷ []) error
+      ((streams ≡ record { client = []; server = [] }) × HasNoRoom old (written (sink_of new)) pairs error)
+      ⊎ BreaksOff old (written (sink_of new)) (pairs ++ streams ∷ []) error
 
   -- the same, with the streams that the sources gave in the call
   pub record AddsPair (written : W → Option (List ℕ)) (new : Packing W) (old old_client client old_server server : Option (List ℕ)) (pairs : List Streams) (result : Result (Unit {0}) Error) : Type 0 where
@@ -66,5 +74,5 @@ module _ {W : Type 0} where
   FailsToStart written sink error new = ((error ≡ errors.Memory) × (new ≡ sink)) ⊎ ((error ≡ errors.Write) × AppendsFront (written sink) (written new) (magic One))
 
   abbrev pub CountsStart : (W → ℕ) → W → Result (Packing W) (Error × W) → Type 0
-  CountsStart failures sink (Ok packing) = failures packing.sink ≡ failures sink
+  CountsStart failures sink (Ok packing) = failures (sink_of packing) ≡ failures sink
   CountsStart failures sink (Err failed) = CountsWriting {X = Unit {0}} (failures sink) (failures failed.1) (Err failed.0)

@@ -6,7 +6,6 @@ ghost use Rattle.xdr3.specs.Item.{word_bytes};
 ghost use Rattle.capture3.specs.Capture.{max_connections};
 ghost use Rattle.capture3.specs.SidedChunks.{Streams};
 ghost use Rattle.capture3.specs.Chunks.{max_bytes};
-ghost use Rattle.canon3.specs.WriteErrors.{CountsWriting};
 ghost use Rattle.canon3.specs.SinkWrites.{AppendsFront, IsFlushed};
 ghost use Rattle.packing3.specs.Packed.{full_size};
 ghost use Rattle.packing3.specs.Devices.{CountsReadings};
@@ -40,7 +39,7 @@ pub struct Packing<W> {
 }
 
 impl<W: Sink> Packing<W> {
-    ghost use Rattle.packing3.specs.Packing.{AddsPair, CountsStart, ending_of, FailsToStart, Finishes, HasAdded};
+    ghost use Rattle.packing3.specs.Packing.{AddsPair, CountsStart, CountsWrites, ending_of, FailsToStart, Finishes, HasAdded, sink_of};
     ghost use Rattle.packing3.specs.machinery.Packing.{FailsToAdd};
 
     /// Takes the memory of one chunk, and writes the magic.
@@ -72,7 +71,7 @@ impl<W: Sink> Packing<W> {
 
     /// Where the capture is written to.
     pub fn sink(&self) -> &W
-        ensures { result.now ≡ self.now.sink }
+        ensures { result.now ≡ sink_of self.now }
     {
         &self.sink
     }
@@ -105,7 +104,7 @@ impl<W: Sink> Packing<W> {
             (C.failures client.old) (C.failures client.new)
             (S.failures server.old) (S.failures server.new) result }
         ensures write { ending_of self.old ≡ None
-            → CountsWriting (W.failures self.old.sink) (W.failures self.new.sink) result }
+            → CountsWrites W.failures self.old self.new result }
     {
         if let Some(result) = self.ended {
             return result;
@@ -128,14 +127,15 @@ impl<W: Sink> Packing<W> {
     pub fn finish(&mut self) -> Result<(), Error>
         ensures finishes { (old : Option (List ℕ)) (pairs : List Streams)
             → HasAdded W.written self.old old pairs
-            → Finishes old (W.written self.new.sink) pairs result }
+            → Finishes old (W.written (sink_of self.new)) pairs result }
         ensures flushes { ending_of self.old ≡ None
-            → OnOk result (IsFlushed (W.written self.new.sink) (W.flushed self.new.sink)) }
+            → OnOk result
+            (IsFlushed (W.written (sink_of self.new)) (W.flushed (sink_of self.new))) }
         ensures ended { ending_of self.old ≡ None → ending_of self.new ≡ Some result }
         ensures again { IsSome (ending_of self.old) → ending_of self.old ≡ Some result }
         ensures unchanged { IsSome (ending_of self.old) → self.new ≡ self.old }
         ensures write { ending_of self.old ≡ None
-            → CountsWriting (W.failures self.old.sink) (W.failures self.new.sink) result }
+            → CountsWrites W.failures self.old self.new result }
     {
         if let Some(result) = self.ended {
             return result;
@@ -153,17 +153,17 @@ impl<W: Sink> Packing<W> {
     ) -> Result<(), Error>
         ensures ok { OnOk result (HasConnection
             (C.left client.old) (C.left client.new) (S.left server.old) (S.left server.new)
-            (W.written self.old.sink) (W.written self.new.sink)
+            (W.written (sink_of self.old)) (W.written (sink_of self.new))
             self.old.extent self.new.extent) }
         ensures one_more { OnOk result (self.new.connections ≡ self.old.connections + 1) }
         ensures err { IfErr result (FailsToAdd self.old
             (C.left client.old) (C.left client.new) (S.left server.old) (S.left server.new)
-            (W.written self.old.sink) (W.written self.new.sink)) }
+            (W.written (sink_of self.old)) (W.written (sink_of self.new))) }
         ensures same_ending { ending_of self.new ≡ ending_of self.old }
         ensures read { CountsReadings
             (C.failures client.old) (C.failures client.new)
             (S.failures server.old) (S.failures server.new) result }
-        ensures write { CountsWriting (W.failures self.old.sink) (W.failures self.new.sink) result }
+        ensures write { CountsWrites W.failures self.old self.new result }
     {
         if self.connections == MAX_CONNECTIONS {
             return Err(self.extent.refusal(Reason::TooManyConnections));
@@ -180,13 +180,14 @@ impl<W: Sink> Packing<W> {
 
     fn close(&mut self) -> Result<(), Error>
         ensures ok { OnOk result
-            (Appends (W.written self.old.sink) (W.written self.new.sink) (word_bytes 0)) }
+            (Appends (W.written (sink_of self.old)) (W.written (sink_of self.new)) (word_bytes 0)) }
         ensures err { OnErr result
-            (AppendsFront (W.written self.old.sink) (W.written self.new.sink) (word_bytes 0)) }
+            (AppendsFront (W.written (sink_of self.old)) (W.written (sink_of self.new))
+            (word_bytes 0)) }
         ensures flushes { OnOk result
-            (IsFlushed (W.written self.new.sink) (W.flushed self.new.sink)) }
+            (IsFlushed (W.written (sink_of self.new)) (W.flushed (sink_of self.new))) }
         ensures error { IfErr result (λ error. error ≡ Error.Write) }
-        ensures write { CountsWriting (W.failures self.old.sink) (W.failures self.new.sink) result }
+        ensures write { CountsWrites W.failures self.old self.new result }
     {
         write(&mut self.sink, &pack_chunk(0))?;
         match self.sink.flush_all() {

@@ -1,12 +1,10 @@
-// What gives bytes and may fail: a source over a reader, and one in memory.
+// What gives bytes and may fail, and a source over a reader.
 
-ghost use Rattle.std.specs.Prelude.{◌≡◌, ◌≤◌, ◌<◌, ◌+◌, ◌-◌, ◌↔◌, ℕ, List, length, take, drop, min, Option, None, Some, IfOk, IsErr, OnOk, OnErr};
+ghost use Rattle.std.specs.Prelude.{◌≡◌, ◌≤◌, ◌<◌, ℕ, List, length, Option, IfOk};
 ghost use Rattle.std.specs.Io.KnownBytes.{ReadConsumes};
 ghost use Rattle.capture3.specs.Device.{Counts};
-ghost use Rattle.capture3.specs.Memory.{MemoryRead};
 
 use crate::device::DeviceFailed;
-use crate::device::plan::FaultPlan;
 use std::io::Read;
 use std::marker::Model;
 
@@ -66,77 +64,5 @@ impl<R: Read> Source for FromRead<R> {
                 Err(DeviceFailed)
             }
         }
-    }
-}
-
-/// A source over bytes in memory, which tells them. It gives at most `block` bytes a call, and one call
-/// alone fails.
-#[derive(Drop)]
-pub struct MemSource<'a> {
-    bytes: &'a [u8],
-    block: usize,
-    plan: FaultPlan,
-}
-
-impl<'a> Model for MemSource<'a> {
-    ghost use Rattle.std.specs.Prelude.{◌<◌};
-    ghost use Rattle.capture3.specs.Memory.{MemoryRead};
-
-    ghost Value = { MemoryRead };
-
-    ghost view = { λ s. record {
-      left = s.bytes.now;
-      block = s.block;
-      fails_in = s.plan.fails_in;
-      failures = s.plan.failures;
-    } };
-
-    ghost invariant = { λ s. 0 < s.block };
-}
-
-impl<'a> MemSource<'a> {
-    /// Call number `fail` fails, none where it is 0.
-    pub fn new(bytes: &'a [u8], block: usize, fail: u64) -> MemSource<'a>
-        requires { 0 < block }
-        ensures { result ≡ record {
-          left = bytes.entry.now;
-          block = block;
-          fails_in = fail;
-          failures
-              = 0;
-        } }
-    {
-        MemSource {
-            bytes,
-            block,
-            plan: FaultPlan::new(fail),
-        }
-    }
-}
-
-impl Source for MemSource<'_> {
-    ghost left = { λ s. Some s.left };
-
-    ghost failures = { λ s. s.failures };
-
-    fn read_some(&mut self, buf: &mut [u8]) -> Result<usize, DeviceFailed>
-        requires room { 0 < length buf.old }
-        ensures within { IfOk result (λ n. n ≤ length buf.new) }
-        ensures bytes { ReadConsumes (Some self.old.left) (Some self.new.left) result buf.new }
-        ensures count { Counts self.old.failures self.new.failures result }
-
-        // How many bytes a call gives, and which call fails.
-        ensures given { IfOk result (λ n. n ≡ min (min self.old.block (length buf.old))
-            (length self.old.left)) }
-        ensures fails { IsErr result ↔ (self.old.fails_in ≡ 1) }
-        ensures next { (self.new.fails_in ≡ self.old.fails_in - 1)
-            × (self.new.block ≡ self.old.block) }
-    {
-        self.plan.next_call()?;
-        let count = self.block.min(buf.len()).min(self.bytes.len());
-        let (front, rest) = self.bytes.split_at(count);
-        buf[..count].copy_from_slice(front);
-        self.bytes = rest;
-        Ok(count)
     }
 }

@@ -12,7 +12,7 @@ ghost use Rattle.capture3.specs.machinery.Messages.{IsTableOf, results_after};
 use crate::message::calls::{KnownCalls, NumberedCall};
 use crate::message::stop;
 use procs3::{scan_arguments, scan_results};
-use rpc_head::{ProcId, MessageStart, scan_call_head, scan_reply_head, start};
+use rpc_head::{MessageStart, ProcId, scan_call_head, scan_reply_head, start};
 use std::alloc::AllocError;
 use xdr3::{GetError, Input, Reason, Visit};
 
