@@ -23,7 +23,7 @@ use Rattle.capture3.specs.Sides.{file_fault}
 use Rattle.capture3.specs.Typed.{connection_entries, HaveEntries}
 use Rattle.capture3.proofs.StrictRules.{ConnectionShows, AfterConnections, Rule, MagicDiffers, MarkIsBad, ConnectionIsTooMany, WithinConnection, ByteAfterEnd}
 use Rattle.capture3.proofs.BytesOf.{split_bytes}
-use Rattle.capture3.proofs.ConnectionMachineLemmas.{HasOpening, ClosesConnection, EndsConnection, opening_leads, opening_runs, opening_stops, nothing_opened}
+use Rattle.capture3.proofs.ConnectionMachineLemmas.{HasOpening, ClosesConnection, EndsConnection, opening_leads, opening_runs, opening_closes, nothing_opened}
 use Rattle.capture3.proofs.Telling.{tells_bytes}
 
 -- a part of the magic
@@ -307,13 +307,13 @@ inside_runs version at total number entries word rest o is few h =
     ∙ nested_runs (opening_next (suc number)) file_next (λ p. record { version = version; at = at + 4; total = total; number = suc number; entries = entries; spot = Inside p }) (closed version (suc number) entries) (λ s byte. refl) rest (opened version (at + 4) total) o
     (opening_runs version (record { number = suc number; start = at + 4; before = total }) rest o h)
 
-inside_stops : (version : Version) (at total number : ℕ) (entries : List Entry) (word rest : List ℕ) (x : Closing) → IsWord word 1 → number < max_connections → EndsConnection version (record { number = suc number; start = at + 4; before = total }) rest x
-    → after file_next (Runs (record { version = version; at = at; total = total; number = number; entries = entries; spot = Mark [] })) (word ++ rest) ≡ landed (closed version (suc number) entries x)
-inside_stops version at total number entries word rest x is few h =
+inside_closes : (version : Version) (at total number end sum : ℕ) (entries more : List Entry) (word rest : List ℕ) → IsWord word 1 → number < max_connections → ClosesConnection version (record { number = suc number; start = at + 4; before = total }) rest end sum more
+    → after file_next (Runs (record { version = version; at = at; total = total; number = number; entries = entries; spot = Mark [] })) (word ++ rest) ≡ Runs (record { version = version; at = end; total = sum; number = suc number; entries = entries ++ more; spot = Mark [] })
+inside_closes version at total number end sum entries more word rest is few h =
     after-append file_next (Runs (record { version = version; at = at; total = total; number = number; entries = entries; spot = Mark [] })) word rest
     ∙ ap (λ run. after file_next run rest) (begins version at total number entries word is few)
-    ∙ nested_stops (opening_next (suc number)) file_next (λ p. record { version = version; at = at + 4; total = total; number = suc number; entries = entries; spot = Inside p }) (closed version (suc number) entries) (λ s byte. refl) rest (opened version (at + 4) total) x
-    (opening_stops version (record { number = suc number; start = at + 4; before = total }) rest x h)
+    ∙ nested_stops (opening_next (suc number)) file_next (λ p. record { version = version; at = at + 4; total = total; number = suc number; entries = entries; spot = Inside p }) (closed version (suc number) entries) (λ s byte. refl) rest (opened version (at + 4) total)
+    (Closes end sum more) (opening_closes version (record { number = suc number; start = at + 4; before = total }) rest end sum more h)
 
 connections_run : (version : Version) (connections : List Streams) (at total number end sum count : ℕ) (before entries : List Entry) (bytes : List ℕ) → Joins (IsConnection version) bytes connections → HaveEntries connections entries
     → total + total_size connections ≤ max_bytes → number + length connections ≤ max_connections → end ≡ at + length bytes → sum ≡ total + total_size connections → count ≡ number + length connections
@@ -328,7 +328,7 @@ connections_run version (streams ∷ connections) at total number end sum count 
     let c = h.3 in
     ap (after file_next (Runs (record { version = version; at = at; total = total; number = number; entries = before; spot = Mark [] }))) (h.2 ∙ ap (λ (b : List ℕ). b ++ h.1) c.split)
     ∙ after-append file_next (Runs (record { version = version; at = at; total = total; number = number; entries = before; spot = Mark [] })) (c.mark ++ c.rest) h.1
-    ∙ ap (λ run. after file_next run h.1) (inside_stops version at total number before c.mark c.rest (Closes (at + 4 + length c.rest) (total + size streams) (connection_entries e.0 e.1)) c.one (omega arith)
+    ∙ ap (λ run. after file_next run h.1) (inside_closes version at total number (at + 4 + length c.rest) (total + size streams) before (connection_entries e.0 e.1) c.mark c.rest c.one (omega arith)
     (record { streams = streams; calls = e.0; replies = e.1; whole = c.both; converses = e.4; at_is = refl; total_is = refl; fits = omega arith; entries_are = refl }))
     ∙ connections_run version connections (at + 4 + length c.rest) (total + size streams) (suc number) end sum count (before ++ connection_entries e.0 e.1) e.2 h.1 h.4 e.5 (omega arith) (omega arith)
     (omega (arith, ap length h.2, length-append h.0 h.1, ap length c.split, length-append c.mark c.rest, c.one.0)) (omega arith) (omega arith)
@@ -381,24 +381,10 @@ spot_runs version bytes at total number entries Ended h =
 pub file_runs : (bytes : List ℕ) (s : Parsing) → Stands bytes s → parsed bytes ≡ Runs s
 file_runs bytes s h = spot_runs s.version bytes s.at s.total s.number s.entries s.spot h
 
--- at a connection word that is the last of the bytes
-word_last : (bytes : List ℕ) (b : AfterConnections bytes) (n : ℕ) → b.rest ≡ [] → b.mark ≡ n → parsed bytes ≡ landed (marked b.version (length b.front) (total_size b.connections) (length b.connections) b.entries n)
-word_last bytes b n none is =
-    later b.version bytes b.front b.word b.connections b.entries (b.split ∙ ap (λ (r : List ℕ). b.front ++ b.word ++ r) none ∙ append-nil (b.front ++ b.word)) b.opens
-    ∙ mark_runs b.version (length b.front) (total_size b.connections) (length b.connections) b.entries b.word n (b.is_word.0, b.is_word.1 ∙ is)
-
 pub bad_mark_stops : (version : Version) (at total count : ℕ) (entries : List Entry) (n : ℕ) → 1 < n → landed (marked version at total count entries n) ≡ Stops (refusal (file_fault at BadMark))
 bad_mark_stops version at total count entries zero h = absurd (omega arith)
 bad_mark_stops version at total count entries (suc zero) h = absurd (omega arith)
 bad_mark_stops version at total count entries (suc (suc n)) h = refl
-
-byte_after_end : (bytes : List ℕ) (b : AfterConnections bytes) (rest : List ℕ) → b.rest ≡ rest → b.mark ≡ 0 → length rest ≡ 1 → parsed bytes ≡ Stops (refusal (file_fault (length b.front + 4) AfterEnd))
-byte_after_end bytes b [] same none one = absurd (omega arith)
-byte_after_end bytes b (byte ∷ []) same none one =
-    later b.version bytes b.front (b.word ++ byte ∷ []) b.connections b.entries (b.split ∙ append_assoc b.front b.word b.rest ∙ ap (λ (r : List ℕ). b.front ++ (b.word ++ r)) same) b.opens
-    ∙ after-append file_next (Runs (record { version = b.version; at = length b.front; total = total_size b.connections; number = length b.connections; entries = b.entries; spot = Mark [] })) b.word (byte ∷ [])
-    ∙ ap (λ run. after file_next run (byte ∷ [])) (mark_runs b.version (length b.front) (total_size b.connections) (length b.connections) b.entries b.word 0 (b.is_word.0, b.is_word.1 ∙ none))
-byte_after_end bytes b (byte ∷ other ∷ more) same none one = absurd (omega arith)
 
 -- where a magic goes on, its front does, or its digit comes
 pub magic_split : (xs front : List ℕ) (y due : ℕ) (more : List ℕ) → xs ++ y ∷ [] ≡ front ++ due ∷ more → ((left : List ℕ) × (xs ≡ front ++ due ∷ left)) ⊎ (xs ≡ front)
@@ -432,17 +418,3 @@ magic_stops bytes fault d = go (magic_split magic_front d.front (digit d.version
         (ne_eqb d.byte 49 (d.differs One 49 [] (ap (λ (b : List ℕ). b ++ 49 ∷ []) r))) (ne_eqb d.byte 50 (d.differs Two 50 [] (ap (λ (b : List ℕ). b ++ 50 ∷ []) r)))
         ∙ ap (λ n. Stops (refusal (file_fault n BadMagic))) at_is
         ∙ ap (λ f. Stops (refusal f)) (sym d.is)
-
-pub rule_stops : (bytes : List ℕ) (shown : ShownFault) → Rule bytes shown → parsed bytes ≡ Stops shown
-rule_stops bytes shown (MagicDiffers d same) = magic_stops bytes shown.fault d ∙ ap (λ f. Stops f) (sym same)
-rule_stops bytes shown (MarkIsBad b none bad is) =
-    word_last bytes b b.mark none refl ∙ bad_mark_stops b.version (length b.front) (total_size b.connections) (length b.connections) b.entries b.mark bad ∙ ap (λ f. Stops f) (sym is)
-rule_stops bytes shown (ConnectionIsTooMany b none one full is) =
-    word_last bytes b 1 none one
-    ∙ ap (λ t. landed (cond t (Goes (record { version = b.version; at = length b.front + 4; total = total_size b.connections; number = suc (length b.connections); entries = b.entries; spot = Inside (opened b.version (length b.front + 4) (total_size b.connections)) })) (Ends (refusal (file_fault (length b.front) TooManyConnections)))))
-    (le-ltb (length b.connections) max_connections (omega arith))
-    ∙ ap (λ f. Stops f) (sym is)
-rule_stops bytes shown (WithinConnection b one few shows) =
-    later b.version bytes b.front (b.word ++ b.rest) b.connections b.entries (b.split ∙ append_assoc b.front b.word b.rest) b.opens
-    ∙ inside_stops b.version (length b.front) (total_size b.connections) (length b.connections) b.entries b.word b.rest (Refuses shown) (b.is_word.0, b.is_word.1 ∙ one) few shows
-rule_stops bytes shown (ByteAfterEnd b none one is) = byte_after_end bytes b b.rest refl none one ∙ ap (λ f. Stops f) (sym is)

@@ -4,8 +4,7 @@ use Rattle.std.specs.List.{concat}
 use Rattle.record_mark.specs.Machine.{Goes, Ends, Runs, Stops, landed, after}
 use Rattle.record_mark.specs.Word.{IsWord, Joins, number, word_next}
 use Rattle.record_mark.specs.Joining.{Joining, Between, Header, Bytes}
-use Rattle.record_mark.specs.RecordMark.{IsOpen}
-use Rattle.record_mark.proofs.Machines.{Leads, leads_within, after-append, nested_runs, nested_stops, counted_runs, counted_stops, ran_before, ran_to}
+use Rattle.record_mark.proofs.Machines.{Leads, leads_within, after-append, nested_runs, nested_stops, counted_runs, counted_stops, ran_to}
 use Rattle.record_mark.proofs.Words.{IsPart, word_leads, word_runs, word_stops, Joins-snoc, concat-snoc}
 use Rattle.xdr3.specs.Item.{AreBytes}
 use Rattle.xdr3.specs.declared.reason.Reason.TheVariants.{RecordCut, TooManyBytes}
@@ -19,7 +18,7 @@ use Rattle.capture3.specs.machinery.SideMachine.{side_start}
 use Rattle.capture3.proofs.StrictRules.{StreamShows, PassesBytes, CutsRecord, ShowsRecord, SideShows}
 use Rattle.capture3.proofs.BytesOf.{split_bytes, AreBytes-append, chunk_bytes}
 use Rattle.capture3.proofs.BodyProgramLemmas.{Judged}
-use Rattle.capture3.proofs.StreamMachineLemmas.{HasRead, stream_leads, nothing_read, stream_runs, stream_stops, has_read, holds_so_far}
+use Rattle.capture3.proofs.StreamMachineLemmas.{HasRead, stream_leads, nothing_read, stream_runs, holds_so_far}
 
 -- in a length word after whole chunks
 pub record InLength {M : Type 0} (judge : Judgement M) (position : Position) (bytes : List ℕ) (at total : ℕ) (reading : Reading M) (part : List ℕ) : Type 0 where
@@ -314,52 +313,13 @@ pub side_runs : {M : Type 0} (judge : Judged M) (position : Position) (bytes : L
 side_runs judge position bytes s h = point_runs judge position bytes s.at s.total s.reading s.point h
 
 -- the stream's word 0
-closes_with : {M : Type 0} (judge : Judged M) (position : Position) (bytes stream : List ℕ) (reading : Reading M) (closed : IsStream bytes stream) → after (stream_next judge.decide) (Runs unread) stream ≡ Runs reading → position.before + length stream ≤ max_bytes
-    → after (side_next judge.decide (place_in position)) (Runs (side_start position)) bytes ≡ Stops (closing (place_in position) (position.start + length closed.front) (position.before + length stream) reading.messages reading.joining)
-closes_with judge position bytes stream reading closed e fits =
-    later judge position bytes closed.front closed.last stream reading (position.start + length closed.front) (position.before + length stream) closed.split closed.chunks e fits refl refl
-    ∙ length_runs judge position (position.start + length closed.front) (position.before + length stream) 0 reading closed.last closed.closes
-
-cut_stops : {M : Type 0} (judge : Judged M) (position : Position) (bytes : List ℕ) (fault : Fault) → CutsRecord judge.says position bytes fault → after (side_next judge.decide (place_in position)) (Runs (side_start position)) bytes ≡ Stops (SideRefuses fault)
-cut_stops judge position bytes fault h = go h.cut.is_open
-  where
-    go : IsOpen h.cut.last h.cut.body → after (side_next judge.decide (place_in position)) (Runs (side_start position)) bytes ≡ Stops (SideRefuses fault)
-    go (inl o) =
-        closes_with judge position bytes h.stream (record { messages = h.cut.messages; joining = Header h.cut.body o.0 }) h.closed
-        (stream_runs judge h.stream (record { messages = h.cut.messages; joining = Header h.cut.body o.0 }) (record { front = h.cut.front; last = h.cut.last; split = h.cut.split; holds = h.cut.holds; joined = o.1 })) h.fits
-        ∙ ap (λ f. Stops (SideRefuses f)) (ap (place_in position) (sym h.cut.is) ∙ sym h.is)
-    go (inr o) =
-        closes_with judge position bytes h.stream (record { messages = h.cut.messages; joining = Bytes h.cut.body o.0 o.1 }) h.closed
-        (stream_runs judge h.stream (record { messages = h.cut.messages; joining = Bytes h.cut.body o.0 o.1 }) (record { front = h.cut.front; last = h.cut.last; split = h.cut.split; holds = h.cut.holds; joined = o.2 })) h.fits
-        ∙ ap (λ f. Stops (SideRefuses f)) (ap (place_in position) (sym h.cut.is) ∙ sym h.is)
-
-passes_stops : {M : Type 0} (judge : Judged M) (position : Position) (bytes : List ℕ) (fault : Fault) (n : ℕ) → (h : PassesBytes judge.says position bytes fault) → n ≡ h.count → after (side_next judge.decide (place_in position)) (Runs (side_start position)) bytes ≡ Stops (SideRefuses fault)
-passes_stops {M} judge position bytes fault zero h e = absurd (omega (arith, h.passes, h.fits))
-passes_stops {M} judge position bytes fault (suc left) h e =
-    let read = has_read judge.says h.stream h.messages h.holds in
-    let reading : Reading M = record { messages = h.messages; joining = read.0 } in
-    later judge position bytes h.front h.last h.stream reading (position.start + length h.front) (position.before + length h.stream) h.split h.chunks (stream_runs judge h.stream reading read.1) h.fits refl refl
-    ∙ length_runs judge position (position.start + length h.front) (position.before + length h.stream) (suc left) reading h.last (h.word.0, h.word.1 ∙ sym e)
-    ∙ ap (λ b. landed (cond b (Ends (SideRefuses (file_fault (position.start + length h.front) TooManyBytes))) (Goes (record { at = position.start + length h.front + 4 + suc left; total = position.before + length h.stream + suc left; reading = reading; point = Chunk left }))))
-    (lt-ltb max_bytes (position.before + length h.stream + suc left) (omega (arith, h.passes)))
-    ∙ ap (λ f. Stops (SideRefuses f)) (sym h.is)
-
-shows_stops : {M : Type 0} (judge : Judged M) (position : Position) (bytes : List ℕ) (fault : Fault) (got : List ℕ) → (h : ShowsRecord judge.says position bytes fault) → got ≡ h.got → after (side_next judge.decide (place_in position)) (Runs (side_start position)) bytes ≡ Stops (SideRefuses fault)
-shows_stops judge position bytes fault [] h e = absurd (omega (arith, h.some, ap length e))
-shows_stops judge position bytes fault (byte ∷ more) h e =
-    let all = stream_stops judge (h.stream ++ h.got) h.shown h.shows in
-    let mid = ran_before (stream_next judge.decide) (Runs unread) h.stream byte more h.shown (ap (λ (b : List ℕ). after (stream_next judge.decide) (Runs unread) (h.stream ++ b)) e ∙ all) in
-    later judge position bytes h.front (h.header ++ h.got) h.stream mid.0 (position.start + length h.front) (position.before + length h.stream) (h.split ∙ append_assoc h.front h.header h.got) h.chunks mid.1 (omega (arith, h.fits)) refl refl
-    ∙ chunk_stops judge position (position.start + length h.front) (position.before + length h.stream) mid.0 h.header h.got h.left h.shown h.word (omega (arith, h.some)) h.fits
-    (sym (after-append (stream_next judge.decide) (Runs unread) h.stream h.got ∙ ap (λ run. after (stream_next judge.decide) run h.got) mid.1) ∙ all)
-    ∙ ap (λ f. Stops (SideRefuses f)) (sym h.is)
-
-pub side_stops : {M : Type 0} (judge : Judged M) (position : Position) (bytes : List ℕ) (x : SideEnd M) → EndsSide judge.says position bytes x → after (side_next judge.decide (place_in position)) (Runs (side_start position)) bytes ≡ Stops x
-side_stops judge position bytes (SideCloses at total messages) h =
-    let at_is : position.start + length h.closed.front + 4 ≡ at = omega (arith, h.at_is, ap length h.closed.split, length-append h.closed.front h.closed.last, h.closed.closes.0) in
-    closes_with judge position bytes h.stream (record { messages = messages; joining = Between }) h.closed
-    (stream_runs judge h.stream (record { messages = messages; joining = Between }) (record { front = h.stream; last = []; split = sym (append-nil h.stream); holds = h.holds; joined = refl })) (omega (arith, h.fits, h.total_is))
+pub side_closes : {M : Type 0} (judge : Judged M) (position : Position) (bytes : List ℕ) (at total : ℕ) (messages : List M) → ClosesSide judge.says position bytes at total messages
+    → after (side_next judge.decide (place_in position)) (Runs (side_start position)) bytes ≡ Stops (SideCloses at total messages)
+side_closes {M} judge position bytes at total messages h =
+    let c = h.closed in
+    let whole : Reading M = record { messages = messages; joining = Between } in
+    let runs = stream_runs judge h.stream whole (record { front = h.stream; last = []; split = sym (append-nil h.stream); holds = h.holds; joined = refl }) in
+    let at_is : position.start + length c.front + 4 ≡ at = omega (arith, h.at_is, ap length c.split, length-append c.front c.last, c.closes.0) in
+    later judge position bytes c.front c.last h.stream whole (position.start + length c.front) (position.before + length h.stream) c.split c.chunks runs (omega (arith, h.fits, h.total_is)) refl refl
+    ∙ length_runs judge position (position.start + length c.front) (position.before + length h.stream) 0 whole c.last c.closes
     ∙ ap₂ (λ n m. Stops (SideCloses n m messages)) at_is (sym h.total_is)
-side_stops judge position bytes (SideRefuses fault) (inl h) = passes_stops judge position bytes fault h.count h refl
-side_stops judge position bytes (SideRefuses fault) (inr (inl h)) = cut_stops judge position bytes fault h
-side_stops judge position bytes (SideRefuses fault) (inr (inr h)) = shows_stops judge position bytes fault h.got h refl

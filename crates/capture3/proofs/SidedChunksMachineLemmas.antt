@@ -331,30 +331,11 @@ bad_side at total (suc zero) streams h = absurd (omega arith)
 bad_side at total (suc (suc zero)) streams h = absurd (omega arith)
 bad_side at total (suc (suc (suc n))) streams h = refl
 
-header_after : (context : Context) (bytes : List ℕ) (b : AfterLength context bytes) (n : ℕ) → b.count ≡ n → after mixed_next (Runs (mixing_from context.start context.before)) bytes ≡ landed (measured (context.start + length b.front + 4) (context.before + size (gathered b.chunks)) (gathered b.chunks) b.side n)
-header_after context bytes b n e =
-    later context bytes b.front (b.word ++ b.header) b.chunks (context.start + length b.front) (context.before + size (gathered b.chunks)) (b.split ∙ append_assoc b.front b.word b.header) b.joined b.fits refl refl
-    ∙ after_side (context.start + length b.front) (context.before + size (gathered b.chunks)) (gathered b.chunks) b.side b.word b.header b.sided
-    ∙ header_lands (context.start + length b.front + 4) (context.before + size (gathered b.chunks)) n (gathered b.chunks) b.side b.header (b.counts.0, b.counts.1 ∙ e)
-
-too_much : (at total n : ℕ) (streams : Streams) (side : Side) → total ≤ max_bytes → max_bytes < total + n → landed (measured at total streams side n) ≡ Stops (MixedRefuses (file_fault at TooManyBytes))
-too_much at total zero streams side fits h = absurd (omega arith)
-too_much at total (suc left) streams side fits h =
-    ap (λ b. landed (cond b (Ends (MixedRefuses (file_fault at TooManyBytes))) (Goes (record { at = at + 4 + suc left; total = total + suc left; streams = streams; point = SideChunk side left })))) (lt-ltb max_bytes (total + suc left) h)
-
-pub mixed_stops : (context : Context) (bytes : List ℕ) (x : MixedEnd) → EndsMixed context bytes x → after mixed_next (Runs (mixing_from context.start context.before)) bytes ≡ Stops x
-mixed_stops context bytes (MixedCloses at total streams) h =
+pub mixed_closes : (context : Context) (bytes : List ℕ) (at total : ℕ) (streams : Streams) → ClosesMixed context bytes at total streams → after mixed_next (Runs (mixing_from context.start context.before)) bytes ≡ Stops (MixedCloses at total streams)
+mixed_closes context bytes at total streams h =
     let m = h.mixed in
     let at_is : context.start + length m.front + 4 ≡ at = omega (arith, h.at_is, ap length m.split, length-append m.front m.last, m.closes.0) in
     let sum : total ≡ context.before + size (gathered m.chunks) = h.total_is ∙ ap (λ s. context.before + size s) m.carried in
     later context bytes m.front m.last m.chunks (context.start + length m.front) total m.split m.joined (omega (arith, h.fits)) refl sum
     ∙ word_lands (context.start + length m.front) total 0 (gathered m.chunks) m.last m.closes
     ∙ ap₂ (λ n s. Stops (MixedCloses n total s)) at_is (sym m.carried)
-mixed_stops context bytes (MixedRefuses fault) (BadSide b) =
-    later context bytes b.front b.word b.chunks (context.start + length b.front) (context.before + size (gathered b.chunks)) b.split b.joined b.fits refl refl
-    ∙ word_lands (context.start + length b.front) (context.before + size (gathered b.chunks)) b.count (gathered b.chunks) b.word b.is_word
-    ∙ bad_side (context.start + length b.front) (context.before + size (gathered b.chunks)) b.count (gathered b.chunks) b.bad
-    ∙ ap (λ f. Stops (MixedRefuses f)) (sym b.is)
-mixed_stops context bytes (MixedRefuses fault) (NoLength b none is) = header_after context bytes b 0 none ∙ ap (λ f. Stops (MixedRefuses f)) (sym is)
-mixed_stops context bytes (MixedRefuses fault) (TooMuch b passes is) =
-    header_after context bytes b b.count refl ∙ too_much (context.start + length b.front + 4) (context.before + size (gathered b.chunks)) b.count (gathered b.chunks) b.side b.fits passes ∙ ap (λ f. Stops (MixedRefuses f)) (sym is)

@@ -6,10 +6,10 @@ use Rattle.record_mark.specs.Joining.{Joining, Between, Header, Bytes, Joined, W
 use Rattle.record_mark.specs.Taking.{joined_body}
 use Rattle.record_mark.proofs.Machines.{Leads, leads_within, after-append, nested_runs, nested_stops}
 use Rattle.record_mark.proofs.Words.{Joins-snoc}
-use Rattle.record_mark.proofs.Joins.{join_leads, record_stops, too_long_stops, joining_runs}
+use Rattle.record_mark.proofs.Joins.{join_leads, record_stops, joining_runs}
 use Rattle.xdr3.specs.Item.{AreBytes}
 use Rattle.xdr3.specs.declared.reason.Stop.{Stop}
-use Rattle.capture3.specs.Records.{Judgement, AreMessages, Holds, HoldsSoFar, RecordFault}
+use Rattle.capture3.specs.Records.{Judgement, AreMessages, Holds, HoldsSoFar, RecordFault, RefusesRecord}
 use Rattle.capture3.specs.StreamMachine.{Reading, judged, recorded, stream_next, unread}
 use Rattle.capture3.proofs.StrictRules.{StreamShows}
 use Rattle.capture3.proofs.BytesOf.{split_bytes, record_bytes}
@@ -98,15 +98,11 @@ stream_runs judge stream s h =
     later judge stream h.front h.last s.messages h.split h.holds
     ∙ nested_runs join_next (stream_next judge.decide) (λ j. record { messages = s.messages; joining = j }) (recorded judge.decide s.messages) (λ j byte. refl) h.last Between s.joining (joining_runs h.last s.joining h.joined)
 
-pub stream_stops : {M : Type 0} (judge : Judged M) (stream : List ℕ) (fault : RecordFault) → StreamShows judge.says stream fault → after (stream_next judge.decide) (Runs unread) stream ≡ Stops fault
-stream_stops judge stream fault (inl h) =
+pub refusal_stops : {M : Type 0} (judge : Judged M) (stream : List ℕ) (fault : RecordFault) → RefusesRecord judge.says stream fault → after (stream_next judge.decide) (Runs unread) stream ≡ Stops fault
+refusal_stops judge stream fault h =
     later judge stream h.front h.last h.messages h.split h.holds
     ∙ record_closes judge h.messages h.last (Whole h.body) (record_stops h.last h.body h.whole)
     ∙ ap (λ r. landed (judged h.messages r)) (judge.refuses h.messages h.body h.stop h.refused)
-    ∙ ap (λ f. Stops f) (sym h.is)
-stream_stops judge stream fault (inr h) =
-    later judge stream h.front h.last h.messages h.split h.holds
-    ∙ record_closes judge h.messages h.last (TooLong h.at) (too_long_stops h.last h.at h.long)
     ∙ ap (λ f. Stops f) (sym h.is)
 
 -- ---- what is not whole
