@@ -8,7 +8,7 @@ use Rattle.capture3.specs.Bodies.{ReplyItems}
 use Rattle.capture3.specs.Capture.{Version, One, Two, AreStreams}
 use Rattle.capture3.specs.SidedChunks.{Streams, size}
 use Rattle.capture3.specs.Chunks.{max_bytes, IsStream}
-use Rattle.capture3.specs.Connections.{Context, client_position, server_position, calls_in_turn, replies_to}
+use Rattle.capture3.specs.Connections.{Context, client_position, server_position, calls_in_turn, replies_to, ConnectionShows, InClientStream, InServerStream}
 use Rattle.capture3.specs.Entry.{Entry}
 use Rattle.capture3.specs.BodyProgram.{judge_call}
 use Rattle.capture3.specs.SidedChunksMachine.{MixedEnd, MixedCloses, MixedRefuses, mixed_next, mixing_from}
@@ -18,7 +18,6 @@ use Rattle.capture3.specs.Records.{Holds}
 use Rattle.capture3.specs.Sides.{place_at}
 use Rattle.capture3.specs.SideMachine.{Siding, SideEnd, SideCloses, SideRefuses, side_next, siding_from}
 use Rattle.capture3.specs.Typed.{Converses, connection_entries}
-use Rattle.capture3.proofs.StrictRules.{ConnectionShows, InClientStream, InServerStream}
 use Rattle.capture3.proofs.BodiesLemmas.{the_calls, the_replies}
 use Rattle.capture3.proofs.BytesOf.{split_bytes, mixed_bytes}
 use Rattle.capture3.proofs.JudgedInTurn.{conversed, calls_hold, replies_hold}
@@ -92,7 +91,7 @@ ending_leads context bytes front last client calls split first holds fits (SideC
       entries_are = refl;
     }
 ending_leads context bytes front last client calls split first holds fits (SideRefuses fault) h =
-    (refl, inr (record { front = front; last = last; client = client; calls = calls; split = split; first = first; holds = holds; fits = fits; shows = h }))
+    (refl, inr (record { front = front; last = last; client = client; calls = calls; split = split; first = first; holds = holds; shows = h }))
 
 in_turn_leads : (context : Context) (bytes : List ℕ) (o : Opening) (byte : ℕ) → AreBytes (bytes ++ byte ∷ []) → HasOpening One context bytes o
     → Leads (HasOpening One context) (EndsConnection One context) (bytes ++ byte ∷ []) (opening_next context.number o byte)
@@ -147,13 +146,13 @@ server_said_ends : (context : Context) (bytes : List ℕ) (at total : ℕ) (stre
     → (x : StreamEnd ReplyItems) → EndsStream (replies_to calls) streams.server x → Leads (HasOpening Two context) (EndsConnection Two context) bytes (server_said context.number at total calls x)
 server_said_ends context bytes at total streams calls h holds (Held replies) ends =
     record { streams = streams; calls = calls; replies = replies; whole = h.mixed; converses = conversed streams calls replies holds ends; at_is = h.at_is; total_is = h.total_is; fits = h.fits; entries_are = refl }
-server_said_ends context bytes at total streams calls h holds (Faulty replies fault) ends = inr (InServerStream streams calls replies fault h.mixed (omega (arith, h.fits, h.total_is)) holds ends refl)
+server_said_ends context bytes at total streams calls h holds (Faulty replies fault) ends = inr (InServerStream streams calls replies fault h.mixed holds ends refl)
 
 client_said_ends : (context : Context) (bytes : List ℕ) (at total : ℕ) (streams : Streams) → AreBytes streams.server → ClosesMixed context bytes at total streams
     → (x : StreamEnd (List Item)) → EndsStream calls_in_turn streams.client x → Leads (HasOpening Two context) (EndsConnection Two context) bytes (client_said context.number at total streams.server x)
 client_said_ends context bytes at total streams are h (Held calls) ends =
     server_said_ends context bytes at total streams calls h ends (stream_end (judge_replies calls) streams.server) (ends_stream (the_replies calls) streams.server are)
-client_said_ends context bytes at total streams are h (Faulty calls fault) ends = inr (InClientStream streams calls fault h.mixed (omega (arith, h.fits, h.total_is)) ends refl)
+client_said_ends context bytes at total streams are h (Faulty calls fault) ends = inr (InClientStream streams calls fault h.mixed ends refl)
 
 conversing_ends : (context : Context) (bytes : List ℕ) (x : MixedEnd) → AreBytes bytes → EndsMixed context bytes x → Leads (HasOpening Two context) (EndsConnection Two context) bytes (conversing context.number x)
 conversing_ends context bytes (MixedCloses at total streams) are h =

@@ -1,5 +1,5 @@
 -- The machine for a file against connections, entries and rules.
-use Rattle.std.proofs.Common.{◌≡◌, ◌≢◌, ◌⊎◌, inl, inr, ℕ, zero, suc, ◌+◌, ◌<◌, ◌≤◌, List, [], ◌∷◌, ◌++◌, length, refl, sym, ap, ap₂, ⊎_elim, subst, ◌∙◌, append_assoc, append-nil, arith, length-append, Bool, true, false, cond, nat_lt, nat_eq, ltb-true, ltb-false, lt-ltb, le-ltb, eqb-true, eq-eqb, ne_eqb}
+use Rattle.std.proofs.Common.{◌≡◌, ◌≢◌, ◌⊎◌, inl, inr, ℕ, zero, suc, ◌+◌, ◌<◌, ◌≤◌, List, [], ◌∷◌, ◌++◌, length, refl, sym, ap, ap₂, ⊎_elim, subst, ◌∙◌, append_assoc, append-nil, arith, length-append, Bool, true, false, cond, nat_lt, nat_eq, ltb-true, ltb-false, lt-ltb, eqb-true, eq-eqb, ne_eqb}
 use Rattle.std.proofs.lemmas.Bool.{eqb-false}
 use Rattle.std.proofs.lemmas.List.{append_cancel_left}
 use Rattle.record_mark.specs.Machine.{Goes, Ends, Run, Runs, Stops, landed, after}
@@ -13,15 +13,14 @@ use Rattle.capture3.specs.declared.fault.Fault.{Fault}
 use Rattle.capture3.specs.Capture.{Version, One, Two, digit, magic_front, magic, max_connections, total_size, IsConnection}
 use Rattle.capture3.specs.SidedChunks.{Streams, size}
 use Rattle.capture3.specs.Chunks.{max_bytes}
-use Rattle.capture3.specs.Connections.{Context, ShownFault, refusal}
+use Rattle.capture3.specs.Connections.{Context, ShownFault, refusal, ConnectionShows}
 use Rattle.capture3.specs.Entry.{Entry}
-use Rattle.capture3.specs.FirstFault.{DiffersFromMagic}
+use Rattle.capture3.specs.FirstFault.{DiffersFromMagic, AfterConnections, Rule, MagicDiffers, MarkIsBad, ConnectionIsTooMany, WithinConnection, ByteAfterEnd}
 use Rattle.capture3.specs.ConnectionMachine.{Opening, Closing, Closes, Refuses, opening_next, opened}
 use Rattle.capture3.specs.FileMachine.{Spot, Magic, Digit, Mark, Inside, Ended, Parsing, magic_left, marked, closed, spot_step, file_next, file_start, parsed}
 use Rattle.capture3.specs.Reached.{Opens}
 use Rattle.capture3.specs.Sides.{file_fault}
 use Rattle.capture3.specs.Typed.{connection_entries, HaveEntries}
-use Rattle.capture3.proofs.StrictRules.{ConnectionShows, AfterConnections, Rule, MagicDiffers, MarkIsBad, ConnectionIsTooMany, WithinConnection, ByteAfterEnd}
 use Rattle.capture3.proofs.BytesOf.{split_bytes}
 use Rattle.capture3.proofs.ConnectionMachineLemmas.{HasOpening, ClosesConnection, EndsConnection, opening_leads, opening_runs, opening_closes, nothing_opened}
 use Rattle.capture3.proofs.Telling.{tells_bytes}
@@ -186,6 +185,11 @@ digit_cases : (version : Version) (bytes : List ℕ) (at total number : ℕ) (en
 digit_cases version bytes at total number entries byte h true e = whole_magic One version bytes at total number entries byte h (eqb-true _ _ e)
 digit_cases version bytes at total number entries byte h false e = two_cases version bytes at total number entries byte h e (nat_eq byte (digit Two)) refl
 
+-- after whole connections and a word
+abbrev after_word : (version : Version) (bytes front word rest : List ℕ) (entries : List Entry) (connections : List Streams) (n : ℕ) → bytes ≡ front ++ word ++ rest → Opens version front connections entries → IsWord word n → AfterConnections bytes
+after_word version bytes front word rest entries connections n split opens is =
+    record { version = version; front = front; whole = opens.rest; word = word; rest = rest; connections = connections; mark = n; split = split; begins = opens.split; joined = opens.joined; is_word = is }
+
 -- a connection word
 mark_cases : (version : Version) (bytes front word : List ℕ) (at total number : ℕ) (entries : List Entry) (connections : List Streams) → bytes ≡ front ++ word → Opens version front connections entries → IsWord word 1
     → at ≡ length front → total ≡ total_size connections → number ≡ length connections → (below : Bool) → nat_lt number max_connections ≡ below
@@ -208,8 +212,7 @@ mark_cases version bytes front word at total number entries connections split op
     }
 mark_cases version bytes front word at total number entries connections split opens one at_is total_is number_is false e =
     let above : max_connections ≤ number = ltb-false _ _ e in
-    ConnectionIsTooMany (record { version = version; front = front; word = word; rest = []; connections = connections; entries = entries; mark = 1; split = split ∙ sym (append-nil (front ++ word)); opens = opens; is_word = one }) refl refl
-    (omega (arith, opens.few)) (ap (λ n. refusal (file_fault n TooManyConnections)) at_is)
+    ConnectionIsTooMany (after_word version bytes front word [] entries connections 1 (split ∙ sym (append-nil (front ++ word))) opens one) refl refl (omega (arith, opens.few)) (ap (λ n. refusal (file_fault n TooManyConnections)) at_is)
 
 marked_leads : (version : Version) (bytes front word : List ℕ) (at total number : ℕ) (entries : List Entry) (connections : List Streams) (n : ℕ) → bytes ≡ front ++ word → Opens version front connections entries → IsWord word n
     → at ≡ length front → total ≡ total_size connections → number ≡ length connections → Leads Stands Rule bytes (marked version at total number entries n)
@@ -218,7 +221,7 @@ marked_leads version bytes front word at total number entries connections zero s
 marked_leads version bytes front word at total number entries connections (suc zero) split opens is at_is total_is number_is =
     mark_cases version bytes front word at total number entries connections split opens is at_is total_is number_is (nat_lt number max_connections) refl
 marked_leads version bytes front word at total number entries connections (suc (suc other)) split opens is at_is total_is number_is =
-    MarkIsBad (record { version = version; front = front; word = word; rest = []; connections = connections; entries = entries; mark = suc (suc other); split = split ∙ sym (append-nil (front ++ word)); opens = opens; is_word = is }) refl (omega arith) (ap (λ n. refusal (file_fault n BadMark)) at_is)
+    MarkIsBad (after_word version bytes front word [] entries connections (suc (suc other)) (split ∙ sym (append-nil (front ++ word))) opens is) refl (omega arith) (ap (λ n. refusal (file_fault n BadMark)) at_is)
 
 context_is : {at total count n s b : ℕ} → count ≡ n → at ≡ s → total ≡ b → ◌≡◌ {A = Context} (record { number = count; start = at; before = total }) (record { number = n; start = s; before = b })
 context_is e f g = λ i. record { number = e i; start = f i; before = g i }
@@ -237,7 +240,7 @@ closed_leads version bytes rest at total number entries o before h split (Closes
       number_is = omega (arith, h.number_is, length-append h.connections (c.streams ∷ []));
     }
 closed_leads version bytes rest at total number entries o before h split (Refuses shown) c =
-    WithinConnection (record { version = version; front = h.front; word = h.mark; rest = rest; connections = h.connections; entries = entries; mark = 1; split = split; opens = h.opens; is_word = h.one }) refl h.few
+    WithinConnection (after_word version bytes h.front h.mark rest entries h.connections 1 split h.opens h.one) refl
     (subst (λ (x : Context). ConnectionShows version x rest shown) (context_is h.number_is h.at_is h.total_is) c)
 
 pub spot_leads : (version : Version) (bytes : List ℕ) (at total number : ℕ) (entries : List Entry) (spot : Spot) (byte : ℕ) → AreBytes (bytes ++ byte ∷ []) → HasSpot version bytes at total number entries spot
@@ -258,7 +261,7 @@ spot_leads version bytes at total number entries (Inside o) byte are h =
     (λ x ends. closed_leads version (bytes ++ byte ∷ []) (h.rest ++ byte ∷ []) at total number entries o bytes h more x ends)
     (opening_next number o byte) (opening_leads version context h.rest o byte (split_bytes (bytes ++ byte ∷ []) (h.front ++ h.mark) (h.rest ++ byte ∷ []) more are).1 h.inside)
 spot_leads version bytes at total number entries Ended byte are h =
-    ByteAfterEnd (record { version = version; front = h.front; word = h.last; rest = byte ∷ []; connections = h.connections; entries = entries; mark = 0; split = ap (λ (b : List ℕ). b ++ byte ∷ []) h.split; opens = h.opens; is_word = h.closes }) refl refl
+    ByteAfterEnd (after_word version (bytes ++ byte ∷ []) h.front h.last (byte ∷ []) entries h.connections 0 (ap (λ (b : List ℕ). b ++ byte ∷ []) h.split) h.opens h.closes) refl refl
     (let at_is : at ≡ length h.front + 4 = omega (arith, h.at_is, ap length h.split, length-append h.front h.last, h.closes.0) in ap (λ n. refusal (file_fault n AfterEnd)) at_is)
 
 pub file_leads : (bytes : List ℕ) (s : Parsing) (byte : ℕ) → AreBytes (bytes ++ byte ∷ []) → Stands bytes s → Leads Stands Rule (bytes ++ byte ∷ []) (file_next s byte)

@@ -1,24 +1,23 @@
 -- The machine for one side against chunks, records and messages.
-use Rattle.std.proofs.Common.{◌≡◌, inl, inr, ℕ, zero, suc, ◌+◌, ◌<◌, ◌≤◌, List, [], ◌∷◌, ◌++◌, length, refl, sym, ap, ap₂, subst, ◌∙◌, append_assoc, append-nil, arith, length-append, Bool, true, false, cond, nat_lt, ltb-true, ltb-false, lt-ltb, le-ltb}
+use Rattle.std.proofs.Common.{◌≡◌, inl, inr, ℕ, zero, suc, ◌+◌, ◌<◌, ◌≤◌, List, [], ◌∷◌, ◌++◌, length, refl, sym, ap, ap₂, subst, ◌∙◌, append_assoc, append-nil, arith, length-append, Bool, true, false, cond, nat_lt, ltb-true, ltb-false, le-ltb}
 use Rattle.std.specs.List.{concat}
 use Rattle.record_mark.specs.Machine.{Goes, Ends, Runs, Stops, landed, after}
 use Rattle.record_mark.specs.Word.{IsWord, Joins, number, word_next}
 use Rattle.record_mark.specs.Joining.{Joining, Between, Header, Bytes}
+use Rattle.record_mark.specs.RecordMark.{IsOpen}
 use Rattle.record_mark.proofs.Machines.{Leads, leads_within, after-append, nested_runs, nested_stops, counted_runs, counted_stops, ran_to}
 use Rattle.record_mark.proofs.Words.{IsPart, word_leads, word_runs, word_stops, Joins-snoc, concat-snoc}
 use Rattle.xdr3.specs.Item.{AreBytes}
 use Rattle.xdr3.specs.declared.reason.Reason.TheVariants.{RecordCut, TooManyBytes}
-use Rattle.capture3.specs.declared.fault.Fault.{Fault}
 use Rattle.capture3.specs.Chunks.{max_bytes, IsChunk, AreChunks, IsStream}
-use Rattle.capture3.specs.Records.{Judgement, Holds, RecordFault, fault_at}
+use Rattle.capture3.specs.Records.{Judgement, Holds, RecordFault, StreamShows, fault_at}
 use Rattle.capture3.specs.StreamMachine.{Reading, stream_next, unread}
-use Rattle.capture3.specs.Sides.{Position, file_fault, place_in}
+use Rattle.capture3.specs.Sides.{Position, file_fault, place_in, SideShows}
 use Rattle.capture3.specs.SideMachine.{Point, Length, Chunk, Siding, SideEnd, SideCloses, SideRefuses, awaiting, closing, counted, side_next}
 use Rattle.capture3.specs.machinery.SideMachine.{side_start}
-use Rattle.capture3.proofs.StrictRules.{StreamShows, PassesBytes, CutsRecord, ShowsRecord, SideShows}
 use Rattle.capture3.proofs.BytesOf.{split_bytes, AreBytes-append, chunk_bytes}
 use Rattle.capture3.proofs.BodyProgramLemmas.{Judged}
-use Rattle.capture3.proofs.StreamMachineLemmas.{HasRead, stream_leads, nothing_read, stream_runs, holds_so_far}
+use Rattle.capture3.proofs.StreamMachineLemmas.{HasRead, ShowsFirst, fault_after, stream_leads, nothing_read, stream_runs}
 
 -- in a length word after whole chunks
 pub record InLength {M : Type 0} (judge : Judgement M) (position : Position) (bytes : List ℕ) (at total : ℕ) (reading : Reading M) (part : List ℕ) : Type 0 where
@@ -75,6 +74,17 @@ carried_bytes bytes front header got stream byte split chunks are =
     let whole = split_bytes (front ++ header) front header refl parts.0 in
     AreBytes-append (stream ++ got) (byte ∷ []) (AreBytes-append stream got (chunk_bytes front stream chunks whole.0) parts.1) all.1
 
+open_cut : {M : Type 0} (judge : Judged M) (position : Position) (bytes stream body : List ℕ) (messages : List M) (joining : Joining) → IsStream bytes stream → (read : HasRead judge.says stream (record { messages = messages; joining = joining })) → IsOpen read.last body
+    → EndsSide judge.says position bytes (SideRefuses (place_in position (fault_at messages (length body) RecordCut)))
+open_cut judge position bytes stream body messages joining closed read is_open =
+    inr (inl (record {
+      stream = stream;
+      shown = fault_at messages (length body) RecordCut;
+      closed = closed;
+      cut = record { front = read.front; last = read.last; bodies = read.holds.0; body = body; split = read.split; marks = read.holds.1; is_open = is_open; is = fault_after judge.says read.front messages (length body) RecordCut read.holds };
+      is = refl;
+    }))
+
 closing_ends : {M : Type 0} (judge : Judged M) (position : Position) (bytes stream : List ℕ) (at total : ℕ) (messages : List M) (joining : Joining) → IsStream bytes stream → HasRead judge.says stream (record { messages = messages; joining = joining })
     → at + 4 ≡ position.start + length bytes → total ≡ position.before + length stream → total ≤ max_bytes → EndsSide judge.says position bytes (closing (place_in position) at total messages joining)
 closing_ends judge position bytes stream at total messages Between closed read at_is total_is fits =
@@ -86,44 +96,15 @@ closing_ends judge position bytes stream at total messages Between closed read a
       fits = fits;
       holds = subst (λ (b : List ℕ). Holds judge.says b messages) (sym (append-nil read.front) ∙ ap (λ (b : List ℕ). read.front ++ b) (sym read.joined) ∙ sym read.split) read.holds;
     }
-closing_ends judge position bytes stream at total messages (Header body part) closed read at_is total_is fits =
-    inr (inl (record {
-      stream = stream;
-      shown = fault_at messages (length body) RecordCut;
-      closed = closed;
-      fits = omega arith;
-      is = refl;
-      cut = record { front = read.front; last = read.last; messages = messages; body = body; split = read.split; holds = read.holds; is_open = inl (part, read.joined); is = refl };
-    }))
-closing_ends judge position bytes stream at total messages (Bytes body last left) closed read at_is total_is fits =
-    inr (inl (record {
-      stream = stream;
-      shown = fault_at messages (length body) RecordCut;
-      closed = closed;
-      fits = omega arith;
-      is = refl;
-      cut = record { front = read.front; last = read.last; messages = messages; body = body; split = read.split; holds = read.holds; is_open = inr (last, left, read.joined); is = refl };
-    }))
+closing_ends judge position bytes stream at total messages (Header body part) closed read at_is total_is fits = open_cut judge position bytes stream body messages (Header body part) closed read (inl (part, read.joined))
+closing_ends judge position bytes stream at total messages (Bytes body last left) closed read at_is total_is fits = open_cut judge position bytes stream body messages (Bytes body last left) closed read (inr (last, left, read.joined))
 
 chunk_leads : {M : Type 0} (judge : Judged M) (position : Position) (bytes front header stream : List ℕ) (at total left : ℕ) (reading : Reading M) → bytes ≡ front ++ header → AreChunks front stream → HasRead judge.says stream reading → IsWord header (suc left)
     → at ≡ position.start + length front → total ≡ position.before + length stream → total ≤ max_bytes → (over : Bool) → nat_lt max_bytes (total + suc left) ≡ over
     → Leads (HasSide judge.says position) (EndsSide judge.says position) bytes (cond over (Ends (SideRefuses (file_fault at TooManyBytes))) (Goes (record { at = at + 4 + suc left; total = total + suc left; reading = reading; point = Chunk left })))
 chunk_leads judge position bytes front header stream at total left reading split chunks read word at_is total_is fits true over =
     let passes = ltb-true _ _ over in
-    (inl (record {
-      front = front;
-      last = header;
-      stream = stream;
-      messages = reading.messages;
-      count = suc left;
-      split = split;
-      chunks = chunks;
-      holds = holds_so_far judge.says stream reading read;
-      fits = omega arith;
-      word = word;
-      passes = omega arith;
-      is = ap (λ n. file_fault n TooManyBytes) at_is;
-    }))
+    inl (record { front = front; last = header; stream = stream; count = suc left; split = split; chunks = chunks; word = word; some = omega arith; passes = omega arith; is = ap (λ n. file_fault n TooManyBytes) at_is })
 chunk_leads judge position bytes front header stream at total left reading split chunks read word at_is total_is fits false over =
     let below : total + suc left ≤ max_bytes = ltb-false _ _ over in
     record {
@@ -196,7 +177,7 @@ point_leads judge position bytes at total reading (Length part) byte are h =
     (word_next part byte) (word_leads part byte h.short)
 point_leads judge position bytes at total reading (Chunk left) byte are h =
     let carried = carried_bytes bytes h.front (h.header) h.got h.stream byte h.split h.chunks are in
-    leads_within (HasRead judge.says) (StreamShows judge.says) (HasSide judge.says position) (EndsSide judge.says position) (λ r. record { at = at; total = total; reading = r; point = awaiting left }) (λ shown. Ends (SideRefuses (place_in position shown)))
+    leads_within (HasRead judge.says) (ShowsFirst judge.says) (HasSide judge.says position) (EndsSide judge.says position) (λ r. record { at = at; total = total; reading = r; point = awaiting left }) (λ shown. Ends (SideRefuses (place_in position shown)))
     ((h.stream ++ h.got) ++ byte ∷ []) (bytes ++ byte ∷ [])
     (λ r read. more_read judge position bytes byte at total r reading left h read)
     (λ shown shows. inr (inr (record {
@@ -209,9 +190,8 @@ point_leads judge position bytes at total reading (Chunk left) byte are h =
       chunks = h.chunks;
       word = (h.word.0, h.word.1 ∙ omega (arith, length-append h.got (byte ∷ [])));
       some = omega (arith, length-append h.got (byte ∷ []));
-      fits = omega (arith, h.total_is, h.fits, length-append h.stream h.got, length-append h.got (byte ∷ []));
       shown = shown;
-      shows = subst (λ (b : List ℕ). StreamShows judge.says b shown) (append_assoc h.stream h.got (byte ∷ [])) shows;
+      shows = subst (λ (b : List ℕ). StreamShows judge.says b shown) (append_assoc h.stream h.got (byte ∷ [])) shows.0;
       is = refl;
     })))
     (stream_next judge.decide reading byte) (stream_leads judge (h.stream ++ h.got) reading byte carried h.read)

@@ -14,7 +14,6 @@ use Rattle.capture3.specs.Laws.{most_bytes, IsWithinVersion}
 use Rattle.capture3.specs.FileMachine.{Parsing, parsed}
 use Rattle.capture3.specs.declared.fault.Side.TheVariants.{Client, Server}
 use Rattle.capture3.specs.Reached.{Opens, ReachesInside, AreWhole, InMagic, BetweenConnections, InConnection}
-use Rattle.capture3.proofs.BytesOf.{split_bytes}
 use Rattle.capture3.proofs.SidedChunksMachineLemmas.{size_of}
 use Rattle.capture3.proofs.ReachedLemmas.{stands_whole}
 use Rattle.capture3.proofs.Verdicts.{told, shows_from_stops, shown_before}

@@ -10,8 +10,7 @@ use Rattle.xdr3.specs.declared.reason.Reason.TheVariants.{RecordTooLong}
 use Rattle.capture3.specs.StreamMachine.{Judge, Reading, judged, recorded, stream_next, unread, StreamEnd, Held, Faulty, left_in, end_of, rest_end, stream_end}
 use Rattle.capture3.specs.Records.{Judgement, Holds, RecordFault, fault_at, FirstRecordFault, RefusesNext, NextIsTooLong, NextIsCut}
 use Rattle.capture3.proofs.BodyProgramLemmas.{Judged}
-use Rattle.capture3.proofs.StrictRules.{StreamShows}
-use Rattle.capture3.proofs.StreamMachineLemmas.{HasRead, stream_leads, nothing_read, record_closes, stream_runs}
+use Rattle.capture3.proofs.StreamMachineLemmas.{HasRead, ShowsFirst, stream_leads, nothing_read, record_closes, stream_runs}
 use Rattle.capture3.proofs.Telling.{tells_bytes}
 
 -- what is said of a whole stream holds
@@ -19,8 +18,8 @@ abbrev pub EndsStream : {M : Type 0} → Judgement M → List ℕ → StreamEnd 
 EndsStream judge stream (Held messages) = Holds judge stream messages
 EndsStream judge stream (Faulty messages fault) = FirstRecordFault judge stream messages fault
 
-stream_tells : {M : Type 0} (judge : Judged M) (stream : List ℕ) → AreBytes stream → Tells (HasRead judge.says) (StreamShows judge.says) stream (after (stream_next judge.decide) (Runs unread) stream)
-stream_tells judge = tells_bytes (stream_next judge.decide) (HasRead judge.says) (StreamShows judge.says) (stream_leads judge) unread (nothing_read judge.says)
+stream_tells : {M : Type 0} (judge : Judged M) (stream : List ℕ) → AreBytes stream → Tells (HasRead judge.says) (ShowsFirst judge.says) stream (after (stream_next judge.decide) (Runs unread) stream)
+stream_tells judge = tells_bytes (stream_next judge.decide) (HasRead judge.says) (ShowsFirst judge.says) (stream_leads judge) unread (nothing_read judge.says)
 
 -- after whole records the machine stands between two
 held_runs : {M : Type 0} (judge : Judged M) (front : List ℕ) (messages : List M) → Holds judge.says front messages → after (stream_next judge.decide) (Runs unread) front ≡ Runs (record { messages = messages; joining = Between })
@@ -74,11 +73,6 @@ stream_ends {M} judge stream (Faulty messages fault) (NextIsCut front last body 
     go (inl o) = at_joining (Header body o.0) (record { front = front; last = last; split = split; holds = holds; joined = o.1 }) ∙ ap (Faulty messages) (sym is)
     go (inr o) = at_joining (Bytes body o.0 o.1) (record { front = front; last = last; split = split; holds = holds; joined = o.2 }) ∙ ap (Faulty messages) (sym is)
 
--- a fault that is shown, as the first
-shown_first : {M : Type 0} (judge : Judgement M) (front rest : List ℕ) (fault : RecordFault) → StreamShows judge front fault → (messages : List M) × FirstRecordFault judge (front ++ rest) messages fault
-shown_first judge front rest fault (inl h) = (h.messages, RefusesNext h.front h.last rest h.body h.stop (ap (λ (b : List ℕ). b ++ rest) h.split) h.holds h.whole h.refused h.is)
-shown_first judge front rest fault (inr h) = (h.messages, NextIsTooLong h.front h.last rest h.at (ap (λ (b : List ℕ). b ++ rest) h.split) h.holds h.long h.is)
-
 left_ends : {M : Type 0} (judge : Judgement M) (stream : List ℕ) (messages : List M) (joining : Joining) → HasRead judge stream (record { messages = messages; joining = joining }) → EndsStream judge stream (left_in messages joining)
 left_ends judge stream messages Between h = subst (λ (b : List ℕ). Holds judge b messages) (sym (append-nil h.front) ∙ ap (λ (b : List ℕ). h.front ++ b) (sym h.joined) ∙ sym h.split) h.holds
 left_ends judge stream messages (Header body part) h = NextIsCut h.front h.last body h.split h.holds (inl (part, h.joined)) refl
@@ -88,13 +82,13 @@ left_ends judge stream messages (Bytes body last left) h = NextIsCut h.front h.l
 pub ends_somehow : {M : Type 0} (judge : Judged M) (stream : List ℕ) → AreBytes stream → (x : StreamEnd M) × EndsStream judge.says stream x
 ends_somehow {M} judge stream are = go (after (stream_next judge.decide) (Runs unread) stream) (stream_tells judge stream are)
   where
-    go : (run : Run (Reading M) RecordFault) → Tells (HasRead judge.says) (StreamShows judge.says) stream run → (x : StreamEnd M) × EndsStream judge.says stream x
+    go : (run : Run (Reading M) RecordFault) → Tells (HasRead judge.says) (ShowsFirst judge.says) stream run → (x : StreamEnd M) × EndsStream judge.says stream x
     go (Runs s) h = (left_in s.messages s.joining, left_ends judge.says stream s.messages s.joining h)
     go (Stops fault) h =
-        let f = shown_first judge.says stream [] fault h in
+        let f = h.1 [] in
         (Faulty f.0 fault, subst (λ (b : List ℕ). FirstRecordFault judge.says b f.0 fault) (append-nil stream) f.1)
     go (Stopped fault) h =
-        let f = shown_first judge.says h.front (h.byte ∷ h.back) fault h.ending in
+        let f = h.ending.1 (h.byte ∷ h.back) in
         (Faulty f.0 fault, subst (λ (b : List ℕ). FirstRecordFault judge.says b f.0 fault) (sym h.split) f.1)
 
 pub ends_stream : {M : Type 0} (judge : Judged M) (stream : List ℕ) → AreBytes stream → EndsStream judge.says stream (stream_end judge.decide stream)

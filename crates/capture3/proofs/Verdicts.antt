@@ -8,21 +8,19 @@ use Rattle.capture3.specs.declared.fault.Fault.{Fault}
 use Rattle.capture3.specs.Capture.{Version, total_size, magic}
 use Rattle.capture3.specs.Connections.{ShownFault, refusal}
 use Rattle.capture3.specs.Entry.{Entry, End}
-use Rattle.capture3.specs.FirstFault.{Shows, IsClean, FirstFault}
+use Rattle.capture3.specs.FirstFault.{Rule, Shows, IsClean, FirstFault}
 use Rattle.capture3.specs.Laws.{HasOneVerdict, IsCutShort}
 use Rattle.capture3.specs.FileMachine.{Spot, Magic, Digit, Mark, Inside, Ended, Parsing, file_next, file_start, parsed, concluded, verdict_of, verdict}
 use Rattle.capture3.specs.Sides.{file_fault}
 use Rattle.capture3.specs.Typed.{Typed, IsWellFormed}
 use Rattle.capture3.proofs.FileRules.{AnyRefusal, rule_over}
 use Rattle.capture3.proofs.BytesOf.{split_bytes}
-use Rattle.capture3.proofs.LoosenedRules.{loosened}
 use Rattle.capture3.proofs.EndedMachines.{Over, stopped_at}
-use Rattle.capture3.proofs.StrictRules as strict
 use Rattle.capture3.proofs.FileMachineLemmas.{HasSpot, Stands, file_tells, file_runs}
 
 -- the machine's runs, told of their bytes
-pub told : (bytes : List ℕ) (run : Run Parsing ShownFault) → AreBytes bytes → parsed bytes ≡ run → Tells Stands strict.Rule bytes run
-told bytes run are e = subst (λ r. Tells Stands strict.Rule bytes r) e (file_tells bytes are)
+pub told : (bytes : List ℕ) (run : Run Parsing ShownFault) → AreBytes bytes → parsed bytes ≡ run → Tells Stands Rule bytes run
+told bytes run are e = subst (λ r. Tells Stands Rule bytes r) e (file_tells bytes are)
 
 -- where a rule holds, the machine has stopped
 over_not_runs : (run : Run Parsing ShownFault) (s : Parsing) (shown : ShownFault) → run ≡ Runs s → Over AnyRefusal run shown → ⊥
@@ -33,7 +31,7 @@ over_not_runs run s shown e (inr past) = let f = past.2 in cc
 pub shows_from_stops : (bytes : List ℕ) (shown : ShownFault) → AreBytes bytes → parsed bytes ≡ Stops shown → Shows bytes shown
 shows_from_stops bytes shown are e =
     record {
-      rule = loosened bytes shown (told bytes (Stops shown) are e);
+      rule = told bytes (Stops shown) are e;
       first = λ front more byte other split rule.
           let before = ran_before file_next (Runs file_start) front byte more shown (ap parsed (sym split) ∙ e) in
           over_not_runs (parsed front) before.0 other before.1 (rule_over front other rule);
