@@ -76,9 +76,9 @@ turning_leads context bytes (SideCloses at total calls) h =
     }
 turning_leads context bytes (SideRefuses fault) h = (refl, inl h)
 
-ending_leads : (context : Context) (bytes front last client : List ℕ) (calls : List (List Item)) → bytes ≡ front ++ last → IsStream front client → Holds calls_in_turn client calls → context.before + length client ≤ max_bytes
+ending_leads : (context : Context) (bytes front last client : List ℕ) (calls : List (List Item)) → bytes ≡ front ++ last → IsStream front client → Holds calls_in_turn client calls
     → (x : SideEnd ReplyItems) → EndsSide (replies_to calls) (server_position context front client) last x → Leads (HasOpening One context) (EndsConnection One context) bytes (ending calls x)
-ending_leads context bytes front last client calls split first holds fits (SideCloses at total replies) h =
+ending_leads context bytes front last client calls split first holds (SideCloses at total replies) h =
     record {
       streams = record { client = client; server = h.stream };
       calls = calls;
@@ -90,7 +90,7 @@ ending_leads context bytes front last client calls split first holds fits (SideC
       fits = h.fits;
       entries_are = refl;
     }
-ending_leads context bytes front last client calls split first holds fits (SideRefuses fault) h =
+ending_leads context bytes front last client calls split first holds (SideRefuses fault) h =
     (refl, inr (record { front = front; last = last; client = client; calls = calls; split = split; first = first; holds = holds; shows = h }))
 
 in_turn_leads : (context : Context) (bytes : List ℕ) (o : Opening) (byte : ℕ) → AreBytes (bytes ++ byte ∷ []) → HasOpening One context bytes o
@@ -104,11 +104,12 @@ in_turn_leads context bytes (InServer calls s) byte are h =
     leads_within (HasSide (replies_to calls) (server_position context h.front h.client)) (EndsSide (replies_to calls) (server_position context h.front h.client)) (HasOpening One context) (EndsConnection One context) (InServer calls) (ending calls)
     (h.last ++ byte ∷ []) (bytes ++ byte ∷ [])
     (λ t side. record { front = h.front; last = h.last ++ byte ∷ []; client = h.client; split = split; first = h.first; holds = h.holds; fits = h.fits; rest = side })
-    (λ x ends. ending_leads context (bytes ++ byte ∷ []) h.front (h.last ++ byte ∷ []) h.client calls split h.first h.holds h.fits x ends)
+    (λ x ends. ending_leads context (bytes ++ byte ∷ []) h.front (h.last ++ byte ∷ []) h.client calls split h.first h.holds x ends)
     (side_next (judge_replies calls) (place_at context.number Server) s byte) (side_leads (the_replies calls) (server_position context h.front h.client) h.last s byte (split_bytes (bytes ++ byte ∷ []) h.front (h.last ++ byte ∷ []) split are).1 h.rest)
 in_turn_leads context bytes (InMixed s) byte are h = absurd h
 
--- The other way round.
+-- ---- the other way round
+
 -- after the client side
 turned : (context : Context) (bytes front last client : List ℕ) (calls : List (List Item)) → bytes ≡ front ++ last → IsStream front client → Holds calls_in_turn client calls → context.before + length client ≤ max_bytes
     → after (opening_next context.number) (Runs (opened One context.start context.before)) bytes ≡ after (opening_next context.number) (Runs (InServer calls (siding_from (context.start + length front) (context.before + length client)))) last

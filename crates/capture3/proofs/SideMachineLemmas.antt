@@ -17,7 +17,7 @@ use Rattle.capture3.specs.SideMachine.{Point, Length, Chunk, Siding, SideEnd, Si
 use Rattle.capture3.specs.machinery.SideMachine.{side_start}
 use Rattle.capture3.proofs.BytesOf.{split_bytes, AreBytes-append, chunk_bytes}
 use Rattle.capture3.proofs.BodyProgramLemmas.{Judged}
-use Rattle.capture3.proofs.StreamMachineLemmas.{HasRead, ShowsFirst, fault_after, stream_leads, nothing_read, stream_runs}
+use Rattle.capture3.proofs.StreamMachineLemmas.{HasRead, ShowsFirst, fault_after, stream_leads, between_holds, nothing_read, held_runs, stream_runs}
 
 -- in a length word after whole chunks
 pub record InLength {M : Type 0} (judge : Judgement M) (position : Position) (bytes : List ℕ) (at total : ℕ) (reading : Reading M) (part : List ℕ) : Type 0 where
@@ -74,30 +74,24 @@ carried_bytes bytes front header got stream byte split chunks are =
     let whole = split_bytes (front ++ header) front header refl parts.0 in
     AreBytes-append (stream ++ got) (byte ∷ []) (AreBytes-append stream got (chunk_bytes front stream chunks whole.0) parts.1) all.1
 
-open_cut : {M : Type 0} (judge : Judged M) (position : Position) (bytes stream body : List ℕ) (messages : List M) (joining : Joining) → IsStream bytes stream → (read : HasRead judge.says stream (record { messages = messages; joining = joining })) → IsOpen read.last body
+open_cut : {M : Type 0} {messages : List M} {joining : Joining} (judge : Judged M) (position : Position) (bytes stream body : List ℕ) → IsStream bytes stream → (read : HasRead judge.says stream (record { messages = messages; joining = joining })) → IsOpen read.last body
     → EndsSide judge.says position bytes (SideRefuses (place_in position (fault_at messages (length body) RecordCut)))
-open_cut judge position bytes stream body messages joining closed read is_open =
+open_cut {messages = messages} judge position bytes stream body closed read is_open =
+    let same = fault_after judge.says read.front messages (length body) RecordCut read.holds in
     inr (inl (record {
       stream = stream;
       shown = fault_at messages (length body) RecordCut;
       closed = closed;
-      cut = record { front = read.front; last = read.last; bodies = read.holds.0; body = body; split = read.split; marks = read.holds.1; is_open = is_open; is = fault_after judge.says read.front messages (length body) RecordCut read.holds };
+      cut = record { front = read.front; last = read.last; bodies = read.holds.0; body = body; split = read.split; marks = read.holds.1; is_open = is_open; is = same };
       is = refl;
     }))
 
 closing_ends : {M : Type 0} (judge : Judged M) (position : Position) (bytes stream : List ℕ) (at total : ℕ) (messages : List M) (joining : Joining) → IsStream bytes stream → HasRead judge.says stream (record { messages = messages; joining = joining })
     → at + 4 ≡ position.start + length bytes → total ≡ position.before + length stream → total ≤ max_bytes → EndsSide judge.says position bytes (closing (place_in position) at total messages joining)
 closing_ends judge position bytes stream at total messages Between closed read at_is total_is fits =
-    record {
-      stream = stream;
-      closed = closed;
-      at_is = at_is;
-      total_is = total_is;
-      fits = fits;
-      holds = subst (λ (b : List ℕ). Holds judge.says b messages) (sym (append-nil read.front) ∙ ap (λ (b : List ℕ). read.front ++ b) (sym read.joined) ∙ sym read.split) read.holds;
-    }
-closing_ends judge position bytes stream at total messages (Header body part) closed read at_is total_is fits = open_cut judge position bytes stream body messages (Header body part) closed read (inl (part, read.joined))
-closing_ends judge position bytes stream at total messages (Bytes body last left) closed read at_is total_is fits = open_cut judge position bytes stream body messages (Bytes body last left) closed read (inr (last, left, read.joined))
+    record { stream = stream; closed = closed; at_is = at_is; total_is = total_is; fits = fits; holds = between_holds judge.says stream messages read }
+closing_ends judge position bytes stream at total messages (Header body part) closed read at_is total_is fits = open_cut judge position bytes stream body closed read (inl (part, read.joined))
+closing_ends judge position bytes stream at total messages (Bytes body last left) closed read at_is total_is fits = open_cut judge position bytes stream body closed read (inr (last, left, read.joined))
 
 chunk_leads : {M : Type 0} (judge : Judged M) (position : Position) (bytes front header stream : List ℕ) (at total left : ℕ) (reading : Reading M) → bytes ≡ front ++ header → AreChunks front stream → HasRead judge.says stream reading → IsWord header (suc left)
     → at ≡ position.start + length front → total ≡ position.before + length stream → total ≤ max_bytes → (over : Bool) → nat_lt max_bytes (total + suc left) ≡ over
@@ -298,8 +292,7 @@ pub side_closes : {M : Type 0} (judge : Judged M) (position : Position) (bytes :
 side_closes {M} judge position bytes at total messages h =
     let c = h.closed in
     let whole : Reading M = record { messages = messages; joining = Between } in
-    let runs = stream_runs judge h.stream whole (record { front = h.stream; last = []; split = sym (append-nil h.stream); holds = h.holds; joined = refl }) in
     let at_is : position.start + length c.front + 4 ≡ at = omega (arith, h.at_is, ap length c.split, length-append c.front c.last, c.closes.0) in
-    later judge position bytes c.front c.last h.stream whole (position.start + length c.front) (position.before + length h.stream) c.split c.chunks runs (omega (arith, h.fits, h.total_is)) refl refl
+    later judge position bytes c.front c.last h.stream whole (position.start + length c.front) (position.before + length h.stream) c.split c.chunks (held_runs judge h.stream messages h.holds) (omega (arith, h.fits, h.total_is)) refl refl
     ∙ length_runs judge position (position.start + length c.front) (position.before + length h.stream) 0 whole c.last c.closes
     ∙ ap₂ (λ n m. Stops (SideCloses n m messages)) at_is (sym h.total_is)

@@ -85,6 +85,10 @@ stream_leads judge stream s byte are h =
     (λ x ends. recorded_leads judge (stream ++ byte ∷ []) h.front (h.last ++ byte ∷ []) s.messages (split_bytes (stream ++ byte ∷ []) h.front (h.last ++ byte ∷ []) split are).1 split h.holds x ends)
     (join_next s.joining byte) (join_leads h.last s.joining byte h.joined)
 
+-- between two records the stream is whole records
+pub between_holds : {M : Type 0} (judge : Judgement M) (stream : List ℕ) (messages : List M) → HasRead judge stream (record { messages = messages; joining = Between }) → Holds judge stream messages
+between_holds judge stream messages h = subst (λ (b : List ℕ). Holds judge b messages) (sym (append-nil h.front) ∙ ap (λ (b : List ℕ). h.front ++ b) (sym h.joined) ∙ sym h.split) h.holds
+
 pub nothing_read : {M : Type 0} (judge : Judgement M) → HasRead judge [] unread
 nothing_read judge = record { front = []; last = []; split = refl; holds = ([], refl, refl); joined = refl }
 
@@ -106,11 +110,15 @@ records_run judge (body ∷ bodies) before messages stream h j =
     ∙ records_run judge bodies (before ++ j.0 ∷ []) j.1 h.1 h.4 j.4
     ∙ ap (λ ms. Runs (record { messages = ms; joining = Between })) (append_assoc before (j.0 ∷ []) j.1 ∙ ap (λ ms. before ++ ms) (sym j.2))
 
+-- after whole records the machine stands between two
+pub held_runs : {M : Type 0} (judge : Judged M) (stream : List ℕ) (messages : List M) → Holds judge.says stream messages → after (stream_next judge.decide) (Runs unread) stream ≡ Runs (record { messages = messages; joining = Between })
+held_runs judge stream messages holds = records_run judge holds.0 [] messages stream holds.1 holds.2
+
 later : {M : Type 0} (judge : Judged M) (stream front last : List ℕ) (messages : List M) → stream ≡ front ++ last → Holds judge.says front messages
     → after (stream_next judge.decide) (Runs unread) stream ≡ after (stream_next judge.decide) (Runs (record { messages = messages; joining = Between })) last
 later judge stream front last messages split holds =
     ap (after (stream_next judge.decide) (Runs unread)) split ∙ after-append (stream_next judge.decide) (Runs unread) front last
-    ∙ ap (λ r. after (stream_next judge.decide) r last) (records_run judge holds.0 [] messages front holds.1 holds.2)
+    ∙ ap (λ r. after (stream_next judge.decide) r last) (held_runs judge front messages holds)
 
 pub stream_runs : {M : Type 0} (judge : Judged M) (stream : List ℕ) (s : Reading M) → HasRead judge.says stream s → after (stream_next judge.decide) (Runs unread) stream ≡ Runs s
 stream_runs judge stream s h =
