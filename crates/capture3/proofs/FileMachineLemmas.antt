@@ -185,9 +185,9 @@ digit_cases : (version : Version) (bytes : List ℕ) (at total number : ℕ) (en
 digit_cases version bytes at total number entries byte h true e = whole_magic One version bytes at total number entries byte h (eqb-true _ _ e)
 digit_cases version bytes at total number entries byte h false e = two_cases version bytes at total number entries byte h e (nat_eq byte (digit Two)) refl
 
--- after whole connections and a word
-abbrev after_word : {version : Version} {bytes front : List ℕ} {connections : List Streams} {entries : List Entry} (word rest : List ℕ) (n : ℕ) → bytes ≡ front ++ word ++ rest → Opens version front connections entries → IsWord word n → AfterConnections bytes
-after_word {version} {bytes} {front} {connections} word rest n split opens is =
+-- a word after whole connections
+abbrev word_after_connections : {version : Version} {bytes front : List ℕ} {connections : List Streams} {entries : List Entry} (word rest : List ℕ) (n : ℕ) → bytes ≡ front ++ word ++ rest → Opens version front connections entries → IsWord word n → AfterConnections bytes
+word_after_connections {version} {bytes} {front} {connections} word rest n split opens is =
     record { version = version; front = front; whole = opens.rest; word = word; rest = rest; connections = connections; mark = n; split = split; begins = opens.split; joined = opens.joined; is_word = is }
 
 -- a connection word
@@ -212,7 +212,7 @@ mark_cases version bytes front word at total number entries connections split op
     }
 mark_cases version bytes front word at total number entries connections split opens one at_is total_is number_is false e =
     let above : max_connections ≤ number = ltb-false _ _ e in
-    ConnectionIsTooMany (after_word word [] 1 (split ∙ sym (append-nil (front ++ word))) opens one) refl refl (omega (arith, opens.few)) (ap (λ n. refusal (file_fault n TooManyConnections)) at_is)
+    ConnectionIsTooMany (word_after_connections word [] 1 (split ∙ sym (append-nil (front ++ word))) opens one) refl refl (omega (arith, opens.few)) (ap (λ n. refusal (file_fault n TooManyConnections)) at_is)
 
 marked_leads : (version : Version) (bytes front word : List ℕ) (at total number : ℕ) (entries : List Entry) (connections : List Streams) (n : ℕ) → bytes ≡ front ++ word → Opens version front connections entries → IsWord word n
     → at ≡ length front → total ≡ total_size connections → number ≡ length connections → Leads Stands Rule bytes (marked version at total number entries n)
@@ -221,7 +221,7 @@ marked_leads version bytes front word at total number entries connections zero s
 marked_leads version bytes front word at total number entries connections (suc zero) split opens is at_is total_is number_is =
     mark_cases version bytes front word at total number entries connections split opens is at_is total_is number_is (nat_lt number max_connections) refl
 marked_leads version bytes front word at total number entries connections (suc (suc other)) split opens is at_is total_is number_is =
-    MarkIsBad (after_word word [] (suc (suc other)) (split ∙ sym (append-nil (front ++ word))) opens is) refl (omega arith) (ap (λ n. refusal (file_fault n BadMark)) at_is)
+    MarkIsBad (word_after_connections word [] (suc (suc other)) (split ∙ sym (append-nil (front ++ word))) opens is) refl (omega arith) (ap (λ n. refusal (file_fault n BadMark)) at_is)
 
 context_is : {at total count n s b : ℕ} → count ≡ n → at ≡ s → total ≡ b → ◌≡◌ {A = Context} (record { number = count; start = at; before = total }) (record { number = n; start = s; before = b })
 context_is e f g = λ i. record { number = e i; start = f i; before = g i }
@@ -240,7 +240,7 @@ closed_leads version bytes rest at total number entries o before h split (Closes
       number_is = omega (arith, h.number_is, length-append h.connections (c.streams ∷ []));
     }
 closed_leads version bytes rest at total number entries o before h split (Refuses shown) c =
-    WithinConnection (after_word h.mark rest 1 split h.opens h.one) refl
+    WithinConnection (word_after_connections h.mark rest 1 split h.opens h.one) refl
     (subst (λ (x : Context). ConnectionShows version x rest shown) (context_is h.number_is h.at_is h.total_is) c)
 
 pub spot_leads : (version : Version) (bytes : List ℕ) (at total number : ℕ) (entries : List Entry) (spot : Spot) (byte : ℕ) → AreBytes (bytes ++ byte ∷ []) → HasSpot version bytes at total number entries spot
@@ -261,7 +261,7 @@ spot_leads version bytes at total number entries (Inside o) byte are h =
     (λ x ends. closed_leads version (bytes ++ byte ∷ []) (h.rest ++ byte ∷ []) at total number entries o bytes h more x ends)
     (opening_next number o byte) (opening_leads version context h.rest o byte (split_bytes (bytes ++ byte ∷ []) (h.front ++ h.mark) (h.rest ++ byte ∷ []) more are).1 h.inside)
 spot_leads version bytes at total number entries Ended byte are h =
-    ByteAfterEnd (after_word h.last (byte ∷ []) 0 (ap (λ (b : List ℕ). b ++ byte ∷ []) h.split) h.opens h.closes) refl refl
+    ByteAfterEnd (word_after_connections h.last (byte ∷ []) 0 (ap (λ (b : List ℕ). b ++ byte ∷ []) h.split) h.opens h.closes) refl refl
     (let at_is : at ≡ length h.front + 4 = omega (arith, h.at_is, ap length h.split, length-append h.front h.last, h.closes.0) in ap (λ n. refusal (file_fault n AfterEnd)) at_is)
 
 pub file_leads : (bytes : List ℕ) (s : Parsing) (byte : ℕ) → AreBytes (bytes ++ byte ∷ []) → Stands bytes s → Leads Stands Rule (bytes ++ byte ∷ []) (file_next s byte)

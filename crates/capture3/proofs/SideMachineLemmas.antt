@@ -17,7 +17,7 @@ use Rattle.capture3.specs.SideMachine.{Point, Length, Chunk, Siding, SideEnd, Si
 use Rattle.capture3.specs.machinery.SideMachine.{side_start}
 use Rattle.capture3.proofs.BytesOf.{split_bytes, AreBytes-append, chunk_bytes}
 use Rattle.capture3.proofs.BodyProgramLemmas.{Judged}
-use Rattle.capture3.proofs.StreamMachineLemmas.{HasRead, ShowsFirst, fault_after, stream_leads, between_holds, nothing_read, held_runs, stream_runs}
+use Rattle.capture3.proofs.StreamMachineLemmas.{HasRead, ShowsAsFirst, fault_after, stream_leads, between_holds, nothing_read, held_runs, stream_runs}
 
 -- in a length word after whole chunks
 pub record InLength {M : Type 0} (judge : Judgement M) (position : Position) (bytes : List ℕ) (at total : ℕ) (reading : Reading M) (part : List ℕ) : Type 0 where
@@ -74,6 +74,7 @@ carried_bytes bytes front header got stream byte split chunks are =
     let whole = split_bytes (front ++ header) front header refl parts.0 in
     AreBytes-append (stream ++ got) (byte ∷ []) (AreBytes-append stream got (chunk_bytes front stream chunks whole.0) parts.1) all.1
 
+-- the word 0 in an open record
 open_cut : {M : Type 0} {messages : List M} {joining : Joining} (judge : Judged M) (position : Position) (bytes stream body : List ℕ) → IsStream bytes stream → (read : HasRead judge.says stream (record { messages = messages; joining = joining })) → IsOpen read.last body
     → EndsSide judge.says position bytes (SideRefuses (place_in position (fault_at messages (length body) RecordCut)))
 open_cut {messages = messages} judge position bytes stream body closed read is_open =
@@ -171,7 +172,7 @@ point_leads judge position bytes at total reading (Length part) byte are h =
     (word_next part byte) (word_leads part byte h.short)
 point_leads judge position bytes at total reading (Chunk left) byte are h =
     let carried = carried_bytes bytes h.front (h.header) h.got h.stream byte h.split h.chunks are in
-    leads_within (HasRead judge.says) (ShowsFirst judge.says) (HasSide judge.says position) (EndsSide judge.says position) (λ r. record { at = at; total = total; reading = r; point = awaiting left }) (λ shown. Ends (SideRefuses (place_in position shown)))
+    leads_within (HasRead judge.says) (ShowsAsFirst judge.says) (HasSide judge.says position) (EndsSide judge.says position) (λ r. record { at = at; total = total; reading = r; point = awaiting left }) (λ shown. Ends (SideRefuses (place_in position shown)))
     ((h.stream ++ h.got) ++ byte ∷ []) (bytes ++ byte ∷ [])
     (λ r read. more_read judge position bytes byte at total r reading left h read)
     (λ shown shows. inr (inr (record {

@@ -10,7 +10,7 @@ use Rattle.xdr3.specs.declared.reason.Reason.TheVariants.{RecordTooLong}
 use Rattle.capture3.specs.StreamMachine.{Judge, Reading, judged, recorded, stream_next, unread, StreamEnd, Held, Faulty, left_in, end_of, rest_end, stream_end}
 use Rattle.capture3.specs.Records.{Judgement, Holds, RecordFault, fault_at, FirstRecordFault, RefusesNext, NextIsTooLong, NextIsCut}
 use Rattle.capture3.proofs.BodyProgramLemmas.{Judged}
-use Rattle.capture3.proofs.StreamMachineLemmas.{HasRead, ShowsFirst, stream_leads, between_holds, nothing_read, held_runs, stream_runs}
+use Rattle.capture3.proofs.StreamMachineLemmas.{HasRead, ShowsAsFirst, stream_leads, between_holds, nothing_read, held_runs, stream_runs}
 use Rattle.capture3.proofs.Telling.{tells_bytes}
 
 -- ---- from a record's start on
@@ -63,8 +63,8 @@ abbrev pub EndsStream : {M : Type 0} → Judgement M → List ℕ → StreamEnd 
 EndsStream judge stream (Held messages) = Holds judge stream messages
 EndsStream judge stream (Faulty messages fault) = FirstRecordFault judge stream messages fault
 
-stream_tells : {M : Type 0} (judge : Judged M) (stream : List ℕ) → AreBytes stream → Tells (HasRead judge.says) (ShowsFirst judge.says) stream (after (stream_next judge.decide) (Runs unread) stream)
-stream_tells judge = tells_bytes (stream_next judge.decide) (HasRead judge.says) (ShowsFirst judge.says) (stream_leads judge) unread (nothing_read judge.says)
+stream_tells : {M : Type 0} (judge : Judged M) (stream : List ℕ) → AreBytes stream → Tells (HasRead judge.says) (ShowsAsFirst judge.says) stream (after (stream_next judge.decide) (Runs unread) stream)
+stream_tells judge = tells_bytes (stream_next judge.decide) (HasRead judge.says) (ShowsAsFirst judge.says) (stream_leads judge) unread (nothing_read judge.says)
 
 -- before a record at fault the messages are whole
 last_after : {M : Type 0} (judge : Judged M) (front last rest : List ℕ) (messages : List M) (x : Joined) (fault : RecordFault) → Holds judge.says front messages → after join_next (Runs Between) last ≡ Stops x → recorded judge.decide messages x ≡ Ends fault
@@ -100,7 +100,7 @@ left_ends judge stream messages (Bytes body last left) h = NextIsCut h.front h.l
 pub ends_somehow : {M : Type 0} (judge : Judged M) (stream : List ℕ) → AreBytes stream → (x : StreamEnd M) × EndsStream judge.says stream x
 ends_somehow {M} judge stream are = go (after (stream_next judge.decide) (Runs unread) stream) (stream_tells judge stream are)
   where
-    go : (run : Run (Reading M) RecordFault) → Tells (HasRead judge.says) (ShowsFirst judge.says) stream run → (x : StreamEnd M) × EndsStream judge.says stream x
+    go : (run : Run (Reading M) RecordFault) → Tells (HasRead judge.says) (ShowsAsFirst judge.says) stream run → (x : StreamEnd M) × EndsStream judge.says stream x
     go (Runs s) h = (left_in s.messages s.joining, left_ends judge.says stream s.messages s.joining h)
     go (Stops fault) h =
         let f = h.1 [] in

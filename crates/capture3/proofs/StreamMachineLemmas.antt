@@ -25,17 +25,17 @@ pub record HasRead {M : Type 0} (judge : Judgement M) (stream : List ℕ) (s : R
   pub joined : HasJoined last s.joining
 
 -- the last byte of the stream shows this fault, which is the first whatever comes after it
-abbrev pub ShowsFirst : {M : Type 0} → Judgement M → List ℕ → RecordFault → Type 0
-ShowsFirst {M} judge stream fault = StreamShows judge stream fault × ((rest : List ℕ) → (messages : List M) × FirstRecordFault judge (stream ++ rest) messages fault)
+abbrev pub ShowsAsFirst : {M : Type 0} → Judgement M → List ℕ → RecordFault → Type 0
+ShowsAsFirst {M} judge stream fault = StreamShows judge stream fault × ((rest : List ℕ) → (messages : List M) × FirstRecordFault judge (stream ++ rest) messages fault)
 
 -- as many messages as bodies
-as_many : {M : Type 0} (judge : Judgement M) (bodies : List (List ℕ)) (before messages : List M) → AreMessages judge before bodies messages → length messages ≡ length bodies
-as_many judge [] before messages h = ap length h
-as_many judge (body ∷ bodies) before messages h = let more = as_many judge bodies (before ++ h.0 ∷ []) h.1 h.4 in omega (arith, ap length h.2, more)
+as_many_messages : {M : Type 0} (judge : Judgement M) (bodies : List (List ℕ)) (before messages : List M) → AreMessages judge before bodies messages → length messages ≡ length bodies
+as_many_messages judge [] before messages h = ap length h
+as_many_messages judge (body ∷ bodies) before messages h = let more = as_many_messages judge bodies (before ++ h.0 ∷ []) h.1 h.4 in omega (arith, ap length h.2, more)
 
 -- a fault after messages is one after as many bodies
 pub fault_after : {M : Type 0} (judge : Judgement M) (stream : List ℕ) (messages : List M) (byte : ℕ) (reason : Reason) → (holds : Holds judge stream messages) → fault_at messages byte reason ≡ record { number = suc (length holds.0); byte = byte; reason = reason }
-fault_after judge stream messages byte reason holds = ap (λ n. record { number = suc n; byte = byte; reason = reason }) (as_many judge holds.0 [] messages holds.2)
+fault_after judge stream messages byte reason holds = ap (λ n. record { number = suc n; byte = byte; reason = reason }) (as_many_messages judge holds.0 [] messages holds.2)
 
 AreMessages-snoc : {M : Type 0} (judge : Judgement M) (bodies : List (List ℕ)) (before messages : List M) (body : List ℕ) (m : M) → AreMessages judge before bodies messages → judge.accepts (before ++ messages) body m → AreMessages judge before (bodies ++ body ∷ []) (messages ++ m ∷ [])
 AreMessages-snoc judge [] before messages body m h e =
@@ -54,7 +54,7 @@ Holds-snoc judge front last messages body m h whole e =
     (h.0 ++ body ∷ [], Joins-snoc IsRecord h.0 front last body h.1 whole, AreMessages-snoc judge h.0 [] messages body m h.2 e)
 
 judged_leads : {M : Type 0} (judge : Judged M) (stream front last : List ℕ) (messages : List M) (body : List ℕ) → AreBytes body → stream ≡ front ++ last → Holds judge.says front messages → IsRecord last body → (r : Result M Stop) → judge.decide messages body ≡ r
-    → Leads (HasRead judge.says) (ShowsFirst judge.says) stream (judged messages r)
+    → Leads (HasRead judge.says) (ShowsAsFirst judge.says) stream (judged messages r)
 judged_leads judge stream front last messages body are split holds whole (Ok m) e =
     record {
       front = stream;
@@ -70,17 +70,17 @@ judged_leads judge stream front last messages body are split holds whole (Err st
     )
 
 recorded_leads : {M : Type 0} (judge : Judged M) (stream front last : List ℕ) (messages : List M) → AreBytes last → stream ≡ front ++ last → Holds judge.says front messages → (x : Joined) → EndsRecord last x
-    → Leads (HasRead judge.says) (ShowsFirst judge.says) stream (recorded judge.decide messages x)
+    → Leads (HasRead judge.says) (ShowsAsFirst judge.says) stream (recorded judge.decide messages x)
 recorded_leads judge stream front last messages are split holds (Whole body) h = judged_leads judge stream front last messages body (record_bytes last body h are) split holds h (judge.decide messages body) refl
 recorded_leads judge stream front last messages are split holds (TooLong at) h = (
   inr (record { front = front; last = last; bodies = holds.0; at = at; split = split; marks = holds.1; long = h; is = fault_after judge.says front messages at RecordTooLong holds }),
   λ rest. (messages, NextIsTooLong front last rest at (ap (λ (b : List ℕ). b ++ rest) split) holds h refl),
 )
 
-pub stream_leads : {M : Type 0} (judge : Judged M) (stream : List ℕ) (s : Reading M) (byte : ℕ) → AreBytes (stream ++ byte ∷ []) → HasRead judge.says stream s → Leads (HasRead judge.says) (ShowsFirst judge.says) (stream ++ byte ∷ []) (stream_next judge.decide s byte)
+pub stream_leads : {M : Type 0} (judge : Judged M) (stream : List ℕ) (s : Reading M) (byte : ℕ) → AreBytes (stream ++ byte ∷ []) → HasRead judge.says stream s → Leads (HasRead judge.says) (ShowsAsFirst judge.says) (stream ++ byte ∷ []) (stream_next judge.decide s byte)
 stream_leads judge stream s byte are h =
     let split : stream ++ byte ∷ [] ≡ h.front ++ (h.last ++ byte ∷ []) = ap (λ (b : List ℕ). b ++ byte ∷ []) h.split ∙ append_assoc h.front h.last (byte ∷ []) in
-    leads_within HasJoined EndsRecord (HasRead judge.says) (ShowsFirst judge.says) (λ j. record { messages = s.messages; joining = j }) (recorded judge.decide s.messages) (h.last ++ byte ∷ []) (stream ++ byte ∷ [])
+    leads_within HasJoined EndsRecord (HasRead judge.says) (ShowsAsFirst judge.says) (λ j. record { messages = s.messages; joining = j }) (recorded judge.decide s.messages) (h.last ++ byte ∷ []) (stream ++ byte ∷ [])
     (λ j joined. record { front = h.front; last = h.last ++ byte ∷ []; split = split; holds = h.holds; joined = joined })
     (λ x ends. recorded_leads judge (stream ++ byte ∷ []) h.front (h.last ++ byte ∷ []) s.messages (split_bytes (stream ++ byte ∷ []) h.front (h.last ++ byte ∷ []) split are).1 split h.holds x ends)
     (join_next s.joining byte) (join_leads h.last s.joining byte h.joined)
@@ -125,6 +125,7 @@ stream_runs judge stream s h =
     later judge stream h.front h.last s.messages h.split h.holds
     ∙ nested_runs join_next (stream_next judge.decide) (λ j. record { messages = s.messages; joining = j }) (recorded judge.decide s.messages) (λ j byte. refl) h.last Between s.joining (joining_runs h.last s.joining h.joined)
 
+-- at the last byte of a record that is refused
 pub refusal_stops : {M : Type 0} (judge : Judged M) (stream : List ℕ) (fault : RecordFault) → RefusesRecord judge.says stream fault → after (stream_next judge.decide) (Runs unread) stream ≡ Stops fault
 refusal_stops judge stream fault h =
     later judge stream h.front h.last h.messages h.split h.holds
