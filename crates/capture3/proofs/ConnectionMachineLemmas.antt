@@ -8,7 +8,7 @@ use Rattle.capture3.specs.Bodies.{ReplyItems}
 use Rattle.capture3.specs.Capture.{Version, One, Two, AreStreams}
 use Rattle.capture3.specs.SidedChunks.{Streams, size}
 use Rattle.capture3.specs.Chunks.{max_bytes, IsStream}
-use Rattle.capture3.specs.Connections.{Context, client_position, server_position, calls_in_turn, replies_to}
+use Rattle.capture3.specs.Connections.{Context, client_position, server_position, calls_in_turn, replies_to, ConnectionShows, InClientStream, InServerStream}
 use Rattle.capture3.specs.Entry.{Entry}
 use Rattle.capture3.specs.BodyProgram.{judge_call}
 use Rattle.capture3.specs.SidedChunksMachine.{MixedEnd, MixedCloses, MixedRefuses, mixed_next, mixing_from}
@@ -18,12 +18,11 @@ use Rattle.capture3.specs.Records.{Holds}
 use Rattle.capture3.specs.Sides.{place_at}
 use Rattle.capture3.specs.SideMachine.{Siding, SideEnd, SideCloses, SideRefuses, side_next, siding_from}
 use Rattle.capture3.specs.Typed.{Converses, connection_entries}
-use Rattle.capture3.proofs.StrictRules.{ConnectionShows, InClientStream, InServerStream}
 use Rattle.capture3.proofs.BodiesLemmas.{the_calls, the_replies}
 use Rattle.capture3.proofs.BytesOf.{split_bytes, mixed_bytes}
 use Rattle.capture3.proofs.JudgedInTurn.{conversed, calls_hold, replies_hold}
-use Rattle.capture3.proofs.SidedChunksMachineLemmas.{HasMixed, ClosesMixed, EndsMixed, mixed_leads, mixed_runs, mixed_stops, nothing_gathered}
-use Rattle.capture3.proofs.SideMachineLemmas.{HasSide, EndsSide, side_leads, nothing_taken, side_runs, side_stops}
+use Rattle.capture3.proofs.SidedChunksMachineLemmas.{HasMixed, ClosesMixed, EndsMixed, mixed_leads, mixed_runs, mixed_closes, nothing_gathered}
+use Rattle.capture3.proofs.SideMachineLemmas.{HasSide, EndsSide, side_leads, nothing_taken, side_runs, side_closes}
 use Rattle.capture3.proofs.StreamEnds.{EndsStream, ends_stream, stream_ends}
 
 -- after the client side
@@ -77,9 +76,9 @@ turning_leads context bytes (SideCloses at total calls) h =
     }
 turning_leads context bytes (SideRefuses fault) h = (refl, inl h)
 
-ending_leads : (context : Context) (bytes front last client : List ℕ) (calls : List (List Item)) → bytes ≡ front ++ last → IsStream front client → Holds calls_in_turn client calls → context.before + length client ≤ max_bytes
+ending_leads : (context : Context) (bytes front last client : List ℕ) (calls : List (List Item)) → bytes ≡ front ++ last → IsStream front client → Holds calls_in_turn client calls
     → (x : SideEnd ReplyItems) → EndsSide (replies_to calls) (server_position context front client) last x → Leads (HasOpening One context) (EndsConnection One context) bytes (ending calls x)
-ending_leads context bytes front last client calls split first holds fits (SideCloses at total replies) h =
+ending_leads context bytes front last client calls split first holds (SideCloses at total replies) h =
     record {
       streams = record { client = client; server = h.stream };
       calls = calls;
@@ -91,8 +90,8 @@ ending_leads context bytes front last client calls split first holds fits (SideC
       fits = h.fits;
       entries_are = refl;
     }
-ending_leads context bytes front last client calls split first holds fits (SideRefuses fault) h =
-    (refl, inr (record { front = front; last = last; client = client; calls = calls; split = split; first = first; holds = holds; fits = fits; shows = h }))
+ending_leads context bytes front last client calls split first holds (SideRefuses fault) h =
+    (refl, inr (record { front = front; last = last; client = client; calls = calls; split = split; first = first; holds = holds; shows = h }))
 
 in_turn_leads : (context : Context) (bytes : List ℕ) (o : Opening) (byte : ℕ) → AreBytes (bytes ++ byte ∷ []) → HasOpening One context bytes o
     → Leads (HasOpening One context) (EndsConnection One context) (bytes ++ byte ∷ []) (opening_next context.number o byte)
@@ -105,30 +104,20 @@ in_turn_leads context bytes (InServer calls s) byte are h =
     leads_within (HasSide (replies_to calls) (server_position context h.front h.client)) (EndsSide (replies_to calls) (server_position context h.front h.client)) (HasOpening One context) (EndsConnection One context) (InServer calls) (ending calls)
     (h.last ++ byte ∷ []) (bytes ++ byte ∷ [])
     (λ t side. record { front = h.front; last = h.last ++ byte ∷ []; client = h.client; split = split; first = h.first; holds = h.holds; fits = h.fits; rest = side })
-    (λ x ends. ending_leads context (bytes ++ byte ∷ []) h.front (h.last ++ byte ∷ []) h.client calls split h.first h.holds h.fits x ends)
+    (λ x ends. ending_leads context (bytes ++ byte ∷ []) h.front (h.last ++ byte ∷ []) h.client calls split h.first h.holds x ends)
     (side_next (judge_replies calls) (place_at context.number Server) s byte) (side_leads (the_replies calls) (server_position context h.front h.client) h.last s byte (split_bytes (bytes ++ byte ∷ []) h.front (h.last ++ byte ∷ []) split are).1 h.rest)
 in_turn_leads context bytes (InMixed s) byte are h = absurd h
 
--- The other way round.
-client_stops : (context : Context) (bytes : List ℕ) (x : SideEnd (List Item)) → EndsSide calls_in_turn (client_position context) bytes x
-    → after (opening_next context.number) (Runs (opened One context.start context.before)) bytes ≡ landed (turning x)
-client_stops context bytes x h =
-    nested_stops (side_next judge_call (place_at context.number Client)) (opening_next context.number) InClient turning (λ s byte. refl) bytes (siding_from context.start context.before) x (side_stops the_calls (client_position context) bytes x h)
+-- ---- the other way round
 
 -- after the client side
 turned : (context : Context) (bytes front last client : List ℕ) (calls : List (List Item)) → bytes ≡ front ++ last → IsStream front client → Holds calls_in_turn client calls → context.before + length client ≤ max_bytes
     → after (opening_next context.number) (Runs (opened One context.start context.before)) bytes ≡ after (opening_next context.number) (Runs (InServer calls (siding_from (context.start + length front) (context.before + length client)))) last
 turned context bytes front last client calls split first holds fits =
     ap (after (opening_next context.number) (Runs (opened One context.start context.before))) split ∙ after-append (opening_next context.number) (Runs (opened One context.start context.before)) front last
-    ∙ ap (λ run. after (opening_next context.number) run last) (client_stops context front (SideCloses (context.start + length front) (context.before + length client) calls)
-    (record { stream = client; closed = first; holds = holds; at_is = refl; total_is = refl; fits = fits }))
-
-server_stops : (context : Context) (bytes front last client : List ℕ) (calls : List (List Item)) → bytes ≡ front ++ last → IsStream front client → Holds calls_in_turn client calls → context.before + length client ≤ max_bytes
-    → (x : SideEnd ReplyItems) → EndsSide (replies_to calls) (server_position context front client) last x → after (opening_next context.number) (Runs (opened One context.start context.before)) bytes ≡ landed (ending calls x)
-server_stops context bytes front last client calls split first holds fits x h =
-    turned context bytes front last client calls split first holds fits
-    ∙ nested_stops (side_next (judge_replies calls) (place_at context.number Server)) (opening_next context.number) (InServer calls) (ending calls) (λ s byte. refl) last (siding_from (context.start + length front) (context.before + length client)) x
-    (side_stops (the_replies calls) (server_position context front client) last x h)
+    ∙ ap (λ run. after (opening_next context.number) run last)
+    (nested_stops (side_next judge_call (place_at context.number Client)) (opening_next context.number) InClient turning (λ s byte. refl) front (siding_from context.start context.before) (SideCloses (context.start + length front) (context.before + length client) calls)
+    (side_closes the_calls (client_position context) front (context.start + length front) (context.before + length client) calls (record { stream = client; closed = first; holds = holds; at_is = refl; total_is = refl; fits = fits })))
 
 in_turn_runs : (context : Context) (bytes : List ℕ) (o : Opening) → HasOpening One context bytes o
     → after (opening_next context.number) (Runs (opened One context.start context.before)) bytes ≡ Runs o
@@ -140,16 +129,17 @@ in_turn_runs context bytes (InServer calls s) h =
     (side_runs (the_replies calls) (server_position context h.front h.client) h.last s h.rest)
 in_turn_runs context bytes (InMixed s) h = absurd h
 
-in_turn_stops : (context : Context) (bytes : List ℕ) (x : Closing) → EndsConnection One context bytes x
-    → after (opening_next context.number) (Runs (opened One context.start context.before)) bytes ≡ Stops x
-in_turn_stops context bytes (Closes at total entries) h =
+in_turn_closes : (context : Context) (bytes : List ℕ) (at total : ℕ) (entries : List Entry) → ClosesConnection One context bytes at total entries
+    → after (opening_next context.number) (Runs (opened One context.start context.before)) bytes ≡ Stops (Closes at total entries)
+in_turn_closes context bytes at total entries h =
     let w = h.whole in
-    let at_is : context.start + length bytes ≡ at = sym h.at_is in
-    server_stops context bytes w.front w.last h.streams.client h.calls w.split w.client (calls_hold h.streams h.calls h.replies h.converses) (omega (arith, h.fits, h.total_is)) (SideCloses at total h.replies)
-    (record { stream = h.streams.server; closed = w.server; holds = replies_hold h.streams h.calls h.replies h.converses; fits = h.fits; at_is = omega (arith, h.at_is, ap length w.split, length-append w.front w.last); total_is = omega (arith, h.total_is) })
+    let holds = calls_hold h.streams h.calls h.replies h.converses in
+    turned context bytes w.front w.last h.streams.client h.calls w.split w.client holds (omega (arith, h.fits, h.total_is))
+    ∙ nested_stops (side_next (judge_replies h.calls) (place_at context.number Server)) (opening_next context.number) (InServer h.calls) (ending h.calls) (λ s byte. refl) w.last (siding_from (context.start + length w.front) (context.before + length h.streams.client))
+    (SideCloses at total h.replies)
+    (side_closes (the_replies h.calls) (server_position context w.front h.streams.client) w.last at total h.replies
+    (record { stream = h.streams.server; closed = w.server; holds = replies_hold h.streams h.calls h.replies h.converses; fits = h.fits; at_is = omega (arith, h.at_is, ap length w.split, length-append w.front w.last); total_is = omega (arith, h.total_is) }))
     ∙ ap (λ entries. Stops (Closes at total entries)) (sym h.entries_are)
-in_turn_stops context bytes (Refuses shown) (same, inl h) = client_stops context bytes (SideRefuses shown.fault) h ∙ ap (λ r. Stops (Refuses r)) (sym same)
-in_turn_stops context bytes (Refuses shown) (same, inr h) = server_stops context bytes h.front h.last h.client h.calls h.split h.first h.holds h.fits (SideRefuses shown.fault) h.shows ∙ ap (λ r. Stops (Refuses r)) (sym same)
 
 -- ---- version 2
 
@@ -157,13 +147,13 @@ server_said_ends : (context : Context) (bytes : List ℕ) (at total : ℕ) (stre
     → (x : StreamEnd ReplyItems) → EndsStream (replies_to calls) streams.server x → Leads (HasOpening Two context) (EndsConnection Two context) bytes (server_said context.number at total calls x)
 server_said_ends context bytes at total streams calls h holds (Held replies) ends =
     record { streams = streams; calls = calls; replies = replies; whole = h.mixed; converses = conversed streams calls replies holds ends; at_is = h.at_is; total_is = h.total_is; fits = h.fits; entries_are = refl }
-server_said_ends context bytes at total streams calls h holds (Faulty replies fault) ends = inr (InServerStream streams calls replies fault h.mixed (omega (arith, h.fits, h.total_is)) holds ends refl)
+server_said_ends context bytes at total streams calls h holds (Faulty replies fault) ends = inr (InServerStream streams calls replies fault h.mixed holds ends refl)
 
 client_said_ends : (context : Context) (bytes : List ℕ) (at total : ℕ) (streams : Streams) → AreBytes streams.server → ClosesMixed context bytes at total streams
     → (x : StreamEnd (List Item)) → EndsStream calls_in_turn streams.client x → Leads (HasOpening Two context) (EndsConnection Two context) bytes (client_said context.number at total streams.server x)
 client_said_ends context bytes at total streams are h (Held calls) ends =
     server_said_ends context bytes at total streams calls h ends (stream_end (judge_replies calls) streams.server) (ends_stream (the_replies calls) streams.server are)
-client_said_ends context bytes at total streams are h (Faulty calls fault) ends = inr (InClientStream streams calls fault h.mixed (omega (arith, h.fits, h.total_is)) ends refl)
+client_said_ends context bytes at total streams are h (Faulty calls fault) ends = inr (InClientStream streams calls fault h.mixed ends refl)
 
 conversing_ends : (context : Context) (bytes : List ℕ) (x : MixedEnd) → AreBytes bytes → EndsMixed context bytes x → Leads (HasOpening Two context) (EndsConnection Two context) bytes (conversing context.number x)
 conversing_ends context bytes (MixedCloses at total streams) are h =
@@ -179,26 +169,14 @@ two_leads context bytes (InMixed s) byte are h =
 two_leads context bytes (InClient s) byte are h = absurd h
 two_leads context bytes (InServer calls s) byte are h = absurd h
 
-mixed_closes : (context : Context) (bytes : List ℕ) (x : MixedEnd) → EndsMixed context bytes x → after (opening_next context.number) (Runs (opened Two context.start context.before)) bytes ≡ landed (conversing context.number x)
-mixed_closes context bytes x h = nested_stops mixed_next (opening_next context.number) InMixed (conversing context.number) (λ s byte. refl) bytes (mixing_from context.start context.before) x (mixed_stops context bytes x h)
-
-two_stops : (context : Context) (bytes : List ℕ) (x : Closing) → EndsConnection Two context bytes x
-    → after (opening_next context.number) (Runs (opened Two context.start context.before)) bytes ≡ Stops x
-two_stops context bytes (Closes at total entries) h =
-    mixed_closes context bytes (MixedCloses at total h.streams) (record { mixed = h.whole; at_is = h.at_is; total_is = h.total_is; fits = h.fits })
+two_closes : (context : Context) (bytes : List ℕ) (at total : ℕ) (entries : List Entry) → ClosesConnection Two context bytes at total entries
+    → after (opening_next context.number) (Runs (opened Two context.start context.before)) bytes ≡ Stops (Closes at total entries)
+two_closes context bytes at total entries h =
+    nested_stops mixed_next (opening_next context.number) InMixed (conversing context.number) (λ s byte. refl) bytes (mixing_from context.start context.before) (MixedCloses at total h.streams)
+    (mixed_closes context bytes at total h.streams (record { mixed = h.whole; at_is = h.at_is; total_is = h.total_is; fits = h.fits }))
     ∙ ap (λ e. landed (client_said context.number at total h.streams.server e)) (stream_ends the_calls h.streams.client (Held h.calls) (calls_hold h.streams h.calls h.replies h.converses))
     ∙ ap (λ e. landed (server_said context.number at total h.calls e)) (stream_ends (the_replies h.calls) h.streams.server (Held h.replies) (replies_hold h.streams h.calls h.replies h.converses))
     ∙ ap (λ entries. Stops (Closes at total entries)) (sym h.entries_are)
-two_stops context bytes (Refuses shown) (inl h) = mixed_closes context bytes (MixedRefuses shown.fault) h.1 ∙ ap (λ r. Stops (Refuses r)) (sym h.0)
-two_stops context bytes (Refuses shown) (inr (InClientStream streams calls fault mixed fits ends same)) =
-    mixed_closes context bytes (MixedCloses (context.start + length bytes) (context.before + size streams) streams) (record { mixed = mixed; at_is = refl; total_is = refl; fits = fits })
-    ∙ ap (λ e. landed (client_said context.number (context.start + length bytes) (context.before + size streams) streams.server e)) (stream_ends the_calls streams.client (Faulty calls fault) ends)
-    ∙ ap (λ r. Stops (Refuses r)) (sym same)
-two_stops context bytes (Refuses shown) (inr (InServerStream streams calls replies fault mixed fits holds ends same)) =
-    mixed_closes context bytes (MixedCloses (context.start + length bytes) (context.before + size streams) streams) (record { mixed = mixed; at_is = refl; total_is = refl; fits = fits })
-    ∙ ap (λ e. landed (client_said context.number (context.start + length bytes) (context.before + size streams) streams.server e)) (stream_ends the_calls streams.client (Held calls) holds)
-    ∙ ap (λ e. landed (server_said context.number (context.start + length bytes) (context.before + size streams) calls e)) (stream_ends (the_replies calls) streams.server (Faulty replies fault) ends)
-    ∙ ap (λ r. Stops (Refuses r)) (sym same)
 
 two_runs : (context : Context) (bytes : List ℕ) (o : Opening) → HasOpening Two context bytes o
     → after (opening_next context.number) (Runs (opened Two context.start context.before)) bytes ≡ Runs o
@@ -217,10 +195,10 @@ pub opening_runs : (version : Version) (context : Context) (bytes : List ℕ) (o
 opening_runs One = in_turn_runs
 opening_runs Two = two_runs
 
-pub opening_stops : (version : Version) (context : Context) (bytes : List ℕ) (x : Closing) → EndsConnection version context bytes x
-    → after (opening_next context.number) (Runs (opened version context.start context.before)) bytes ≡ Stops x
-opening_stops One = in_turn_stops
-opening_stops Two = two_stops
+pub opening_closes : (version : Version) (context : Context) (bytes : List ℕ) (at total : ℕ) (entries : List Entry) → ClosesConnection version context bytes at total entries
+    → after (opening_next context.number) (Runs (opened version context.start context.before)) bytes ≡ Stops (Closes at total entries)
+opening_closes One = in_turn_closes
+opening_closes Two = two_closes
 
 pub nothing_opened : (version : Version) (context : Context) → context.before ≤ max_bytes → HasOpening version context [] (opened version context.start context.before)
 nothing_opened One context fits = nothing_taken the_calls (client_position context) fits

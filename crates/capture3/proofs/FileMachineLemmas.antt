@@ -1,5 +1,5 @@
 -- The machine for a file against connections, entries and rules.
-use Rattle.std.proofs.Common.{◌≡◌, ◌≢◌, ◌⊎◌, inl, inr, ℕ, zero, suc, ◌+◌, ◌<◌, ◌≤◌, List, [], ◌∷◌, ◌++◌, length, refl, sym, ap, ap₂, ⊎_elim, subst, ◌∙◌, append_assoc, append-nil, arith, length-append, Bool, true, false, cond, nat_lt, nat_eq, ltb-true, ltb-false, lt-ltb, le-ltb, eqb-true, eq-eqb, ne_eqb}
+use Rattle.std.proofs.Common.{◌≡◌, ◌≢◌, ◌⊎◌, inl, inr, ℕ, zero, suc, ◌+◌, ◌<◌, ◌≤◌, List, [], ◌∷◌, ◌++◌, length, refl, sym, ap, ap₂, ⊎_elim, subst, ◌∙◌, append_assoc, append-nil, arith, length-append, Bool, true, false, cond, nat_lt, nat_eq, ltb-true, ltb-false, lt-ltb, eqb-true, eq-eqb, ne_eqb}
 use Rattle.std.proofs.lemmas.Bool.{eqb-false}
 use Rattle.std.proofs.lemmas.List.{append_cancel_left}
 use Rattle.record_mark.specs.Machine.{Goes, Ends, Run, Runs, Stops, landed, after}
@@ -13,17 +13,16 @@ use Rattle.capture3.specs.declared.fault.Fault.{Fault}
 use Rattle.capture3.specs.Capture.{Version, One, Two, digit, magic_front, magic, max_connections, total_size, IsConnection}
 use Rattle.capture3.specs.SidedChunks.{Streams, size}
 use Rattle.capture3.specs.Chunks.{max_bytes}
-use Rattle.capture3.specs.Connections.{Context, ShownFault, refusal}
+use Rattle.capture3.specs.Connections.{Context, ShownFault, refusal, ConnectionShows}
 use Rattle.capture3.specs.Entry.{Entry}
-use Rattle.capture3.specs.FirstFault.{DiffersFromMagic}
+use Rattle.capture3.specs.FirstFault.{DiffersFromMagic, AfterConnections, Rule, MagicDiffers, MarkIsBad, ConnectionIsTooMany, WithinConnection, ByteAfterEnd}
 use Rattle.capture3.specs.ConnectionMachine.{Opening, Closing, Closes, Refuses, opening_next, opened}
 use Rattle.capture3.specs.FileMachine.{Spot, Magic, Digit, Mark, Inside, Ended, Parsing, magic_left, marked, closed, spot_step, file_next, file_start, parsed}
 use Rattle.capture3.specs.Reached.{Opens}
 use Rattle.capture3.specs.Sides.{file_fault}
 use Rattle.capture3.specs.Typed.{connection_entries, HaveEntries}
-use Rattle.capture3.proofs.StrictRules.{ConnectionShows, AfterConnections, Rule, MagicDiffers, MarkIsBad, ConnectionIsTooMany, WithinConnection, ByteAfterEnd}
 use Rattle.capture3.proofs.BytesOf.{split_bytes}
-use Rattle.capture3.proofs.ConnectionMachineLemmas.{HasOpening, ClosesConnection, EndsConnection, opening_leads, opening_runs, opening_stops, nothing_opened}
+use Rattle.capture3.proofs.ConnectionMachineLemmas.{HasOpening, ClosesConnection, EndsConnection, opening_leads, opening_runs, opening_closes, nothing_opened}
 use Rattle.capture3.proofs.Telling.{tells_bytes}
 
 -- a part of the magic
@@ -186,6 +185,11 @@ digit_cases : (version : Version) (bytes : List ℕ) (at total number : ℕ) (en
 digit_cases version bytes at total number entries byte h true e = whole_magic One version bytes at total number entries byte h (eqb-true _ _ e)
 digit_cases version bytes at total number entries byte h false e = two_cases version bytes at total number entries byte h e (nat_eq byte (digit Two)) refl
 
+-- a word after whole connections
+abbrev word_after_connections : {version : Version} {bytes front : List ℕ} {connections : List Streams} {entries : List Entry} (word rest : List ℕ) (n : ℕ) → bytes ≡ front ++ word ++ rest → Opens version front connections entries → IsWord word n → AfterConnections bytes
+word_after_connections {version} {bytes} {front} {connections} word rest n split opens is =
+    record { version = version; front = front; whole = opens.rest; word = word; rest = rest; connections = connections; mark = n; split = split; begins = opens.split; joined = opens.joined; is_word = is }
+
 -- a connection word
 mark_cases : (version : Version) (bytes front word : List ℕ) (at total number : ℕ) (entries : List Entry) (connections : List Streams) → bytes ≡ front ++ word → Opens version front connections entries → IsWord word 1
     → at ≡ length front → total ≡ total_size connections → number ≡ length connections → (below : Bool) → nat_lt number max_connections ≡ below
@@ -208,8 +212,7 @@ mark_cases version bytes front word at total number entries connections split op
     }
 mark_cases version bytes front word at total number entries connections split opens one at_is total_is number_is false e =
     let above : max_connections ≤ number = ltb-false _ _ e in
-    ConnectionIsTooMany (record { version = version; front = front; word = word; rest = []; connections = connections; entries = entries; mark = 1; split = split ∙ sym (append-nil (front ++ word)); opens = opens; is_word = one }) refl refl
-    (omega (arith, opens.few)) (ap (λ n. refusal (file_fault n TooManyConnections)) at_is)
+    ConnectionIsTooMany (word_after_connections word [] 1 (split ∙ sym (append-nil (front ++ word))) opens one) refl refl (omega (arith, opens.few)) (ap (λ n. refusal (file_fault n TooManyConnections)) at_is)
 
 marked_leads : (version : Version) (bytes front word : List ℕ) (at total number : ℕ) (entries : List Entry) (connections : List Streams) (n : ℕ) → bytes ≡ front ++ word → Opens version front connections entries → IsWord word n
     → at ≡ length front → total ≡ total_size connections → number ≡ length connections → Leads Stands Rule bytes (marked version at total number entries n)
@@ -218,7 +221,7 @@ marked_leads version bytes front word at total number entries connections zero s
 marked_leads version bytes front word at total number entries connections (suc zero) split opens is at_is total_is number_is =
     mark_cases version bytes front word at total number entries connections split opens is at_is total_is number_is (nat_lt number max_connections) refl
 marked_leads version bytes front word at total number entries connections (suc (suc other)) split opens is at_is total_is number_is =
-    MarkIsBad (record { version = version; front = front; word = word; rest = []; connections = connections; entries = entries; mark = suc (suc other); split = split ∙ sym (append-nil (front ++ word)); opens = opens; is_word = is }) refl (omega arith) (ap (λ n. refusal (file_fault n BadMark)) at_is)
+    MarkIsBad (word_after_connections word [] (suc (suc other)) (split ∙ sym (append-nil (front ++ word))) opens is) refl (omega arith) (ap (λ n. refusal (file_fault n BadMark)) at_is)
 
 context_is : {at total count n s b : ℕ} → count ≡ n → at ≡ s → total ≡ b → ◌≡◌ {A = Context} (record { number = count; start = at; before = total }) (record { number = n; start = s; before = b })
 context_is e f g = λ i. record { number = e i; start = f i; before = g i }
@@ -237,7 +240,7 @@ closed_leads version bytes rest at total number entries o before h split (Closes
       number_is = omega (arith, h.number_is, length-append h.connections (c.streams ∷ []));
     }
 closed_leads version bytes rest at total number entries o before h split (Refuses shown) c =
-    WithinConnection (record { version = version; front = h.front; word = h.mark; rest = rest; connections = h.connections; entries = entries; mark = 1; split = split; opens = h.opens; is_word = h.one }) refl h.few
+    WithinConnection (word_after_connections h.mark rest 1 split h.opens h.one) refl
     (subst (λ (x : Context). ConnectionShows version x rest shown) (context_is h.number_is h.at_is h.total_is) c)
 
 pub spot_leads : (version : Version) (bytes : List ℕ) (at total number : ℕ) (entries : List Entry) (spot : Spot) (byte : ℕ) → AreBytes (bytes ++ byte ∷ []) → HasSpot version bytes at total number entries spot
@@ -258,7 +261,7 @@ spot_leads version bytes at total number entries (Inside o) byte are h =
     (λ x ends. closed_leads version (bytes ++ byte ∷ []) (h.rest ++ byte ∷ []) at total number entries o bytes h more x ends)
     (opening_next number o byte) (opening_leads version context h.rest o byte (split_bytes (bytes ++ byte ∷ []) (h.front ++ h.mark) (h.rest ++ byte ∷ []) more are).1 h.inside)
 spot_leads version bytes at total number entries Ended byte are h =
-    ByteAfterEnd (record { version = version; front = h.front; word = h.last; rest = byte ∷ []; connections = h.connections; entries = entries; mark = 0; split = ap (λ (b : List ℕ). b ++ byte ∷ []) h.split; opens = h.opens; is_word = h.closes }) refl refl
+    ByteAfterEnd (word_after_connections h.last (byte ∷ []) 0 (ap (λ (b : List ℕ). b ++ byte ∷ []) h.split) h.opens h.closes) refl refl
     (let at_is : at ≡ length h.front + 4 = omega (arith, h.at_is, ap length h.split, length-append h.front h.last, h.closes.0) in ap (λ n. refusal (file_fault n AfterEnd)) at_is)
 
 pub file_leads : (bytes : List ℕ) (s : Parsing) (byte : ℕ) → AreBytes (bytes ++ byte ∷ []) → Stands bytes s → Leads Stands Rule (bytes ++ byte ∷ []) (file_next s byte)
@@ -307,13 +310,13 @@ inside_runs version at total number entries word rest o is few h =
     ∙ nested_runs (opening_next (suc number)) file_next (λ p. record { version = version; at = at + 4; total = total; number = suc number; entries = entries; spot = Inside p }) (closed version (suc number) entries) (λ s byte. refl) rest (opened version (at + 4) total) o
     (opening_runs version (record { number = suc number; start = at + 4; before = total }) rest o h)
 
-inside_stops : (version : Version) (at total number : ℕ) (entries : List Entry) (word rest : List ℕ) (x : Closing) → IsWord word 1 → number < max_connections → EndsConnection version (record { number = suc number; start = at + 4; before = total }) rest x
-    → after file_next (Runs (record { version = version; at = at; total = total; number = number; entries = entries; spot = Mark [] })) (word ++ rest) ≡ landed (closed version (suc number) entries x)
-inside_stops version at total number entries word rest x is few h =
+inside_closes : (version : Version) (at total number end sum : ℕ) (entries more : List Entry) (word rest : List ℕ) → IsWord word 1 → number < max_connections → ClosesConnection version (record { number = suc number; start = at + 4; before = total }) rest end sum more
+    → after file_next (Runs (record { version = version; at = at; total = total; number = number; entries = entries; spot = Mark [] })) (word ++ rest) ≡ Runs (record { version = version; at = end; total = sum; number = suc number; entries = entries ++ more; spot = Mark [] })
+inside_closes version at total number end sum entries more word rest is few h =
     after-append file_next (Runs (record { version = version; at = at; total = total; number = number; entries = entries; spot = Mark [] })) word rest
     ∙ ap (λ run. after file_next run rest) (begins version at total number entries word is few)
-    ∙ nested_stops (opening_next (suc number)) file_next (λ p. record { version = version; at = at + 4; total = total; number = suc number; entries = entries; spot = Inside p }) (closed version (suc number) entries) (λ s byte. refl) rest (opened version (at + 4) total) x
-    (opening_stops version (record { number = suc number; start = at + 4; before = total }) rest x h)
+    ∙ nested_stops (opening_next (suc number)) file_next (λ p. record { version = version; at = at + 4; total = total; number = suc number; entries = entries; spot = Inside p }) (closed version (suc number) entries) (λ s byte. refl) rest (opened version (at + 4) total)
+    (Closes end sum more) (opening_closes version (record { number = suc number; start = at + 4; before = total }) rest end sum more h)
 
 connections_run : (version : Version) (connections : List Streams) (at total number end sum count : ℕ) (before entries : List Entry) (bytes : List ℕ) → Joins (IsConnection version) bytes connections → HaveEntries connections entries
     → total + total_size connections ≤ max_bytes → number + length connections ≤ max_connections → end ≡ at + length bytes → sum ≡ total + total_size connections → count ≡ number + length connections
@@ -328,7 +331,7 @@ connections_run version (streams ∷ connections) at total number end sum count 
     let c = h.3 in
     ap (after file_next (Runs (record { version = version; at = at; total = total; number = number; entries = before; spot = Mark [] }))) (h.2 ∙ ap (λ (b : List ℕ). b ++ h.1) c.split)
     ∙ after-append file_next (Runs (record { version = version; at = at; total = total; number = number; entries = before; spot = Mark [] })) (c.mark ++ c.rest) h.1
-    ∙ ap (λ run. after file_next run h.1) (inside_stops version at total number before c.mark c.rest (Closes (at + 4 + length c.rest) (total + size streams) (connection_entries e.0 e.1)) c.one (omega arith)
+    ∙ ap (λ run. after file_next run h.1) (inside_closes version at total number (at + 4 + length c.rest) (total + size streams) before (connection_entries e.0 e.1) c.mark c.rest c.one (omega arith)
     (record { streams = streams; calls = e.0; replies = e.1; whole = c.both; converses = e.4; at_is = refl; total_is = refl; fits = omega arith; entries_are = refl }))
     ∙ connections_run version connections (at + 4 + length c.rest) (total + size streams) (suc number) end sum count (before ++ connection_entries e.0 e.1) e.2 h.1 h.4 e.5 (omega arith) (omega arith)
     (omega (arith, ap length h.2, length-append h.0 h.1, ap length c.split, length-append c.mark c.rest, c.one.0)) (omega arith) (omega arith)
@@ -381,24 +384,10 @@ spot_runs version bytes at total number entries Ended h =
 pub file_runs : (bytes : List ℕ) (s : Parsing) → Stands bytes s → parsed bytes ≡ Runs s
 file_runs bytes s h = spot_runs s.version bytes s.at s.total s.number s.entries s.spot h
 
--- at a connection word that is the last of the bytes
-word_last : (bytes : List ℕ) (b : AfterConnections bytes) (n : ℕ) → b.rest ≡ [] → b.mark ≡ n → parsed bytes ≡ landed (marked b.version (length b.front) (total_size b.connections) (length b.connections) b.entries n)
-word_last bytes b n none is =
-    later b.version bytes b.front b.word b.connections b.entries (b.split ∙ ap (λ (r : List ℕ). b.front ++ b.word ++ r) none ∙ append-nil (b.front ++ b.word)) b.opens
-    ∙ mark_runs b.version (length b.front) (total_size b.connections) (length b.connections) b.entries b.word n (b.is_word.0, b.is_word.1 ∙ is)
-
 pub bad_mark_stops : (version : Version) (at total count : ℕ) (entries : List Entry) (n : ℕ) → 1 < n → landed (marked version at total count entries n) ≡ Stops (refusal (file_fault at BadMark))
 bad_mark_stops version at total count entries zero h = absurd (omega arith)
 bad_mark_stops version at total count entries (suc zero) h = absurd (omega arith)
 bad_mark_stops version at total count entries (suc (suc n)) h = refl
-
-byte_after_end : (bytes : List ℕ) (b : AfterConnections bytes) (rest : List ℕ) → b.rest ≡ rest → b.mark ≡ 0 → length rest ≡ 1 → parsed bytes ≡ Stops (refusal (file_fault (length b.front + 4) AfterEnd))
-byte_after_end bytes b [] same none one = absurd (omega arith)
-byte_after_end bytes b (byte ∷ []) same none one =
-    later b.version bytes b.front (b.word ++ byte ∷ []) b.connections b.entries (b.split ∙ append_assoc b.front b.word b.rest ∙ ap (λ (r : List ℕ). b.front ++ (b.word ++ r)) same) b.opens
-    ∙ after-append file_next (Runs (record { version = b.version; at = length b.front; total = total_size b.connections; number = length b.connections; entries = b.entries; spot = Mark [] })) b.word (byte ∷ [])
-    ∙ ap (λ run. after file_next run (byte ∷ [])) (mark_runs b.version (length b.front) (total_size b.connections) (length b.connections) b.entries b.word 0 (b.is_word.0, b.is_word.1 ∙ none))
-byte_after_end bytes b (byte ∷ other ∷ more) same none one = absurd (omega arith)
 
 -- where a magic goes on, its front does, or its digit comes
 pub magic_split : (xs front : List ℕ) (y due : ℕ) (more : List ℕ) → xs ++ y ∷ [] ≡ front ++ due ∷ more → ((left : List ℕ) × (xs ≡ front ++ due ∷ left)) ⊎ (xs ≡ front)
@@ -432,17 +421,3 @@ magic_stops bytes fault d = go (magic_split magic_front d.front (digit d.version
         (ne_eqb d.byte 49 (d.differs One 49 [] (ap (λ (b : List ℕ). b ++ 49 ∷ []) r))) (ne_eqb d.byte 50 (d.differs Two 50 [] (ap (λ (b : List ℕ). b ++ 50 ∷ []) r)))
         ∙ ap (λ n. Stops (refusal (file_fault n BadMagic))) at_is
         ∙ ap (λ f. Stops (refusal f)) (sym d.is)
-
-pub rule_stops : (bytes : List ℕ) (shown : ShownFault) → Rule bytes shown → parsed bytes ≡ Stops shown
-rule_stops bytes shown (MagicDiffers d same) = magic_stops bytes shown.fault d ∙ ap (λ f. Stops f) (sym same)
-rule_stops bytes shown (MarkIsBad b none bad is) =
-    word_last bytes b b.mark none refl ∙ bad_mark_stops b.version (length b.front) (total_size b.connections) (length b.connections) b.entries b.mark bad ∙ ap (λ f. Stops f) (sym is)
-rule_stops bytes shown (ConnectionIsTooMany b none one full is) =
-    word_last bytes b 1 none one
-    ∙ ap (λ t. landed (cond t (Goes (record { version = b.version; at = length b.front + 4; total = total_size b.connections; number = suc (length b.connections); entries = b.entries; spot = Inside (opened b.version (length b.front + 4) (total_size b.connections)) })) (Ends (refusal (file_fault (length b.front) TooManyConnections)))))
-    (le-ltb (length b.connections) max_connections (omega arith))
-    ∙ ap (λ f. Stops f) (sym is)
-rule_stops bytes shown (WithinConnection b one few shows) =
-    later b.version bytes b.front (b.word ++ b.rest) b.connections b.entries (b.split ∙ append_assoc b.front b.word b.rest) b.opens
-    ∙ inside_stops b.version (length b.front) (total_size b.connections) (length b.connections) b.entries b.word b.rest (Refuses shown) (b.is_word.0, b.is_word.1 ∙ one) few shows
-rule_stops bytes shown (ByteAfterEnd b none one is) = byte_after_end bytes b b.rest refl none one ∙ ap (λ f. Stops f) (sym is)

@@ -6,7 +6,6 @@ pub mod ContainerLemmas
 pub mod BodySteps
 pub mod BytesOf
 pub mod BodyProgramLemmas
-pub mod StrictRules
 pub mod StreamMachineLemmas
 pub mod StreamEnds
 pub mod SidedChunksMachineLemmas
@@ -39,7 +38,6 @@ pub mod SideRules
 pub mod SidedChunksRules
 pub mod FileRules
 pub mod ReachedMore
-pub mod LoosenedRules
 pub mod WholeFiles
 pub mod EntriesLemmas
 mod ProcedureReasons

@@ -1,25 +1,23 @@
 -- The machine for one side against chunks, records and messages.
-use Rattle.std.proofs.Common.{◌≡◌, inl, inr, ℕ, zero, suc, ◌+◌, ◌<◌, ◌≤◌, List, [], ◌∷◌, ◌++◌, length, refl, sym, ap, ap₂, subst, ◌∙◌, append_assoc, append-nil, arith, length-append, Bool, true, false, cond, nat_lt, ltb-true, ltb-false, lt-ltb, le-ltb}
+use Rattle.std.proofs.Common.{◌≡◌, inl, inr, ℕ, zero, suc, ◌+◌, ◌<◌, ◌≤◌, List, [], ◌∷◌, ◌++◌, length, refl, sym, ap, ap₂, subst, ◌∙◌, append_assoc, append-nil, arith, length-append, Bool, true, false, cond, nat_lt, ltb-true, ltb-false, le-ltb}
 use Rattle.std.specs.List.{concat}
 use Rattle.record_mark.specs.Machine.{Goes, Ends, Runs, Stops, landed, after}
 use Rattle.record_mark.specs.Word.{IsWord, Joins, number, word_next}
 use Rattle.record_mark.specs.Joining.{Joining, Between, Header, Bytes}
 use Rattle.record_mark.specs.RecordMark.{IsOpen}
-use Rattle.record_mark.proofs.Machines.{Leads, leads_within, after-append, nested_runs, nested_stops, counted_runs, counted_stops, ran_before, ran_to}
+use Rattle.record_mark.proofs.Machines.{Leads, leads_within, after-append, nested_runs, nested_stops, counted_runs, counted_stops, ran_to}
 use Rattle.record_mark.proofs.Words.{IsPart, word_leads, word_runs, word_stops, Joins-snoc, concat-snoc}
 use Rattle.xdr3.specs.Item.{AreBytes}
 use Rattle.xdr3.specs.declared.reason.Reason.TheVariants.{RecordCut, TooManyBytes}
-use Rattle.capture3.specs.declared.fault.Fault.{Fault}
 use Rattle.capture3.specs.Chunks.{max_bytes, IsChunk, AreChunks, IsStream}
-use Rattle.capture3.specs.Records.{Judgement, Holds, RecordFault, fault_at}
+use Rattle.capture3.specs.Records.{Judgement, Holds, RecordFault, StreamShows, fault_at}
 use Rattle.capture3.specs.StreamMachine.{Reading, stream_next, unread}
-use Rattle.capture3.specs.Sides.{Position, file_fault, place_in}
+use Rattle.capture3.specs.Sides.{Position, file_fault, place_in, SideShows}
 use Rattle.capture3.specs.SideMachine.{Point, Length, Chunk, Siding, SideEnd, SideCloses, SideRefuses, awaiting, closing, counted, side_next}
 use Rattle.capture3.specs.machinery.SideMachine.{side_start}
-use Rattle.capture3.proofs.StrictRules.{StreamShows, PassesBytes, CutsRecord, ShowsRecord, SideShows}
 use Rattle.capture3.proofs.BytesOf.{split_bytes, AreBytes-append, chunk_bytes}
 use Rattle.capture3.proofs.BodyProgramLemmas.{Judged}
-use Rattle.capture3.proofs.StreamMachineLemmas.{HasRead, stream_leads, nothing_read, stream_runs, stream_stops, has_read, holds_so_far}
+use Rattle.capture3.proofs.StreamMachineLemmas.{HasRead, ShowsAsFirst, fault_after, stream_leads, between_holds, nothing_read, held_runs, stream_runs}
 
 -- in a length word after whole chunks
 pub record InLength {M : Type 0} (judge : Judgement M) (position : Position) (bytes : List ℕ) (at total : ℕ) (reading : Reading M) (part : List ℕ) : Type 0 where
@@ -76,55 +74,32 @@ carried_bytes bytes front header got stream byte split chunks are =
     let whole = split_bytes (front ++ header) front header refl parts.0 in
     AreBytes-append (stream ++ got) (byte ∷ []) (AreBytes-append stream got (chunk_bytes front stream chunks whole.0) parts.1) all.1
 
+-- the word 0 in an open record
+open_cut : {M : Type 0} {messages : List M} {joining : Joining} (judge : Judged M) (position : Position) (bytes stream body : List ℕ) → IsStream bytes stream → (read : HasRead judge.says stream (record { messages = messages; joining = joining })) → IsOpen read.last body
+    → EndsSide judge.says position bytes (SideRefuses (place_in position (fault_at messages (length body) RecordCut)))
+open_cut {messages = messages} judge position bytes stream body closed read is_open =
+    let same = fault_after judge.says read.front messages (length body) RecordCut read.holds in
+    inr (inl (record {
+      stream = stream;
+      shown = fault_at messages (length body) RecordCut;
+      closed = closed;
+      cut = record { front = read.front; last = read.last; bodies = read.holds.0; body = body; split = read.split; marks = read.holds.1; is_open = is_open; is = same };
+      is = refl;
+    }))
+
 closing_ends : {M : Type 0} (judge : Judged M) (position : Position) (bytes stream : List ℕ) (at total : ℕ) (messages : List M) (joining : Joining) → IsStream bytes stream → HasRead judge.says stream (record { messages = messages; joining = joining })
     → at + 4 ≡ position.start + length bytes → total ≡ position.before + length stream → total ≤ max_bytes → EndsSide judge.says position bytes (closing (place_in position) at total messages joining)
 closing_ends judge position bytes stream at total messages Between closed read at_is total_is fits =
-    record {
-      stream = stream;
-      closed = closed;
-      at_is = at_is;
-      total_is = total_is;
-      fits = fits;
-      holds = subst (λ (b : List ℕ). Holds judge.says b messages) (sym (append-nil read.front) ∙ ap (λ (b : List ℕ). read.front ++ b) (sym read.joined) ∙ sym read.split) read.holds;
-    }
-closing_ends judge position bytes stream at total messages (Header body part) closed read at_is total_is fits =
-    inr (inl (record {
-      stream = stream;
-      shown = fault_at messages (length body) RecordCut;
-      closed = closed;
-      fits = omega arith;
-      is = refl;
-      cut = record { front = read.front; last = read.last; messages = messages; body = body; split = read.split; holds = read.holds; is_open = inl (part, read.joined); is = refl };
-    }))
-closing_ends judge position bytes stream at total messages (Bytes body last left) closed read at_is total_is fits =
-    inr (inl (record {
-      stream = stream;
-      shown = fault_at messages (length body) RecordCut;
-      closed = closed;
-      fits = omega arith;
-      is = refl;
-      cut = record { front = read.front; last = read.last; messages = messages; body = body; split = read.split; holds = read.holds; is_open = inr (last, left, read.joined); is = refl };
-    }))
+    record { stream = stream; closed = closed; at_is = at_is; total_is = total_is; fits = fits; holds = between_holds judge.says stream messages read }
+closing_ends judge position bytes stream at total messages (Header body part) closed read at_is total_is fits = open_cut judge position bytes stream body closed read (inl (part, read.joined))
+closing_ends judge position bytes stream at total messages (Bytes body last left) closed read at_is total_is fits = open_cut judge position bytes stream body closed read (inr (last, left, read.joined))
 
 chunk_leads : {M : Type 0} (judge : Judged M) (position : Position) (bytes front header stream : List ℕ) (at total left : ℕ) (reading : Reading M) → bytes ≡ front ++ header → AreChunks front stream → HasRead judge.says stream reading → IsWord header (suc left)
     → at ≡ position.start + length front → total ≡ position.before + length stream → total ≤ max_bytes → (over : Bool) → nat_lt max_bytes (total + suc left) ≡ over
     → Leads (HasSide judge.says position) (EndsSide judge.says position) bytes (cond over (Ends (SideRefuses (file_fault at TooManyBytes))) (Goes (record { at = at + 4 + suc left; total = total + suc left; reading = reading; point = Chunk left })))
 chunk_leads judge position bytes front header stream at total left reading split chunks read word at_is total_is fits true over =
     let passes = ltb-true _ _ over in
-    (inl (record {
-      front = front;
-      last = header;
-      stream = stream;
-      messages = reading.messages;
-      count = suc left;
-      split = split;
-      chunks = chunks;
-      holds = holds_so_far judge.says stream reading read;
-      fits = omega arith;
-      word = word;
-      passes = omega arith;
-      is = ap (λ n. file_fault n TooManyBytes) at_is;
-    }))
+    inl (record { front = front; last = header; stream = stream; count = suc left; split = split; chunks = chunks; word = word; some = omega arith; passes = omega arith; is = ap (λ n. file_fault n TooManyBytes) at_is })
 chunk_leads judge position bytes front header stream at total left reading split chunks read word at_is total_is fits false over =
     let below : total + suc left ≤ max_bytes = ltb-false _ _ over in
     record {
@@ -197,7 +172,7 @@ point_leads judge position bytes at total reading (Length part) byte are h =
     (word_next part byte) (word_leads part byte h.short)
 point_leads judge position bytes at total reading (Chunk left) byte are h =
     let carried = carried_bytes bytes h.front (h.header) h.got h.stream byte h.split h.chunks are in
-    leads_within (HasRead judge.says) (StreamShows judge.says) (HasSide judge.says position) (EndsSide judge.says position) (λ r. record { at = at; total = total; reading = r; point = awaiting left }) (λ shown. Ends (SideRefuses (place_in position shown)))
+    leads_within (HasRead judge.says) (ShowsAsFirst judge.says) (HasSide judge.says position) (EndsSide judge.says position) (λ r. record { at = at; total = total; reading = r; point = awaiting left }) (λ shown. Ends (SideRefuses (place_in position shown)))
     ((h.stream ++ h.got) ++ byte ∷ []) (bytes ++ byte ∷ [])
     (λ r read. more_read judge position bytes byte at total r reading left h read)
     (λ shown shows. inr (inr (record {
@@ -210,9 +185,8 @@ point_leads judge position bytes at total reading (Chunk left) byte are h =
       chunks = h.chunks;
       word = (h.word.0, h.word.1 ∙ omega (arith, length-append h.got (byte ∷ [])));
       some = omega (arith, length-append h.got (byte ∷ []));
-      fits = omega (arith, h.total_is, h.fits, length-append h.stream h.got, length-append h.got (byte ∷ []));
       shown = shown;
-      shows = subst (λ (b : List ℕ). StreamShows judge.says b shown) (append_assoc h.stream h.got (byte ∷ [])) shows;
+      shows = subst (λ (b : List ℕ). StreamShows judge.says b shown) (append_assoc h.stream h.got (byte ∷ [])) shows.0;
       is = refl;
     })))
     (stream_next judge.decide reading byte) (stream_leads judge (h.stream ++ h.got) reading byte carried h.read)
@@ -314,52 +288,12 @@ pub side_runs : {M : Type 0} (judge : Judged M) (position : Position) (bytes : L
 side_runs judge position bytes s h = point_runs judge position bytes s.at s.total s.reading s.point h
 
 -- the stream's word 0
-closes_with : {M : Type 0} (judge : Judged M) (position : Position) (bytes stream : List ℕ) (reading : Reading M) (closed : IsStream bytes stream) → after (stream_next judge.decide) (Runs unread) stream ≡ Runs reading → position.before + length stream ≤ max_bytes
-    → after (side_next judge.decide (place_in position)) (Runs (side_start position)) bytes ≡ Stops (closing (place_in position) (position.start + length closed.front) (position.before + length stream) reading.messages reading.joining)
-closes_with judge position bytes stream reading closed e fits =
-    later judge position bytes closed.front closed.last stream reading (position.start + length closed.front) (position.before + length stream) closed.split closed.chunks e fits refl refl
-    ∙ length_runs judge position (position.start + length closed.front) (position.before + length stream) 0 reading closed.last closed.closes
-
-cut_stops : {M : Type 0} (judge : Judged M) (position : Position) (bytes : List ℕ) (fault : Fault) → CutsRecord judge.says position bytes fault → after (side_next judge.decide (place_in position)) (Runs (side_start position)) bytes ≡ Stops (SideRefuses fault)
-cut_stops judge position bytes fault h = go h.cut.is_open
-  where
-    go : IsOpen h.cut.last h.cut.body → after (side_next judge.decide (place_in position)) (Runs (side_start position)) bytes ≡ Stops (SideRefuses fault)
-    go (inl o) =
-        closes_with judge position bytes h.stream (record { messages = h.cut.messages; joining = Header h.cut.body o.0 }) h.closed
-        (stream_runs judge h.stream (record { messages = h.cut.messages; joining = Header h.cut.body o.0 }) (record { front = h.cut.front; last = h.cut.last; split = h.cut.split; holds = h.cut.holds; joined = o.1 })) h.fits
-        ∙ ap (λ f. Stops (SideRefuses f)) (ap (place_in position) (sym h.cut.is) ∙ sym h.is)
-    go (inr o) =
-        closes_with judge position bytes h.stream (record { messages = h.cut.messages; joining = Bytes h.cut.body o.0 o.1 }) h.closed
-        (stream_runs judge h.stream (record { messages = h.cut.messages; joining = Bytes h.cut.body o.0 o.1 }) (record { front = h.cut.front; last = h.cut.last; split = h.cut.split; holds = h.cut.holds; joined = o.2 })) h.fits
-        ∙ ap (λ f. Stops (SideRefuses f)) (ap (place_in position) (sym h.cut.is) ∙ sym h.is)
-
-passes_stops : {M : Type 0} (judge : Judged M) (position : Position) (bytes : List ℕ) (fault : Fault) (n : ℕ) → (h : PassesBytes judge.says position bytes fault) → n ≡ h.count → after (side_next judge.decide (place_in position)) (Runs (side_start position)) bytes ≡ Stops (SideRefuses fault)
-passes_stops {M} judge position bytes fault zero h e = absurd (omega (arith, h.passes, h.fits))
-passes_stops {M} judge position bytes fault (suc left) h e =
-    let read = has_read judge.says h.stream h.messages h.holds in
-    let reading : Reading M = record { messages = h.messages; joining = read.0 } in
-    later judge position bytes h.front h.last h.stream reading (position.start + length h.front) (position.before + length h.stream) h.split h.chunks (stream_runs judge h.stream reading read.1) h.fits refl refl
-    ∙ length_runs judge position (position.start + length h.front) (position.before + length h.stream) (suc left) reading h.last (h.word.0, h.word.1 ∙ sym e)
-    ∙ ap (λ b. landed (cond b (Ends (SideRefuses (file_fault (position.start + length h.front) TooManyBytes))) (Goes (record { at = position.start + length h.front + 4 + suc left; total = position.before + length h.stream + suc left; reading = reading; point = Chunk left }))))
-    (lt-ltb max_bytes (position.before + length h.stream + suc left) (omega (arith, h.passes)))
-    ∙ ap (λ f. Stops (SideRefuses f)) (sym h.is)
-
-shows_stops : {M : Type 0} (judge : Judged M) (position : Position) (bytes : List ℕ) (fault : Fault) (got : List ℕ) → (h : ShowsRecord judge.says position bytes fault) → got ≡ h.got → after (side_next judge.decide (place_in position)) (Runs (side_start position)) bytes ≡ Stops (SideRefuses fault)
-shows_stops judge position bytes fault [] h e = absurd (omega (arith, h.some, ap length e))
-shows_stops judge position bytes fault (byte ∷ more) h e =
-    let all = stream_stops judge (h.stream ++ h.got) h.shown h.shows in
-    let mid = ran_before (stream_next judge.decide) (Runs unread) h.stream byte more h.shown (ap (λ (b : List ℕ). after (stream_next judge.decide) (Runs unread) (h.stream ++ b)) e ∙ all) in
-    later judge position bytes h.front (h.header ++ h.got) h.stream mid.0 (position.start + length h.front) (position.before + length h.stream) (h.split ∙ append_assoc h.front h.header h.got) h.chunks mid.1 (omega (arith, h.fits)) refl refl
-    ∙ chunk_stops judge position (position.start + length h.front) (position.before + length h.stream) mid.0 h.header h.got h.left h.shown h.word (omega (arith, h.some)) h.fits
-    (sym (after-append (stream_next judge.decide) (Runs unread) h.stream h.got ∙ ap (λ run. after (stream_next judge.decide) run h.got) mid.1) ∙ all)
-    ∙ ap (λ f. Stops (SideRefuses f)) (sym h.is)
-
-pub side_stops : {M : Type 0} (judge : Judged M) (position : Position) (bytes : List ℕ) (x : SideEnd M) → EndsSide judge.says position bytes x → after (side_next judge.decide (place_in position)) (Runs (side_start position)) bytes ≡ Stops x
-side_stops judge position bytes (SideCloses at total messages) h =
-    let at_is : position.start + length h.closed.front + 4 ≡ at = omega (arith, h.at_is, ap length h.closed.split, length-append h.closed.front h.closed.last, h.closed.closes.0) in
-    closes_with judge position bytes h.stream (record { messages = messages; joining = Between }) h.closed
-    (stream_runs judge h.stream (record { messages = messages; joining = Between }) (record { front = h.stream; last = []; split = sym (append-nil h.stream); holds = h.holds; joined = refl })) (omega (arith, h.fits, h.total_is))
+pub side_closes : {M : Type 0} (judge : Judged M) (position : Position) (bytes : List ℕ) (at total : ℕ) (messages : List M) → ClosesSide judge.says position bytes at total messages
+    → after (side_next judge.decide (place_in position)) (Runs (side_start position)) bytes ≡ Stops (SideCloses at total messages)
+side_closes {M} judge position bytes at total messages h =
+    let c = h.closed in
+    let whole : Reading M = record { messages = messages; joining = Between } in
+    let at_is : position.start + length c.front + 4 ≡ at = omega (arith, h.at_is, ap length c.split, length-append c.front c.last, c.closes.0) in
+    later judge position bytes c.front c.last h.stream whole (position.start + length c.front) (position.before + length h.stream) c.split c.chunks (held_runs judge h.stream messages h.holds) (omega (arith, h.fits, h.total_is)) refl refl
+    ∙ length_runs judge position (position.start + length c.front) (position.before + length h.stream) 0 whole c.last c.closes
     ∙ ap₂ (λ n m. Stops (SideCloses n m messages)) at_is (sym h.total_is)
-side_stops judge position bytes (SideRefuses fault) (inl h) = passes_stops judge position bytes fault h.count h refl
-side_stops judge position bytes (SideRefuses fault) (inr (inl h)) = cut_stops judge position bytes fault h
-side_stops judge position bytes (SideRefuses fault) (inr (inr h)) = shows_stops judge position bytes fault h.got h refl

@@ -19,7 +19,7 @@ use Rattle.capture3.specs.machinery.SideMachine.{side_start}
 use Rattle.capture3.proofs.BodyProgramLemmas.{Judged}
 use Rattle.capture3.proofs.EndedMachines.{Gone, Past, Over, gone_past, gone_more, stopped_at}
 use Rattle.capture3.proofs.SideMachineLemmas.{length_runs, chunk_runs, chunk_stops}
-use Rattle.capture3.proofs.StreamMachineLemmas.{record_closes, stream_stops}
+use Rattle.capture3.proofs.StreamMachineLemmas.{record_closes, refusal_stops}
 
 -- ---- a stream
 
@@ -54,7 +54,7 @@ too_long_some : (last : List ℕ) (at : ℕ) → IsTooLong last at → 0 < lengt
 too_long_some last at h = omega (arith, ap length h.split, length-append h.front h.header, h.heads.word)
 
 pub stream_over : {M : Type 0} (judge : Judged M) (stream : List ℕ) (fault : RecordFault) → StreamShows judge.says stream fault → Over AnyFault (after (stream_next judge.decide) (Runs unread) stream) fault
-stream_over judge stream fault (inl h) = inl (stream_stops judge stream fault (inl h))
+stream_over judge stream fault (inl h) = inl (refusal_stops judge stream fault h)
 stream_over {M} judge stream fault (inr h) = subst (λ r. Over AnyFault r fault) (sym (stream_steps judge stream h.front h.last h.split)) (go (records_or judge h.bodies [] h.front (length h.bodies) (omega arith) h.marks))
   where
     go : Recorded (length h.bodies) (after (stream_next judge.decide) (Runs unread) h.front) → Over AnyFault (after (stream_next judge.decide) (after (stream_next judge.decide) (Runs unread) h.front) h.last) fault

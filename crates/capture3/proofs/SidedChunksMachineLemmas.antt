@@ -1,5 +1,5 @@
 -- The machine that gathers the chunks of both sides.
-use Rattle.std.proofs.Common.{◌≡◌, ℕ, zero, suc, ◌+◌, ◌<◌, ◌≤◌, List, [], ◌∷◌, ◌++◌, length, refl, sym, ap, ap₂, subst, ◌∙◌, append_assoc, append-nil, arith, length-append, Bool, true, false, cond, nat_lt, ltb-true, ltb-false, lt-ltb, le-ltb}
+use Rattle.std.proofs.Common.{◌≡◌, ℕ, zero, suc, ◌+◌, ◌<◌, ◌≤◌, List, [], ◌∷◌, ◌++◌, length, refl, sym, ap, ap₂, subst, ◌∙◌, append_assoc, append-nil, arith, length-append, Bool, true, false, cond, nat_lt, ltb-true, ltb-false, le-ltb}
 use Rattle.record_mark.specs.Machine.{Goes, Ends, Runs, Stops, landed, after}
 use Rattle.record_mark.specs.Word.{IsWord, Joins, number, word_next}
 use Rattle.record_mark.proofs.Machines.{Leads, leads_within, after-append, nested_runs, nested_stops}
@@ -8,11 +8,10 @@ use Rattle.xdr3.specs.declared.reason.Reason.TheVariants.{BadMark, TooManyBytes}
 use Rattle.capture3.specs.declared.fault.Side.{Side}
 use Rattle.capture3.specs.declared.fault.Side.TheVariants.{Client, Server}
 use Rattle.capture3.specs.Chunks.{max_bytes}
-use Rattle.capture3.specs.Connections.{Context}
+use Rattle.capture3.specs.Connections.{Context, MixedShows, BadSide, NoLength, TooMuch}
 use Rattle.capture3.specs.SidedChunksMachine.{MixedPoint, SideWord, SideLength, SideChunk, Mixing, MixedEnd, MixedCloses, MixedRefuses, awaiting_side, sided, measured, mixed_step, mixed_next, mixing_from}
 use Rattle.capture3.specs.SidedChunks.{Streams, size, SidedChunk, IsSidedChunk, side_word, of_side, gathered, carried_by, with_more, AreMixed}
 use Rattle.capture3.specs.Sides.{file_fault}
-use Rattle.capture3.proofs.StrictRules.{AfterLength, MixedShows, BadSide, NoLength, TooMuch}
 
 -- after whole chunks, in a side word
 pub record InSideWord (context : Context) (bytes : List ℕ) (at total : ℕ) (streams : Streams) (part : List ℕ) : Type 0 where
@@ -122,13 +121,13 @@ sided_leads context bytes front word chunks at total zero streams split joined i
 sided_leads context bytes front word chunks at total (suc zero) streams split joined is streams_are at_is total_is fits = goes_sided context bytes front word chunks at total streams Client split joined is streams_are at_is total_is fits
 sided_leads context bytes front word chunks at total (suc (suc zero)) streams split joined is streams_are at_is total_is fits = goes_sided context bytes front word chunks at total streams Server split joined is streams_are at_is total_is fits
 sided_leads context bytes front word chunks at total (suc (suc (suc other))) streams split joined is streams_are at_is total_is fits =
-    BadSide (record { chunks = chunks; front = front; word = word; count = suc (suc (suc other)); split = split; joined = joined; fits = omega arith; is_word = is; bad = omega arith; is = ap (λ n. file_fault n BadMark) at_is })
+    BadSide (record { chunks = chunks; front = front; word = word; count = suc (suc (suc other)); split = split; joined = joined; is_word = is; bad = omega arith; is = ap (λ n. file_fault n BadMark) at_is })
 
 length_leads : (context : Context) (before bytes header : List ℕ) (at total left : ℕ) (streams : Streams) (side : Side) (part : List ℕ) (h : InSideLength context before at total streams side part) → bytes ≡ h.front ++ h.word ++ header → IsWord header (suc left) → (over : Bool) → nat_lt max_bytes (total + suc left) ≡ over
     → Leads (HasMixed context) (EndsMixed context) bytes (cond over (Ends (MixedRefuses (file_fault at TooManyBytes))) (Goes (record { at = at + 4 + suc left; total = total + suc left; streams = streams; point = SideChunk side left })))
 length_leads context before bytes header at total left streams side part h split is true over =
     let passes = ltb-true _ _ over in
-    TooMuch (record { chunks = h.chunks; side = side; front = h.front; word = h.word; header = header; count = suc left; split = split; joined = h.joined; fits = omega (arith, h.fits, h.total_is); sided = h.sided; counts = is }) (omega (arith, h.total_is)) (ap (λ n. file_fault n TooManyBytes) h.at_is)
+    TooMuch (record { chunks = h.chunks; side = side; front = h.front; word = h.word; header = header; count = suc left; split = split; joined = h.joined; sided = h.sided; counts = is }) (omega arith) (omega (arith, h.total_is)) (ap (λ n. file_fault n TooManyBytes) h.at_is)
 length_leads context before bytes header at total left streams side part h split is false over =
     let below : total + suc left ≤ max_bytes = ltb-false _ _ over in
     record {
@@ -150,7 +149,7 @@ length_leads context before bytes header at total left streams side part h split
 measured_leads : (context : Context) (before bytes header : List ℕ) (at total n : ℕ) (streams : Streams) (side : Side) (part : List ℕ) (h : InSideLength context before at total streams side part) → bytes ≡ h.front ++ h.word ++ header → IsWord header n
     → Leads (HasMixed context) (EndsMixed context) bytes (measured at total streams side n)
 measured_leads context before bytes header at total zero streams side part h split is =
-    NoLength (record { chunks = h.chunks; side = side; front = h.front; word = h.word; header = header; count = 0; split = split; joined = h.joined; fits = omega (arith, h.fits, h.total_is); sided = h.sided; counts = is }) refl (ap (λ n. file_fault n BadMark) h.at_is)
+    NoLength (record { chunks = h.chunks; side = side; front = h.front; word = h.word; header = header; count = 0; split = split; joined = h.joined; sided = h.sided; counts = is }) refl (ap (λ n. file_fault n BadMark) h.at_is)
 measured_leads context before bytes header at total (suc left) streams side part h split is = length_leads context before bytes header at total left streams side part h split is (nat_lt max_bytes (total + suc left)) refl
 
 -- one byte more of a chunk
@@ -331,30 +330,11 @@ bad_side at total (suc zero) streams h = absurd (omega arith)
 bad_side at total (suc (suc zero)) streams h = absurd (omega arith)
 bad_side at total (suc (suc (suc n))) streams h = refl
 
-header_after : (context : Context) (bytes : List ℕ) (b : AfterLength context bytes) (n : ℕ) → b.count ≡ n → after mixed_next (Runs (mixing_from context.start context.before)) bytes ≡ landed (measured (context.start + length b.front + 4) (context.before + size (gathered b.chunks)) (gathered b.chunks) b.side n)
-header_after context bytes b n e =
-    later context bytes b.front (b.word ++ b.header) b.chunks (context.start + length b.front) (context.before + size (gathered b.chunks)) (b.split ∙ append_assoc b.front b.word b.header) b.joined b.fits refl refl
-    ∙ after_side (context.start + length b.front) (context.before + size (gathered b.chunks)) (gathered b.chunks) b.side b.word b.header b.sided
-    ∙ header_lands (context.start + length b.front + 4) (context.before + size (gathered b.chunks)) n (gathered b.chunks) b.side b.header (b.counts.0, b.counts.1 ∙ e)
-
-too_much : (at total n : ℕ) (streams : Streams) (side : Side) → total ≤ max_bytes → max_bytes < total + n → landed (measured at total streams side n) ≡ Stops (MixedRefuses (file_fault at TooManyBytes))
-too_much at total zero streams side fits h = absurd (omega arith)
-too_much at total (suc left) streams side fits h =
-    ap (λ b. landed (cond b (Ends (MixedRefuses (file_fault at TooManyBytes))) (Goes (record { at = at + 4 + suc left; total = total + suc left; streams = streams; point = SideChunk side left })))) (lt-ltb max_bytes (total + suc left) h)
-
-pub mixed_stops : (context : Context) (bytes : List ℕ) (x : MixedEnd) → EndsMixed context bytes x → after mixed_next (Runs (mixing_from context.start context.before)) bytes ≡ Stops x
-mixed_stops context bytes (MixedCloses at total streams) h =
+pub mixed_closes : (context : Context) (bytes : List ℕ) (at total : ℕ) (streams : Streams) → ClosesMixed context bytes at total streams → after mixed_next (Runs (mixing_from context.start context.before)) bytes ≡ Stops (MixedCloses at total streams)
+mixed_closes context bytes at total streams h =
     let m = h.mixed in
     let at_is : context.start + length m.front + 4 ≡ at = omega (arith, h.at_is, ap length m.split, length-append m.front m.last, m.closes.0) in
     let sum : total ≡ context.before + size (gathered m.chunks) = h.total_is ∙ ap (λ s. context.before + size s) m.carried in
     later context bytes m.front m.last m.chunks (context.start + length m.front) total m.split m.joined (omega (arith, h.fits)) refl sum
     ∙ word_lands (context.start + length m.front) total 0 (gathered m.chunks) m.last m.closes
     ∙ ap₂ (λ n s. Stops (MixedCloses n total s)) at_is (sym m.carried)
-mixed_stops context bytes (MixedRefuses fault) (BadSide b) =
-    later context bytes b.front b.word b.chunks (context.start + length b.front) (context.before + size (gathered b.chunks)) b.split b.joined b.fits refl refl
-    ∙ word_lands (context.start + length b.front) (context.before + size (gathered b.chunks)) b.count (gathered b.chunks) b.word b.is_word
-    ∙ bad_side (context.start + length b.front) (context.before + size (gathered b.chunks)) b.count (gathered b.chunks) b.bad
-    ∙ ap (λ f. Stops (MixedRefuses f)) (sym b.is)
-mixed_stops context bytes (MixedRefuses fault) (NoLength b none is) = header_after context bytes b 0 none ∙ ap (λ f. Stops (MixedRefuses f)) (sym is)
-mixed_stops context bytes (MixedRefuses fault) (TooMuch b passes is) =
-    header_after context bytes b b.count refl ∙ too_much (context.start + length b.front + 4) (context.before + size (gathered b.chunks)) b.count (gathered b.chunks) b.side b.fits passes ∙ ap (λ f. Stops (MixedRefuses f)) (sym is)

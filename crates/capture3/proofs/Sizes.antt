@@ -14,11 +14,9 @@ use Rattle.capture3.specs.Laws.{most_bytes, IsWithinVersion}
 use Rattle.capture3.specs.FileMachine.{Parsing, parsed}
 use Rattle.capture3.specs.declared.fault.Side.TheVariants.{Client, Server}
 use Rattle.capture3.specs.Reached.{Opens, ReachesInside, AreWhole, InMagic, BetweenConnections, InConnection}
-use Rattle.capture3.proofs.FileMachineLemmas.{rule_stops}
-use Rattle.capture3.proofs.BytesOf.{split_bytes}
 use Rattle.capture3.proofs.SidedChunksMachineLemmas.{size_of}
 use Rattle.capture3.proofs.ReachedLemmas.{stands_whole}
-use Rattle.capture3.proofs.Verdicts.{told, shows_from_stops}
+use Rattle.capture3.proofs.Verdicts.{told, shows_from_stops, shown_before}
 
 -- each byte of a stream comes with at most four of a length word
 chunks_size : (chunks : List (List ℕ)) (bytes : List ℕ) → Joins IsChunk bytes chunks → length bytes ≤ 5 * length (concat chunks)
@@ -208,8 +206,8 @@ run_size : (file : List ℕ) (run : Run Parsing ShownFault) → AreBytes file �
 run_size file (Runs s) are e clean = whole_size file _ (stands_whole file s (told file (Runs s) are e))
 run_size file (Stops fault) are e clean = absurd (clean file [] fault (sym (append-nil file)) (shows_from_stops file fault are e))
 run_size file (Stopped fault) are e clean =
-    let h = told file (Stopped fault) are e in
-    absurd (clean h.front (h.byte ∷ h.back) fault h.split (shows_from_stops h.front fault (split_bytes file h.front (h.byte ∷ h.back) h.split are).0 (rule_stops h.front fault h.ending)))
+    let before = shown_before file fault are e in
+    absurd (clean before.front (before.byte ∷ before.back) fault before.split before.ending)
 
 -- clean bytes are no longer than a capture of their version
 pub clean_size : (file : List ℕ) → AreBytes file → IsClean file → IsWithinVersion file

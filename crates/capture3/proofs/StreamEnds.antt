@@ -10,97 +10,8 @@ use Rattle.xdr3.specs.declared.reason.Reason.TheVariants.{RecordTooLong}
 use Rattle.capture3.specs.StreamMachine.{Judge, Reading, judged, recorded, stream_next, unread, StreamEnd, Held, Faulty, left_in, end_of, rest_end, stream_end}
 use Rattle.capture3.specs.Records.{Judgement, Holds, RecordFault, fault_at, FirstRecordFault, RefusesNext, NextIsTooLong, NextIsCut}
 use Rattle.capture3.proofs.BodyProgramLemmas.{Judged}
-use Rattle.capture3.proofs.StrictRules.{StreamShows}
-use Rattle.capture3.proofs.StreamMachineLemmas.{HasRead, stream_leads, nothing_read, record_closes, stream_runs}
+use Rattle.capture3.proofs.StreamMachineLemmas.{HasRead, ShowsAsFirst, stream_leads, between_holds, nothing_read, held_runs, stream_runs}
 use Rattle.capture3.proofs.Telling.{tells_bytes}
-
--- what is said of a whole stream holds
-abbrev pub EndsStream : {M : Type 0} → Judgement M → List ℕ → StreamEnd M → Type 0
-EndsStream judge stream (Held messages) = Holds judge stream messages
-EndsStream judge stream (Faulty messages fault) = FirstRecordFault judge stream messages fault
-
-stream_tells : {M : Type 0} (judge : Judged M) (stream : List ℕ) → AreBytes stream → Tells (HasRead judge.says) (StreamShows judge.says) stream (after (stream_next judge.decide) (Runs unread) stream)
-stream_tells judge = tells_bytes (stream_next judge.decide) (HasRead judge.says) (StreamShows judge.says) (stream_leads judge) unread (nothing_read judge.says)
-
--- after whole records the machine stands between two
-held_runs : {M : Type 0} (judge : Judged M) (front : List ℕ) (messages : List M) → Holds judge.says front messages → after (stream_next judge.decide) (Runs unread) front ≡ Runs (record { messages = messages; joining = Between })
-held_runs judge front messages holds = stream_runs judge front (record { messages = messages; joining = Between }) (record { front = front; last = []; split = sym (append-nil front); holds = holds; joined = refl })
-
--- before a record at fault the messages are whole
-last_after : {M : Type 0} (judge : Judged M) (front last rest : List ℕ) (messages : List M) (x : Joined) (fault : RecordFault) → Holds judge.says front messages → after join_next (Runs Between) last ≡ Stops x → recorded judge.decide messages x ≡ Ends fault
-    → rest_end judge.decide unread (front ++ last ++ rest) ≡ Faulty messages fault
-last_after {M} judge front last rest messages x fault holds stops ends = ap (λ (ms : List M). end_of ms (after (stream_next judge.decide) (Runs unread) (front ++ last ++ rest))) last_is ∙ ap (end_of messages) run_is ∙ stays rest
-  where
-    here : Reading M
-    here = record { messages = messages; joining = Between }
-
-    whole : after (stream_next judge.decide) (Runs unread) front ≡ Runs here
-    whole = held_runs judge front messages holds
-
-    stop : after (stream_next judge.decide) (Runs here) last ≡ Stops fault
-    stop = record_closes judge messages last x stops ∙ ap landed ends
-
-    last_is : (last_running (stream_next judge.decide) unread (front ++ last ++ rest)).messages ≡ messages
-    last_is =
-        ap (λ (s : Reading M). s.messages)
-        (ap (last_running (stream_next judge.decide) unread) (append_assoc front last rest)
-        ∙ last_running-append (stream_next judge.decide) unread here front (last ++ rest) whole
-        ∙ last_stopped (stream_next judge.decide) here last rest fault stop
-        ∙ nested_last join_next (stream_next judge.decide) (λ j. record { messages = messages; joining = j }) (recorded judge.decide messages) (λ s byte. refl) last Between x fault ends stops)
-
-    run_is : after (stream_next judge.decide) (Runs unread) (front ++ last ++ rest) ≡ after (stream_next judge.decide) (Stops fault) rest
-    run_is =
-        ap (after (stream_next judge.decide) (Runs unread)) (append_assoc front last rest) ∙ after-append (stream_next judge.decide) (Runs unread) front (last ++ rest)
-        ∙ ap (λ r. after (stream_next judge.decide) r (last ++ rest)) whole ∙ after-append (stream_next judge.decide) (Runs here) last rest ∙ ap (λ r. after (stream_next judge.decide) r rest) stop
-
-    stays : (more : List ℕ) → end_of messages (after (stream_next judge.decide) (Stops fault) more) ≡ Faulty messages fault
-    stays [] = refl
-    stays (byte ∷ more) = ap (end_of messages) (after_stopped (stream_next judge.decide) fault more)
-
-pub stream_ends : {M : Type 0} (judge : Judged M) (stream : List ℕ) (x : StreamEnd M) → EndsStream judge.says stream x → stream_end judge.decide stream ≡ x
-stream_ends {M} judge stream (Held messages) h = ap (end_of (last_running (stream_next judge.decide) unread stream).messages) (held_runs judge stream messages h)
-stream_ends {M} judge stream (Faulty messages fault) (RefusesNext front last rest body stop split holds whole refused is) =
-    ap (stream_end judge.decide) split
-    ∙ last_after judge front last rest messages (Whole body) (fault_at messages stop.at stop.reason) holds (record_stops last body whole) (ap (judged messages) (judge.refuses messages body stop refused))
-    ∙ ap (Faulty messages) (sym is)
-stream_ends {M} judge stream (Faulty messages fault) (NextIsTooLong front last rest at split holds long is) =
-    ap (stream_end judge.decide) split ∙ last_after judge front last rest messages (TooLong at) (fault_at messages at RecordTooLong) holds (too_long_stops last at long) refl ∙ ap (Faulty messages) (sym is)
-stream_ends {M} judge stream (Faulty messages fault) (NextIsCut front last body split holds is_open is) = go is_open
-  where
-    at_joining : (j : Joining) → HasRead judge.says stream (record { messages = messages; joining = j }) → stream_end judge.decide stream ≡ left_in messages j
-    at_joining j read = ap (end_of (last_running (stream_next judge.decide) unread stream).messages) (stream_runs judge stream (record { messages = messages; joining = j }) read)
-
-    go : IsOpen last body → stream_end judge.decide stream ≡ Faulty messages fault
-    go (inl o) = at_joining (Header body o.0) (record { front = front; last = last; split = split; holds = holds; joined = o.1 }) ∙ ap (Faulty messages) (sym is)
-    go (inr o) = at_joining (Bytes body o.0 o.1) (record { front = front; last = last; split = split; holds = holds; joined = o.2 }) ∙ ap (Faulty messages) (sym is)
-
--- a fault that is shown, as the first
-shown_first : {M : Type 0} (judge : Judgement M) (front rest : List ℕ) (fault : RecordFault) → StreamShows judge front fault → (messages : List M) × FirstRecordFault judge (front ++ rest) messages fault
-shown_first judge front rest fault (inl h) = (h.messages, RefusesNext h.front h.last rest h.body h.stop (ap (λ (b : List ℕ). b ++ rest) h.split) h.holds h.whole h.refused h.is)
-shown_first judge front rest fault (inr h) = (h.messages, NextIsTooLong h.front h.last rest h.at (ap (λ (b : List ℕ). b ++ rest) h.split) h.holds h.long h.is)
-
-left_ends : {M : Type 0} (judge : Judgement M) (stream : List ℕ) (messages : List M) (joining : Joining) → HasRead judge stream (record { messages = messages; joining = joining }) → EndsStream judge stream (left_in messages joining)
-left_ends judge stream messages Between h = subst (λ (b : List ℕ). Holds judge b messages) (sym (append-nil h.front) ∙ ap (λ (b : List ℕ). h.front ++ b) (sym h.joined) ∙ sym h.split) h.holds
-left_ends judge stream messages (Header body part) h = NextIsCut h.front h.last body h.split h.holds (inl (part, h.joined)) refl
-left_ends judge stream messages (Bytes body last left) h = NextIsCut h.front h.last body h.split h.holds (inr (last, left, h.joined)) refl
-
--- it ends in one way that holds
-pub ends_somehow : {M : Type 0} (judge : Judged M) (stream : List ℕ) → AreBytes stream → (x : StreamEnd M) × EndsStream judge.says stream x
-ends_somehow {M} judge stream are = go (after (stream_next judge.decide) (Runs unread) stream) (stream_tells judge stream are)
-  where
-    go : (run : Run (Reading M) RecordFault) → Tells (HasRead judge.says) (StreamShows judge.says) stream run → (x : StreamEnd M) × EndsStream judge.says stream x
-    go (Runs s) h = (left_in s.messages s.joining, left_ends judge.says stream s.messages s.joining h)
-    go (Stops fault) h =
-        let f = shown_first judge.says stream [] fault h in
-        (Faulty f.0 fault, subst (λ (b : List ℕ). FirstRecordFault judge.says b f.0 fault) (append-nil stream) f.1)
-    go (Stopped fault) h =
-        let f = shown_first judge.says h.front (h.byte ∷ h.back) fault h.ending in
-        (Faulty f.0 fault, subst (λ (b : List ℕ). FirstRecordFault judge.says b f.0 fault) (sym h.split) f.1)
-
-pub ends_stream : {M : Type 0} (judge : Judged M) (stream : List ℕ) → AreBytes stream → EndsStream judge.says stream (stream_end judge.decide stream)
-ends_stream judge stream are =
-    let e = ends_somehow judge stream are in
-    subst (EndsStream judge.says stream) (sym (stream_ends judge stream e.0 e.1)) e.1
 
 -- ---- from a record's start on
 
@@ -144,3 +55,61 @@ pub rest_leaves : {M : Type 0} (judge : Judge M) (messages : List M) (rest : Lis
 rest_leaves judge messages rest j runs =
     ap (end_of (last_running (stream_next judge) (between messages) rest).messages)
     (nested_runs join_next (stream_next judge) (λ k. record { messages = messages; joining = k }) (recorded judge messages) (λ s byte. refl) rest Between j runs)
+
+-- ---- a whole stream
+
+-- what is said of a whole stream holds
+abbrev pub EndsStream : {M : Type 0} → Judgement M → List ℕ → StreamEnd M → Type 0
+EndsStream judge stream (Held messages) = Holds judge stream messages
+EndsStream judge stream (Faulty messages fault) = FirstRecordFault judge stream messages fault
+
+stream_tells : {M : Type 0} (judge : Judged M) (stream : List ℕ) → AreBytes stream → Tells (HasRead judge.says) (ShowsAsFirst judge.says) stream (after (stream_next judge.decide) (Runs unread) stream)
+stream_tells judge = tells_bytes (stream_next judge.decide) (HasRead judge.says) (ShowsAsFirst judge.says) (stream_leads judge) unread (nothing_read judge.says)
+
+-- before a record at fault the messages are whole
+last_after : {M : Type 0} (judge : Judged M) (front last rest : List ℕ) (messages : List M) (x : Joined) (fault : RecordFault) → Holds judge.says front messages → after join_next (Runs Between) last ≡ Stops x → recorded judge.decide messages x ≡ Ends fault
+    → rest_end judge.decide unread (front ++ last ++ rest) ≡ Faulty messages fault
+last_after judge front last rest messages x fault holds stops ends =
+    ap (rest_end judge.decide unread) (append_assoc front last rest)
+    ∙ rest_after judge.decide unread (between messages) front (last ++ rest) (held_runs judge front messages holds)
+    ∙ rest_refuses judge.decide messages last rest x fault stops ends
+
+pub stream_ends : {M : Type 0} (judge : Judged M) (stream : List ℕ) (x : StreamEnd M) → EndsStream judge.says stream x → stream_end judge.decide stream ≡ x
+stream_ends {M} judge stream (Held messages) h = ap (end_of (last_running (stream_next judge.decide) unread stream).messages) (held_runs judge stream messages h)
+stream_ends {M} judge stream (Faulty messages fault) (RefusesNext front last rest body stop split holds whole refused is) =
+    ap (stream_end judge.decide) split
+    ∙ last_after judge front last rest messages (Whole body) (fault_at messages stop.at stop.reason) holds (record_stops last body whole) (ap (judged messages) (judge.refuses messages body stop refused))
+    ∙ ap (Faulty messages) (sym is)
+stream_ends {M} judge stream (Faulty messages fault) (NextIsTooLong front last rest at split holds long is) =
+    ap (stream_end judge.decide) split ∙ last_after judge front last rest messages (TooLong at) (fault_at messages at RecordTooLong) holds (too_long_stops last at long) refl ∙ ap (Faulty messages) (sym is)
+stream_ends {M} judge stream (Faulty messages fault) (NextIsCut front last body split holds is_open is) = go is_open
+  where
+    at_joining : (j : Joining) → HasRead judge.says stream (record { messages = messages; joining = j }) → stream_end judge.decide stream ≡ left_in messages j
+    at_joining j read = ap (end_of (last_running (stream_next judge.decide) unread stream).messages) (stream_runs judge stream (record { messages = messages; joining = j }) read)
+
+    go : IsOpen last body → stream_end judge.decide stream ≡ Faulty messages fault
+    go (inl o) = at_joining (Header body o.0) (record { front = front; last = last; split = split; holds = holds; joined = o.1 }) ∙ ap (Faulty messages) (sym is)
+    go (inr o) = at_joining (Bytes body o.0 o.1) (record { front = front; last = last; split = split; holds = holds; joined = o.2 }) ∙ ap (Faulty messages) (sym is)
+
+left_ends : {M : Type 0} (judge : Judgement M) (stream : List ℕ) (messages : List M) (joining : Joining) → HasRead judge stream (record { messages = messages; joining = joining }) → EndsStream judge stream (left_in messages joining)
+left_ends judge stream messages Between h = between_holds judge stream messages h
+left_ends judge stream messages (Header body part) h = NextIsCut h.front h.last body h.split h.holds (inl (part, h.joined)) refl
+left_ends judge stream messages (Bytes body last left) h = NextIsCut h.front h.last body h.split h.holds (inr (last, left, h.joined)) refl
+
+-- it ends in one way that holds
+pub ends_somehow : {M : Type 0} (judge : Judged M) (stream : List ℕ) → AreBytes stream → (x : StreamEnd M) × EndsStream judge.says stream x
+ends_somehow {M} judge stream are = go (after (stream_next judge.decide) (Runs unread) stream) (stream_tells judge stream are)
+  where
+    go : (run : Run (Reading M) RecordFault) → Tells (HasRead judge.says) (ShowsAsFirst judge.says) stream run → (x : StreamEnd M) × EndsStream judge.says stream x
+    go (Runs s) h = (left_in s.messages s.joining, left_ends judge.says stream s.messages s.joining h)
+    go (Stops fault) h =
+        let f = h.1 [] in
+        (Faulty f.0 fault, subst (λ (b : List ℕ). FirstRecordFault judge.says b f.0 fault) (append-nil stream) f.1)
+    go (Stopped fault) h =
+        let f = h.ending.1 (h.byte ∷ h.back) in
+        (Faulty f.0 fault, subst (λ (b : List ℕ). FirstRecordFault judge.says b f.0 fault) (sym h.split) f.1)
+
+pub ends_stream : {M : Type 0} (judge : Judged M) (stream : List ℕ) → AreBytes stream → EndsStream judge.says stream (stream_end judge.decide stream)
+ends_stream judge stream are =
+    let e = ends_somehow judge stream are in
+    subst (EndsStream judge.says stream) (sym (stream_ends judge stream e.0 e.1)) e.1

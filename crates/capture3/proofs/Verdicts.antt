@@ -1,28 +1,26 @@
 -- A file is well formed with its entries, or has one first fault, as the machine says.
 use Rattle.std.proofs.Common.{◌≡◌, inl, inr, ℕ, List, [], ◌∷◌, ◌++◌, length, refl, sym, ap, subst, ◌∙◌, append-nil, Result, Ok, Err}
 use Rattle.record_mark.specs.Machine.{Run, Runs, Stops, Stopped, after}
-use Rattle.record_mark.proofs.Machines.{ran_before, Tells, after-append, after_stopped, ran_to, not_runs}
+use Rattle.record_mark.proofs.Machines.{ran_before, Earlier, Tells, after-append, after_stopped, ran_to, not_runs}
 use Rattle.xdr3.specs.Item.{AreBytes}
 use Rattle.xdr3.specs.declared.reason.Reason.TheVariants.{CaptureCut, AfterEnd}
 use Rattle.capture3.specs.declared.fault.Fault.{Fault}
 use Rattle.capture3.specs.Capture.{Version, total_size, magic}
 use Rattle.capture3.specs.Connections.{ShownFault, refusal}
 use Rattle.capture3.specs.Entry.{Entry, End}
-use Rattle.capture3.specs.FirstFault.{Shows, IsClean, FirstFault}
+use Rattle.capture3.specs.FirstFault.{Rule, Shows, IsClean, FirstFault}
 use Rattle.capture3.specs.Laws.{HasOneVerdict, IsCutShort}
 use Rattle.capture3.specs.FileMachine.{Spot, Magic, Digit, Mark, Inside, Ended, Parsing, file_next, file_start, parsed, concluded, verdict_of, verdict}
 use Rattle.capture3.specs.Sides.{file_fault}
 use Rattle.capture3.specs.Typed.{Typed, IsWellFormed}
 use Rattle.capture3.proofs.FileRules.{AnyRefusal, rule_over}
 use Rattle.capture3.proofs.BytesOf.{split_bytes}
-use Rattle.capture3.proofs.LoosenedRules.{loosened}
-use Rattle.capture3.proofs.EndedMachines.{Over}
-use Rattle.capture3.proofs.StrictRules as strict
-use Rattle.capture3.proofs.FileMachineLemmas.{HasSpot, Stands, file_tells, file_runs, rule_stops}
+use Rattle.capture3.proofs.EndedMachines.{Over, stopped_at}
+use Rattle.capture3.proofs.FileMachineLemmas.{HasSpot, Stands, file_tells, file_runs}
 
 -- the machine's runs, told of their bytes
-pub told : (bytes : List ℕ) (run : Run Parsing ShownFault) → AreBytes bytes → parsed bytes ≡ run → Tells Stands strict.Rule bytes run
-told bytes run are e = subst (λ r. Tells Stands strict.Rule bytes r) e (file_tells bytes are)
+pub told : (bytes : List ℕ) (run : Run Parsing ShownFault) → AreBytes bytes → parsed bytes ≡ run → Tells Stands Rule bytes run
+told bytes run are e = subst (λ r. Tells Stands Rule bytes r) e (file_tells bytes are)
 
 -- where a rule holds, the machine has stopped
 over_not_runs : (run : Run Parsing ShownFault) (s : Parsing) (shown : ShownFault) → run ≡ Runs s → Over AnyRefusal run shown → ⊥
@@ -33,11 +31,17 @@ over_not_runs run s shown e (inr past) = let f = past.2 in cc
 pub shows_from_stops : (bytes : List ℕ) (shown : ShownFault) → AreBytes bytes → parsed bytes ≡ Stops shown → Shows bytes shown
 shows_from_stops bytes shown are e =
     record {
-      rule = loosened bytes shown (told bytes (Stops shown) are e);
+      rule = told bytes (Stops shown) are e;
       first = λ front more byte other split rule.
           let before = ran_before file_next (Runs file_start) front byte more shown (ap parsed (sym split) ∙ e) in
           over_not_runs (parsed front) before.0 other before.1 (rule_over front other rule);
     }
+
+-- where it had stopped before, an earlier byte shows the fault
+pub shown_before : (file : List ℕ) (shown : ShownFault) → AreBytes file → parsed file ≡ Stopped shown → Earlier ShownFault Shows file shown
+shown_before file shown are e =
+    let (front, byte, back, split, stops) = stopped_at file_next file file_start shown e in
+    record { front = front; byte = byte; back = back; split = split; ending = shows_from_stops front shown (split_bytes file front (byte ∷ back) split are).0 stops }
 
 pub stops_from_shows : (bytes : List ℕ) (shown : ShownFault) → AreBytes bytes → Shows bytes shown → parsed bytes ≡ Stops shown
 stops_from_shows bytes shown are h = go (rule_over bytes shown h.rule)
@@ -45,8 +49,8 @@ stops_from_shows bytes shown are h = go (rule_over bytes shown h.rule)
     go : Over AnyRefusal (parsed bytes) shown → parsed bytes ≡ Stops shown
     go (inl e) = e
     go (inr past) =
-        let t = told bytes (Stopped past.0) are past.2 in
-        absurd (h.first t.front t.back t.byte past.0 t.split (loosened t.front past.0 t.ending))
+        let before = shown_before bytes past.0 are past.2 in
+        absurd (h.first before.front before.back before.byte past.0 before.split before.ending.rule)
 
 -- a prefix of what the machine runs through shows nothing
 pub clean_from_runs : (bytes : List ℕ) (s : Parsing) → parsed bytes ≡ Runs s → IsClean bytes
@@ -111,8 +115,8 @@ fault_from_run file fault (Runs s) are e v =
     inr (clean_from_runs file s e, (λ w. let typed = verdict_from_typed file w.0 w.1 in let same = ap (verdict_of (length file)) e in cc), fault_from_spot s.entries (length file) fault s.spot v)
 fault_from_run file fault (Stops shown) are e v = inl (file, [], shown, sym (append-nil file), shows_from_stops file shown are e, cc)
 fault_from_run file fault (Stopped shown) are e v =
-    let h = told file (Stopped shown) are e in
-    inl (h.front, h.byte ∷ h.back, shown, h.split, shows_from_stops h.front shown (split_bytes file h.front (h.byte ∷ h.back) h.split are).0 (rule_stops h.front shown h.ending), cc)
+    let before = shown_before file shown are e in
+    inl (before.front, before.byte ∷ before.back, shown, before.split, before.ending, cc)
 
 pub fault_from_verdict : (file : List ℕ) (fault : Fault) → AreBytes file → verdict file ≡ Err fault → FirstFault file fault
 fault_from_verdict file fault are = fault_from_run file fault (parsed file) are refl
@@ -134,8 +138,8 @@ cut_from_run file (Runs s) are e clean bad =
     cut_from_spot s.entries (length file) s.spot (λ all v. bad (all, typed_from_run file all (Runs s) are e v))
 cut_from_run file (Stops fault) are e clean bad = absurd (clean file [] fault (sym (append-nil file)) (shows_from_stops file fault are e))
 cut_from_run file (Stopped fault) are e clean bad =
-    let h = told file (Stopped fault) are e in
-    absurd (clean h.front (h.byte ∷ h.back) fault h.split (shows_from_stops h.front fault (split_bytes file h.front (h.byte ∷ h.back) h.split are).0 (rule_stops h.front fault h.ending)))
+    let before = shown_before file fault are e in
+    absurd (clean before.front (before.byte ∷ before.back) fault before.split before.ending)
 
 pub verdict_from_fault : (file : List ℕ) (fault : Fault) → AreBytes file → FirstFault file fault → verdict file ≡ Err fault
 verdict_from_fault file fault are (inl h) =
