@@ -42,6 +42,5 @@ pub mod ReachedMore
 pub mod LoosenedRules
 pub mod WholeFiles
 pub mod EntriesLemmas
-mod ProcedureReasons
 mod MessageReasons
 pub mod Placed
