@@ -55,15 +55,15 @@ IsNamedPart (size_part name shape) = IsNameOf name AWord
 -- ---- rooms for numbers
 
 -- no handle and no write verifier
-abbrev pub HasNoNumber : Part → Type 0
-HasNoNumber (write_verf_part name) = ⊥
-HasNoNumber (opaque_part Handle name max) = ⊥
-HasNoNumber _ = ⊤
+abbrev pub IsUnnumbered : Part → Type 0
+IsUnnumbered (write_verf_part name) = ⊥
+IsUnnumbered (opaque_part Handle name max) = ⊥
+IsUnnumbered _ = ⊤
 
 -- a handle has room for a number and no more than 64 bytes, and what is counted in bytes has no handle and no write verifier
 abbrev pub HasRoom : Part → Type 0
 HasRoom (opaque_part Handle name max) = (4 ≤ max) × (max ≤ 64)
-HasRoom (size_part name shape) = HasParts HasNoNumber shape
+HasRoom (size_part name shape) = HasParts IsUnnumbered shape
 HasRoom _ = ⊤
 
 -- ---- all of these
