@@ -10,6 +10,8 @@ use Rattle.xdr3.specs.Shape.{Shape, choose, hyper, fixed, write_verf, opaque, no
 use Rattle.xdr3.specs.Layout.{Layout, exactly, rest, after, FitsLayout}
 use Rattle.xdr3.proofs.Items.{Spells-one, Spells-single}
 use Rattle.xdr3.proofs.Decided.{zero_spelled_all}
+use Rattle.xdr3.proofs.ShapeParts.{HasParts, Part, RowHasParts, fixed_part, hyper_part, opaque_part, rest_part, size_part, word_part, write_verf_part}
+use Rattle.procs3.proofs.ProtocolParts.{HasRoom, IsUnnumbered}
 use Rattle.capture3.proofs.BytesOf.{AreBytes-nil, AreBytes-append}
 use Rattle.canon3.specs.Values.{handle_in, verifier_in, handles_in, verifiers_in}
 use Rattle.canon3.specs.Pairing.{Member, here, there, IsHandle, IsVerifier}
@@ -17,7 +19,6 @@ use Rattle.canon3.specs.Rank.{rank}
 use Rattle.canon3.specs.Canonical.{numbered_item}
 use Rattle.canon3.proofs.RankLemmas.{member-append_cases}
 use Rattle.canon3.proofs.RenamingLemmas.{all_mapped, all_weaker}
-use Rattle.canon3.proofs.Rooms.{HasNoName, HasRoom, LayoutHasRoom}
 
 -- ---- lists of lists
 
@@ -46,8 +47,8 @@ module _ (hs vs : List (List ℕ)) where
   abbrev under : List Item → List Item
   under items = map (numbered_item hs vs) items
 
-  pub unchanged : (s : Shape) (items : List Item) → HasNoName s → Fits s items → under items ≡ items
-  unchanged (choose name accepted reason next) items h p = ap under p.4 ∙ (ap (λ (l : List Item). Word name p.0 ∷ l) (unchanged (next p.0) p.1 (h p.0) p.3) ∙ sym p.4)
+  pub unchanged : (s : Shape) (items : List Item) → HasParts IsUnnumbered s → Fits s items → under items ≡ items
+  unchanged (choose name accepted reason next) items h p = ap under p.4 ∙ (ap (λ (l : List Item). Word name p.0 ∷ l) (unchanged (next p.0) p.1 (h.1 p.0) p.3) ∙ sym p.4)
   unchanged (hyper name) items h p = ap under p.1 ∙ sym p.1
   unchanged (fixed name) items h p = ap under p.1 ∙ sym p.1
   unchanged (write_verf name) items h p = absurd h
@@ -59,17 +60,17 @@ module _ (hs vs : List (List ℕ)) where
       ap under p.4 ∙ (map-append (numbered_item hs vs) p.0 p.1 ∙ (ap₂ (λ (l m : List Item). l ++ m) (unchanged a p.0 h.0 p.2) (unchanged b p.1 h.1 p.3) ∙ sym p.4))
   unchanged (linked name s) items h p =
       ap under p.2 ∙ (map-append (numbered_item hs vs) (links name p.0) (Word name 0 ∷ [])
-      ∙ (ap (λ (l : List Item). l ++ Word name 0 ∷ []) (links_mapped (numbered_item hs vs) name refl p.0 ∙ ap (links name) (unchanged_parts (numbered_item hs vs) p.0 (all_weaker (Fits s) (λ part. under part ≡ part) (λ part. unchanged s part h) p.0 p.1))) ∙ sym p.2))
+      ∙ (ap (λ (l : List Item). l ++ Word name 0 ∷ []) (links_mapped (numbered_item hs vs) name refl p.0 ∙ ap (links name) (unchanged_parts (numbered_item hs vs) p.0 (all_weaker (Fits s) (λ part. under part ≡ part) (λ part. unchanged s part h.1) p.0 p.1))) ∙ sym p.2))
   unchanged (counted name max s) items h p =
-      ap under p.3 ∙ (ap (λ (l : List Item). Word name (length p.0) ∷ l) (joined_mapped (numbered_item hs vs) p.0 ∙ ap joined (unchanged_parts (numbered_item hs vs) p.0 (all_weaker (Fits s) (λ part. under part ≡ part) (λ part. unchanged s part h) p.0 p.1))) ∙ sym p.3)
-  unchanged (sized name s) items h p = ap under p.3 ∙ (ap (λ (l : List Item). Word name (length (zero_spelling p.0)) ∷ l) (unchanged s p.0 h p.1) ∙ sym p.3)
+      ap under p.3 ∙ (ap (λ (l : List Item). Word name (length p.0) ∷ l) (joined_mapped (numbered_item hs vs) p.0 ∙ ap joined (unchanged_parts (numbered_item hs vs) p.0 (all_weaker (Fits s) (λ part. under part ≡ part) (λ part. unchanged s part h.1) p.0 p.1))) ∙ sym p.3)
+  unchanged (sized name s) items h p = ap under p.3 ∙ (ap (λ (l : List Item). Word name (length (zero_spelling p.0)) ∷ l) (unchanged s p.0 h.1 p.1) ∙ sym p.3)
 
   handle_fits : (name bytes : List ℕ) (max : ℕ) → 4 ≤ max → length bytes ≤ max → Fits (opaque Handle name max) (under (Opaque Handle name bytes ∷ []))
   handle_fits name [] max room le = ([], omega arith, refl)
   handle_fits name (b ∷ bs) max room le = (_, omega arith, refl)
 
-  pub fits_numbered : (s : Shape) (items : List Item) → HasRoom s → Fits s items → Fits s (under items)
-  fits_numbered (choose name accepted reason next) items h p = (p.0, under p.1, p.2, fits_numbered (next p.0) p.1 (h p.0) p.3, ap under p.4)
+  pub fits_numbered : (s : Shape) (items : List Item) → HasParts HasRoom s → Fits s items → Fits s (under items)
+  fits_numbered (choose name accepted reason next) items h p = (p.0, under p.1, p.2, fits_numbered (next p.0) p.1 (h.1 p.0) p.3, ap under p.4)
   fits_numbered (hyper name) items h p = (p.0, ap under p.1)
   fits_numbered (fixed name) items h p = (p.0, ap under p.1)
   fits_numbered (write_verf name) items h p = (_, ap under p.1)
@@ -81,29 +82,74 @@ module _ (hs vs : List (List ℕ)) where
       (under p.0, under p.1, fits_numbered a p.0 h.0 p.2, fits_numbered b p.1 h.1 p.3, ap under p.4 ∙ map-append (numbered_item hs vs) p.0 p.1)
   fits_numbered (linked name s) items h p = (
     map under p.0,
-    all_mapped (Fits s) (Fits s) under (λ part. fits_numbered s part h) p.0 p.1,
+    all_mapped (Fits s) (Fits s) under (λ part. fits_numbered s part h.1) p.0 p.1,
     ap under p.2 ∙ (map-append (numbered_item hs vs) (links name p.0) (Word name 0 ∷ []) ∙ ap (λ (l : List Item). l ++ Word name 0 ∷ []) (links_mapped (numbered_item hs vs) name refl p.0)),
   )
   fits_numbered (counted name max s) items h p =
       let size = length-map under p.0 in (
         map under p.0,
-        all_mapped (Fits s) (Fits s) under (λ part. fits_numbered s part h) p.0 p.1,
+        all_mapped (Fits s) (Fits s) under (λ part. fits_numbered s part h.1) p.0 p.1,
         omega (arith, p.2, size),
         ap under p.3 ∙ ap₂ (λ (n : ℕ) (l : List Item). Word name n ∷ l) (sym size) (joined_mapped (numbered_item hs vs) p.0),
       )
   fits_numbered (sized name s) items h p =
-      subst (Fits (sized name s)) (sym (unchanged (sized name s) items h.0 p)) p
+      subst (Fits (sized name s)) (sym (unchanged (sized name s) items (tt, h.0) p)) p
 
-  pub layout_numbered : (layout : Layout) (items : List Item) → LayoutHasRoom layout → FitsLayout layout items → FitsLayout layout (under items)
-  layout_numbered (exactly s) items h p = fits_numbered s items h p
-  layout_numbered (rest name) items h p = (p.0, ap under p.1)
-  layout_numbered (after s next) items h p = (
-    under p.0,
-    under p.1,
-    fits_numbered s p.0 h.0 p.2,
-    subst (λ layout. FitsLayout layout (under p.1)) (sym (h.2 hs vs p.0)) (layout_numbered (next p.0) p.1 (h.1 p.0) p.3),
-    ap under p.4 ∙ map-append (numbered_item hs vs) p.0 p.1,
-  )
+  pub row_numbered : (layout : Layout) (items : List Item) → RowHasParts HasRoom layout → FitsLayout layout items → FitsLayout layout (under items)
+  row_numbered (exactly s) items h p = fits_numbered s items h p
+  row_numbered (rest name) items h p = (p.0, ap under p.1)
+  row_numbered (after s next) items h p = absurd h
+
+-- ---- what is so of each item
+
+pub all_append : {A : Type 0} (P : A → Type 0) (l m : List A) → AllByRecursion P l → AllByRecursion P m → AllByRecursion P (l ++ m)
+all_append P [] m h k = k
+all_append P (x ∷ l) m h k = (h.0, all_append P l m h.1 k)
+
+module _ (P : Item → Type 0) where
+  abbrev pub AllAre : List Item → Type 0
+  AllAre items = AllByRecursion P items
+
+  -- so is each item that stands for the part
+  abbrev pub IsEach : Part → Type 0
+  IsEach (word_part name reason) = (n : ℕ) → P (Word name n)
+  IsEach (hyper_part name) = (n : ℕ) → P (Hyper name n)
+  IsEach (fixed_part name) = (bytes : List ℕ) → P (Fixed name bytes)
+  IsEach (write_verf_part name) = (bytes : List ℕ) → P (WriteVerf name bytes)
+  IsEach (rest_part name) = (bytes : List ℕ) → P (Rest name bytes)
+  IsEach (opaque_part kind name max) = (bytes : List ℕ) → length bytes ≤ max → P (Opaque kind name bytes)
+  IsEach (size_part name s) = (n : ℕ) → P (Word name n)
+
+  all_links : (name : List ℕ) (parts : List (List Item)) → ((n : ℕ) → P (Word name n)) → AllByRecursion AllAre parts → AllAre (links name parts)
+  all_links name [] w h = tt
+  all_links name (part ∷ parts) w h = all_append P (Word name 1 ∷ part) (links name parts) (w 1, h.0) (all_links name parts w h.1)
+
+  all_joined : (parts : List (List Item)) → AllByRecursion AllAre parts → AllAre (joined parts)
+  all_joined [] h = tt
+  all_joined (part ∷ parts) h = all_append P part (joined parts) h.0 (all_joined parts h.1)
+
+  all_fitting : (s : Shape) (items : List Item) → HasParts IsEach s → Fits s items → AllAre items
+  all_fitting (choose name accepted reason next) items h p = subst AllAre (sym p.4) (h.0 p.0, all_fitting (next p.0) p.1 (h.1 p.0) p.3)
+  all_fitting (hyper name) items h p = subst AllAre (sym p.1) (h p.0, tt)
+  all_fitting (fixed name) items h p = subst AllAre (sym p.1) (h p.0, tt)
+  all_fitting (write_verf name) items h p = subst AllAre (sym p.1) (h p.0, tt)
+  all_fitting (opaque kind name max) items h p = subst AllAre (sym p.2) (h p.0 p.1, tt)
+  all_fitting nothing items h p = subst AllAre (sym p) tt
+  all_fitting (both a b) items h p = subst AllAre (sym p.4) (all_append P p.0 p.1 (all_fitting a p.0 h.0 p.2) (all_fitting b p.1 h.1 p.3))
+  all_fitting (linked name s) items h p =
+      subst AllAre (sym p.2)
+      (all_append P (links name p.0) (Word name 0 ∷ []) (all_links name p.0 h.0 (all_weaker (Fits s) AllAre (λ part. all_fitting s part h.1) p.0 p.1)) (h.0 0, tt))
+  all_fitting (counted name max s) items h p =
+      subst AllAre (sym p.3) (h.0 (length p.0), all_joined p.0 (all_weaker (Fits s) AllAre (λ part. all_fitting s part h.1) p.0 p.1))
+  all_fitting (sized name s) items h p = subst AllAre (sym p.3) (h.0 (length (zero_spelling p.0)), all_fitting s p.0 h.1 p.1)
+
+  all_in_row : (layout : Layout) (items : List Item) → RowHasParts IsEach layout → FitsLayout layout items → AllAre items
+  all_in_row (exactly s) items h p = all_fitting s items h p
+  all_in_row (rest name) items h p = subst AllAre (sym p.1) (h p.0, tt)
+  all_in_row (after s next) items h p = absurd h
+
+  pub all_in_message : (s : Shape) (next : List Item → Layout) (items : List Item) → HasParts IsEach s → ((front : List Item) → RowHasParts IsEach (next front)) → FitsLayout (after s next) items → AllAre items
+  all_in_message s next items h k p = subst AllAre (sym p.4) (all_append P p.0 p.1 (all_fitting s p.0 h p.2) (all_in_row (next p.0) p.1 (k p.0) p.3))
 
 -- ---- handles have at most 64 bytes
 
@@ -111,41 +157,16 @@ abbrev pub IsShort : Item → Type 0
 IsShort (Opaque Handle name bytes) = length bytes ≤ 64
 IsShort _ = ⊤
 
-pub all_append : {A : Type 0} (P : A → Type 0) (l m : List A) → AllByRecursion P l → AllByRecursion P m → AllByRecursion P (l ++ m)
-all_append P [] m h k = k
-all_append P (x ∷ l) m h k = (h.0, all_append P l m h.1 k)
-
-all_links : (name : List ℕ) (parts : List (List Item)) → AllByRecursion (AllByRecursion IsShort) parts → AllByRecursion IsShort (links name parts)
-all_links name [] h = tt
-all_links name (part ∷ parts) h = all_append IsShort (Word name 1 ∷ part) (links name parts) (tt, h.0) (all_links name parts h.1)
-
-all_joined : (parts : List (List Item)) → AllByRecursion (AllByRecursion IsShort) parts → AllByRecursion IsShort (joined parts)
-all_joined [] h = tt
-all_joined (part ∷ parts) h = all_append IsShort part (joined parts) h.0 (all_joined parts h.1)
-
-abbrev AreShort : List Item → Type 0
-AreShort items = AllByRecursion IsShort items
-
-pub handles_short : (s : Shape) (items : List Item) → HasRoom s → Fits s items → AllByRecursion IsShort items
-handles_short (choose name accepted reason next) items h p = subst AreShort (sym p.4) (tt, handles_short (next p.0) p.1 (h p.0) p.3)
-handles_short (hyper name) items h p = subst AreShort (sym p.1) (tt, tt)
-handles_short (fixed name) items h p = subst AreShort (sym p.1) (tt, tt)
-handles_short (write_verf name) items h p = subst AreShort (sym p.1) (tt, tt)
-handles_short (opaque Var name max) items h p = subst AreShort (sym p.2) (tt, tt)
-handles_short (opaque Text name max) items h p = subst AreShort (sym p.2) (tt, tt)
-handles_short (opaque Handle name max) items h p = subst AreShort (sym p.2) (omega (arith, h.1, p.1), tt)
-handles_short nothing items h p = subst AreShort (sym p) tt
-handles_short (both a b) items h p = subst AreShort (sym p.4) (all_append IsShort p.0 p.1 (handles_short a p.0 h.0 p.2) (handles_short b p.1 h.1 p.3))
-handles_short (linked name s) items h p =
-    subst AreShort (sym p.2) (all_append IsShort (links name p.0) (Word name 0 ∷ []) (all_links name p.0 (all_weaker (Fits s) AreShort (λ part. handles_short s part h) p.0 p.1)) (tt, tt))
-handles_short (counted name max s) items h p =
-    subst AreShort (sym p.3) (tt, all_joined p.0 (all_weaker (Fits s) AreShort (λ part. handles_short s part h) p.0 p.1))
-handles_short (sized name s) items h p = subst AreShort (sym p.3) (tt, handles_short s p.0 h.1 p.1)
-
-pub layout_short : (layout : Layout) (items : List Item) → LayoutHasRoom layout → FitsLayout layout items → AllByRecursion IsShort items
-layout_short (exactly s) items h p = handles_short s items h p
-layout_short (rest name) items h p = subst AreShort (sym p.1) (tt, tt)
-layout_short (after s next) items h p = subst AreShort (sym p.4) (all_append IsShort p.0 p.1 (handles_short s p.0 h.0 p.2) (layout_short (next p.0) p.1 (h.1 p.0) p.3))
+pub short_part : (part : Part) → HasRoom part → IsEach IsShort part
+short_part (opaque_part Handle name max) h = λ bytes le. omega (arith, h.1, le)
+short_part (opaque_part Var name max) h = λ bytes le. tt
+short_part (opaque_part Text name max) h = λ bytes le. tt
+short_part (word_part name reason) h = λ n. tt
+short_part (hyper_part name) h = λ n. tt
+short_part (fixed_part name) h = λ bytes. tt
+short_part (write_verf_part name) h = λ bytes. tt
+short_part (rest_part name) h = λ bytes. tt
+short_part (size_part name s) h = λ n. tt
 
 -- ---- spellings
 

@@ -13,9 +13,7 @@ pub mod CanonicalStreamLemmas
 pub mod Prefixes
 pub mod Places
 pub mod Kept
-pub mod Rooms
 pub mod Items
-pub mod Procedures
 pub mod Messages
 pub mod Conversations
 pub mod Conversing

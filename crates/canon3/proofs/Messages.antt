@@ -6,66 +6,33 @@ use Rattle.std.proofs.lemmas.List.{map-append}
 use Rattle.std.proofs.lemmas.Bool.Decides.{Decides-eqb}
 use Rattle.byteorder.specs.Numbers.{length-bytes_high_first}
 use Rattle.xdr3.specs.Item.{Item, Word, Hyper, Fixed, WriteVerf, Opaque, Rest, Var, Text, Handle, Spells, word_bytes, zero_spelling}
-use Rattle.xdr3.specs.Shape.{Shape, ◌then◌, both, nothing, opaque, word, listed, Fits}
+use Rattle.xdr3.specs.Shape.{Shape, ◌then◌, both, nothing, word, listed, Fits}
 use Rattle.xdr3.specs.Layout.{Layout, exactly, after, FitsLayout, number_of_word, word_in}
+use Rattle.xdr3.proofs.ShapeParts.{HasParts, Part, RowHasParts, parts_weaker, row_weaker}
 use Rattle.rpc_head.specs.declared.call.ProcId.{ProcId}
 use Rattle.rpc_head.specs.Names.{head_names}
 use Rattle.rpc_head.specs.Messages.{procedure_in, call_start, reply_start, call_layout, reply_layout, has_results}
-use Rattle.rpc_head.specs.Shapes.{call_head, reply_head, credential, auth_sys, parameters, gids, verifier, accept, deny, versions, auth_stats}
+use Rattle.rpc_head.specs.Shapes.{call_head, reply_head}
 use Rattle.procs3.specs.Table.{arguments_of, results_of}
+use Rattle.procs3.proofs.HeadParts.{call_head_parts, call_start_parts, reply_head_parts, reply_start_parts}
+use Rattle.procs3.proofs.ProcedureParts.{IsProtocolRow, arguments_have_parts, reply_has_parts}
+use Rattle.procs3.proofs.ProtocolParts.{AreProtocolParts, HasRoom, IsProtocolPart}
 use Rattle.canon3.specs.Rank.{rank}
 use Rattle.canon3.specs.Canonical.{numbered_item, numbered_message}
-use Rattle.canon3.proofs.Procedures.{arguments_have_room, layout_room_if, results_have_room, room_if}
-use Rattle.canon3.proofs.Rooms.{HasNoName, HasRoom, LayoutHasRoom}
 use Rattle.canon3.specs.Pairing.{Member}
 use Rattle.canon3.proofs.RankLemmas.{rank-le-length}
-use Rattle.canon3.proofs.Items.{spells_numbered, shorter_numbered, fits_numbered, layout_numbered, handles_short, layout_short, IsShort, all_append}
+use Rattle.canon3.proofs.Items.{spells_numbered, shorter_numbered, fits_numbered, row_numbered, all_in_message, short_part, IsEach, IsShort}
 
--- ---- heads
+-- ---- rooms
 
-verifier_room : HasRoom verifier
-unfolding verifier
-verifier_room = λ n. tt
+shape_room : (s : Shape) → AreProtocolParts s → HasParts HasRoom s
+shape_room s h = parts_weaker IsProtocolPart HasRoom (λ part is. is.room) s h
 
-gids_no_name : HasNoName gids
-unfolding gids
-gids_no_name = λ n. tt
+row_room : (layout : Layout) → IsProtocolRow layout → RowHasParts HasRoom layout
+row_room layout h = row_weaker IsProtocolPart HasRoom (λ part is. is.room) layout h
 
-parameters_no_name : HasNoName parameters
-unfolding parameters
-parameters_no_name = ((λ n. tt), (tt, ((λ n. tt), ((λ n. tt), gids_no_name))))
-
-gids_room : HasRoom gids
-unfolding gids
-gids_room = λ n. tt
-
-parameters_room : HasRoom parameters
-unfolding parameters
-parameters_room = ((λ n. tt), (tt, ((λ n. tt), ((λ n. tt), gids_room))))
-
-auth_sys_room : HasRoom auth_sys
-unfolding auth_sys
-auth_sys_room = (parameters_no_name, parameters_room)
-
-credential_room : HasRoom credential
-unfolding credential
-credential_room = λ n. room_if (nat_eq n 0) (opaque Var head_names.cred_body 400) auth_sys tt auth_sys_room
-
-call_head_room : HasRoom call_head
-unfolding call_head
-call_head_room = λ n. ((λ m. tt), ((λ m. tt), ((λ m. tt), (credential_room, verifier_room))))
-
-accept_room : HasRoom accept
-unfolding accept
-accept_room = λ n. room_if (nat_eq n 2) versions nothing ((λ m. tt), (λ m. tt)) tt
-
-deny_room : HasRoom deny
-unfolding deny
-deny_room = λ n. room_if (nat_eq n 0) versions (listed head_names.auth_stat auth_stats) ((λ m. tt), (λ m. tt)) (λ m. tt)
-
-reply_head_room : HasRoom reply_head
-unfolding reply_head
-reply_head_room = λ n. room_if (nat_eq n 0) (verifier then accept) deny (verifier_room, accept_room) deny_room
+call_head_room : HasParts HasRoom call_head
+call_head_room = call_head_parts HasRoom (λ part is. is.room) tt
 
 -- ---- words under numbers
 
@@ -130,7 +97,7 @@ module _ (name : List ℕ) (s t : Shape) (next : List Item → Layout) where
     h.is,
   )
 
-  pub headed_numbered : (hs vs : List (List ℕ)) (xs : List ℕ) (items : List Item) → HasRoom s → HasRoom t → ((l : List Item) → LayoutHasRoom (next l)) → ((m n : ℕ) (l : List Item) → next (Word name m ∷ map (numbered_item hs vs) l) ≡ next (Word name n ∷ l))
+  pub headed_numbered : (hs vs : List (List ℕ)) (xs : List ℕ) (items : List Item) → HasParts HasRoom s → HasParts HasRoom t → ((l : List Item) → RowHasParts HasRoom (next l)) → ((m n : ℕ) (l : List Item) → next (Word name m ∷ map (numbered_item hs vs) l) ≡ next (Word name n ∷ l))
       → IsHeaded items → IsHeaded (numbered_message hs vs xs items)
   headed_numbered hs vs xs items s_room t_room rooms blind h =
       let f = numbered_item hs vs in
@@ -144,18 +111,9 @@ module _ (name : List ℕ) (s t : Shape) (next : List Item → Layout) where
         start_fits = fits_numbered hs vs s h.start s_room h.start_fits;
         head_fits = fits_numbered hs vs t h.head t_room h.head_fits;
         back_fits = subst (λ layout. FitsLayout layout (map f h.back)) (sym (blind number h.number (h.start ++ h.head)) ∙ ap (λ (l : List Item). next (Word name number ∷ l)) parts)
-            (layout_numbered hs vs (next (Word name h.number ∷ (h.start ++ h.head))) h.back (rooms (Word name h.number ∷ (h.start ++ h.head))) h.back_fits);
+            (row_numbered hs vs (next (Word name h.number ∷ (h.start ++ h.head))) h.back (rooms (Word name h.number ∷ (h.start ++ h.head))) h.back_fits);
         is = ap (numbered_message hs vs xs) h.is ∙ ap (λ (l : List Item). Word name number ∷ l) (map-append f (h.start ++ h.head) h.back ∙ ap (λ (l : List Item). l ++ map f h.back) parts);
       }
-
-  pub headed_short : (items : List Item) → HasRoom s → HasRoom t → ((l : List Item) → LayoutHasRoom (next l)) → IsHeaded items → AllByRecursion IsShort items
-  headed_short items s_room t_room rooms h =
-      subst (AllByRecursion IsShort) (sym h.is) (
-        tt,
-        all_append IsShort (h.start ++ h.head) h.back
-            (all_append IsShort h.start h.head (handles_short s h.start s_room h.start_fits) (handles_short t h.head t_room h.head_fits))
-            (layout_short (next (Word name h.number ∷ (h.start ++ h.head))) h.back (rooms (Word name h.number ∷ (h.start ++ h.head))) h.back_fits),
-      )
 
 -- ---- calls and replies
 
@@ -202,20 +160,44 @@ results_under hs vs m n l = rw (words_under hs vs l 1, words_under hs vs l 4) re
 pub call_numbered : (hs vs : List (List ℕ)) (xs : List ℕ) (items : List Item) → FitsCall items → FitsCall (numbered_message hs vs xs items)
 call_numbered hs vs xs items p =
     headed_call_fits (numbered_message hs vs xs items)
-    (headed_numbered head_names.xid (listed head_names.mtype (0 ∷ [])) call_head call_next hs vs xs items (λ n. tt) call_head_room (λ l. arguments_have_room (procedure_in l)) (λ m n l. ap arguments_of (procedure_under hs vs m n l)) (is_headed_call items p))
+    (headed_numbered head_names.xid (listed head_names.mtype (0 ∷ [])) call_head call_next hs vs xs items (tt, λ n. tt) call_head_room (λ l. row_room (call_next l) (arguments_have_parts (procedure_in l))) (λ m n l. ap arguments_of (procedure_under hs vs m n l)) (is_headed_call items p))
 
 pub reply_numbered : (hs vs : List (List ℕ)) (xs : List ℕ) (id : ProcId) (items : List Item) → FitsReply id items → FitsReply id (numbered_message hs vs xs items)
 reply_numbered hs vs xs id items p =
     headed_reply_fits id (numbered_message hs vs xs items)
-    (headed_numbered head_names.xid (listed head_names.mtype (1 ∷ [])) reply_head (reply_next id) hs vs xs items (λ n. tt) reply_head_room
-    (λ l. layout_room_if (has_results l) (results_of id) (exactly nothing) (results_have_room id) tt) (λ m n l. ap (λ b. if b then results_of id else exactly nothing) (results_under hs vs m n l)) (is_headed_reply id items p))
+    (headed_numbered head_names.xid (listed head_names.mtype (1 ∷ [])) reply_head (reply_next id) hs vs xs items (tt, λ n. tt) (shape_room reply_head reply_head_parts)
+    (λ l. row_room (reply_next id l) (reply_has_parts id l)) (λ m n l. ap (λ b. if b then results_of id else exactly nothing) (results_under hs vs m n l)) (is_headed_reply id items p))
+
+-- ---- what is so of each item of a message
+
+module _ (P : Item → Type 0) (each : (part : Part) → IsProtocolPart part → IsEach P part) where
+  each_fitting : (s : Shape) → AreProtocolParts s → HasParts (IsEach P) s
+  each_fitting s h = parts_weaker IsProtocolPart (IsEach P) each s h
+
+  each_in_row : (layout : Layout) → IsProtocolRow layout → RowHasParts (IsEach P) layout
+  each_in_row layout h = row_weaker IsProtocolPart (IsEach P) each layout h
+
+  pub each_of_call : ((version : ℕ) → P (Word head_names.rpcvers version)) → (items : List Item) → FitsCall items → AllByRecursion P items
+  unfolding call_layout
+  each_of_call version items p =
+      all_in_message P (call_start then call_head) call_next items
+      (each_fitting call_start call_start_parts, call_head_parts (IsEach P) each version)
+      (λ front. each_in_row (call_next front) (arguments_have_parts (procedure_in front))) p
+
+  pub each_of_reply : (id : ProcId) (items : List Item) → FitsReply id items → AllByRecursion P items
+  unfolding reply_layout
+  each_of_reply id items p =
+      all_in_message P (reply_start then reply_head) (reply_next id) items (each_fitting (reply_start then reply_head) (reply_start_parts, reply_head_parts))
+      (λ front. each_in_row (reply_next id front) (reply_has_parts id front)) p
+
+each_short : (part : Part) → IsProtocolPart part → IsEach IsShort part
+each_short part is = short_part part is.room
 
 pub call_short : (items : List Item) → FitsCall items → AllByRecursion IsShort items
-call_short items p = headed_short head_names.xid (listed head_names.mtype (0 ∷ [])) call_head call_next items (λ n. tt) call_head_room (λ l. arguments_have_room (procedure_in l)) (is_headed_call items p)
+call_short items p = each_of_call IsShort each_short (λ version. tt) items p
 
 pub reply_short : (id : ProcId) (items : List Item) → FitsReply id items → AllByRecursion IsShort items
-reply_short id items p =
-    headed_short head_names.xid (listed head_names.mtype (1 ∷ [])) reply_head (reply_next id) items (λ n. tt) reply_head_room (λ l. layout_room_if (has_results l) (results_of id) (exactly nothing) (results_have_room id) tt) (is_headed_reply id items p)
+reply_short id items p = each_of_reply IsShort each_short id items p
 
 -- ---- what begins with a word
 

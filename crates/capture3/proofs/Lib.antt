@@ -40,6 +40,5 @@ pub mod FileRules
 pub mod ReachedMore
 pub mod WholeFiles
 pub mod EntriesLemmas
-mod ProcedureReasons
 mod MessageReasons
 pub mod Placed

@@ -2,7 +2,6 @@
 pub mod ListingLemmas
 pub mod LineLemmas
 pub mod NamedItems
-pub mod NamedShapes
 pub mod Rooms
 pub mod Texts
 pub mod LineTexts

@@ -2,8 +2,6 @@
 use Rattle.std.proofs.Common.{◌≡◌, ◌≢◌, ◌≤◌, ℕ, zero, suc, ◌+◌, List, [], ◌∷◌, ◌++◌, length, refl, sym, ap, ◌∙◌, append_assoc, append-nil, length-append, arith}
 use Rattle.std.specs.List.{AllByRecursion}
 use Rattle.xdr3.specs.Item.{Item, Word, zero_spelling}
-use Rattle.rpc_head.specs.Messages.{call_layout, reply_layout}
-use Rattle.procs3.specs.Table.{arguments_of, results_of}
 use Rattle.capture3.specs.Bodies.{ReplyItems}
 use Rattle.capture3.specs.Chunks.{max_bytes}
 use Rattle.capture3.specs.Entry.{Entry, Begin, Turn, Close, End}
@@ -18,8 +16,7 @@ use Rattle.listing3.specs.Laws.{AreEqualUpToSilence, silent}
 use Rattle.listing3.specs.Listing.{lines_after, shown}
 use Rattle.listing3.proofs.LineTexts.{all_text, IsTold, IsToldConversation, IsToldReply, lines_all, quiet, same_text}
 use Rattle.listing3.proofs.ListingLemmas.{lines-append}
-use Rattle.listing3.proofs.NamedItems.{layout_named}
-use Rattle.listing3.proofs.NamedShapes.{calls_have_names, replies_have_names}
+use Rattle.listing3.proofs.NamedItems.{call_named, reply_named}
 use Rattle.listing3.proofs.Texts.{spellable}
 
 -- ---- messages
@@ -31,14 +28,14 @@ begins_some items b e =
 
 told_call : (items : List Item) → IsSpelledCall items → IsTold items
 told_call items h = record {
-  are_named = layout_named (call_layout arguments_of) items calls_have_names h.0.0;
+  are_named = call_named items h.0.0;
   spell = spellable items (zero_spelling items) h.0.1;
   some = begins_some items (call_begins items h.0.0);
 }
 
 told_reply : (r : ReplyItems) → IsSpelledReply r → IsTold r.items
 told_reply r h = record {
-  are_named = layout_named (reply_layout (results_of r.id)) r.items (replies_have_names r.id) h.0.0;
+  are_named = reply_named r.id r.items h.0.0;
   spell = spellable r.items (zero_spelling r.items) h.0.1;
   some = begins_some r.items (reply_begins r.id r.items h.0.0);
 }

@@ -1,1 +1,4 @@
 pub mod ShapeTailLemmas
+pub mod ProtocolParts
+pub mod ProcedureParts
+pub mod HeadParts

@@ -1,4 +1,4 @@
--- For which reasons bytes are refused that a shape or a layout does not read.
+-- For which reasons bytes are refused that a shape or a row does not read.
 use Rattle.std.proofs.Common.{◌≡◌, ◌<◌, inl, inr, ℕ, Bool, List, length, subst, sym}
 use Rattle.std.specs.Prelude.{⊤}
 use Rattle.xdr3.specs.declared.reason.Reason.{Reason}
@@ -7,6 +7,7 @@ use Rattle.xdr3.specs.Item.{Item}
 use Rattle.xdr3.specs.Layout.{Layout, exactly, rest, after, RefusesLayout}
 use Rattle.xdr3.specs.Reason.{in_window}
 use Rattle.xdr3.specs.Shape.{Shape, choose, hyper, fixed, write_verf, opaque, nothing, both, linked, counted, sized, Refusal, IsShort, Then, RefusesWord, RefusesLink, RefusesWindow, Refuses}
+use Rattle.xdr3.proofs.ShapeParts.{HasParts, Part, RowHasParts, word_part}
 
 -- an item may be refused for this reason, wherever it stands in a message
 abbrev pub IsOfItem : Reason → Type 0
@@ -18,24 +19,9 @@ IsOfItem Flavor = ⊤
 IsOfItem AuthLength = ⊤
 IsOfItem _ = ⊥
 
--- each word of the shape that is not accepted has such a reason
-abbrev pub HasItemReasons : Shape → Type 0
-HasItemReasons (choose name accepted reason next) = IsOfItem reason × ((n : ℕ) → HasItemReasons (next n))
-HasItemReasons (hyper name) = ⊤
-HasItemReasons (fixed name) = ⊤
-HasItemReasons (write_verf name) = ⊤
-HasItemReasons (opaque kind name max) = ⊤
-HasItemReasons nothing = ⊤
-HasItemReasons (both a b) = HasItemReasons a × HasItemReasons b
-HasItemReasons (linked name s) = HasItemReasons s
-HasItemReasons (counted name max s) = HasItemReasons s
-HasItemReasons (sized name s) = HasItemReasons s
-
--- so has each shape of the layout
-abbrev pub LayoutHasItemReasons : Layout → Type 0
-LayoutHasItemReasons (exactly shape) = HasItemReasons shape
-LayoutHasItemReasons (rest name) = ⊤
-LayoutHasItemReasons (after shape next) = HasItemReasons shape × ((items : List Item) → LayoutHasItemReasons (next items))
+abbrev pub HasItemReason : Part → Type 0
+HasItemReason (word_part name reason) = IsOfItem reason
+HasItemReason _ = ⊤
 
 -- ---- bytes are refused for such a reason
 
@@ -85,7 +71,7 @@ window_for len Fitting Refused f bytes at reason (inl p) = short_for len bytes a
 window_for len Fitting Refused f bytes at reason (inr (window, left, split, size, inl p)) = subst IsOfItem (sym p.2) (window_reason p.0 (f window at p.0 p.1))
 window_for len Fitting Refused f bytes at reason (inr (window, left, split, size, inr p)) = then_for Fitting _ left_over_for window at reason p
 
-pub refused_for : (shape : Shape) → HasItemReasons shape → IsForItems (Refuses shape)
+pub refused_for : (shape : Shape) → HasParts HasItemReason shape → IsForItems (Refuses shape)
 refused_for (choose name accepted other next) h bytes at reason (inl p) = word_for accepted other h.0 bytes at reason p
 refused_for (choose name accepted other next) h bytes at reason (inr (n, is, p)) = then_for _ _ (refused_for (next n) (h.1 n)) bytes at reason p
 refused_for (hyper name) h bytes at reason p = short_for 8 bytes at reason p
@@ -96,14 +82,13 @@ refused_for (opaque kind name max) h bytes at reason (inr (n, is, p)) = then_for
 refused_for nothing h bytes at reason p = absurd p
 refused_for (both a b) h bytes at reason (inl p) = refused_for a h.0 bytes at reason p
 refused_for (both a b) h bytes at reason (inr p) = then_for _ _ (refused_for b h.1) bytes at reason p
-refused_for (linked name s) h bytes at reason p = then_for _ _ (link_for name (Refuses s) (refused_for s h)) bytes at reason p
+refused_for (linked name s) h bytes at reason p = then_for _ _ (link_for name (Refuses s) (refused_for s h.1)) bytes at reason p
 refused_for (counted name max s) h bytes at reason (inl p) = word_for _ TooLong tt bytes at reason p
-refused_for (counted name max s) h bytes at reason (inr (n, is, p)) = then_for _ _ (refused_for s h) bytes at reason p
+refused_for (counted name max s) h bytes at reason (inr (n, is, p)) = then_for _ _ (refused_for s h.1) bytes at reason p
 refused_for (sized name s) h bytes at reason (inl p) = word_for _ TooLong tt bytes at reason p
-refused_for (sized name s) h bytes at reason (inr (n, is, p)) = then_for _ _ (window_for n _ _ (refused_for s h)) bytes at reason p
+refused_for (sized name s) h bytes at reason (inr (n, is, p)) = then_for _ _ (window_for n _ _ (refused_for s h.1)) bytes at reason p
 
-pub layout_refused_for : (layout : Layout) → LayoutHasItemReasons layout → IsForItems (RefusesLayout layout)
-layout_refused_for (exactly shape) h bytes at reason p = refused_for shape h bytes at reason p
-layout_refused_for (rest name) h bytes at reason p = absurd p
-layout_refused_for (after shape next) h bytes at reason (inl p) = refused_for shape h.0 bytes at reason p
-layout_refused_for (after shape next) h bytes at reason (inr (front, fits, p)) = then_for _ _ (layout_refused_for (next front) (h.1 front)) bytes at reason p
+pub row_refused_for : (layout : Layout) → RowHasParts HasItemReason layout → IsForItems (RefusesLayout layout)
+row_refused_for (exactly shape) h bytes at reason p = refused_for shape h bytes at reason p
+row_refused_for (rest name) h bytes at reason p = absurd p
+row_refused_for (after shape next) h bytes at reason p = absurd h

@@ -1,0 +1,63 @@
+-- What is so of each part of a shape.
+use Rattle.std.proofs.Common.{ℕ, Bool, true, false, List}
+use Rattle.std.specs.Prelude.{⊤, if◌then◌else◌}
+use Rattle.xdr3.specs.declared.reason.Reason.{Reason}
+use Rattle.xdr3.specs.declared.reason.Reason.TheVariants.{BadBool, TooLong}
+use Rattle.xdr3.specs.Item.{Kind}
+use Rattle.xdr3.specs.Layout.{Layout, exactly, rest, after}
+use Rattle.xdr3.specs.Shape.{Shape, choose, hyper, fixed, write_verf, opaque, nothing, both, linked, counted, sized}
+
+-- what stands for one item of a value, under its name
+pub data Part : Type 0 where
+  -- a word, and the reason for which it is refused
+  word_part : List ℕ → Reason → Part
+  hyper_part fixed_part write_verf_part rest_part : List ℕ → Part
+  -- bytes, at most the number
+  opaque_part : Kind → List ℕ → ℕ → Part
+  -- a word that is the number of bytes of the shape
+  size_part : List ℕ → Shape → Part
+
+module _ (P : Part → Type 0) where
+  abbrev pub HasParts : Shape → Type 0
+  HasParts (choose name accepted reason next) = P (word_part name reason) × ((n : ℕ) → HasParts (next n))
+  HasParts (hyper name) = P (hyper_part name)
+  HasParts (fixed name) = P (fixed_part name)
+  HasParts (write_verf name) = P (write_verf_part name)
+  HasParts (opaque kind name max) = P (opaque_part kind name max)
+  HasParts nothing = ⊤
+  HasParts (both a b) = HasParts a × HasParts b
+  HasParts (linked name s) = P (word_part name BadBool) × HasParts s
+  HasParts (counted name max s) = P (word_part name TooLong) × HasParts s
+  HasParts (sized name s) = P (size_part name s) × HasParts s
+
+  -- a layout that is one shape or a rest, as each row of the table of procedures is
+  abbrev pub RowHasParts : Layout → Type 0
+  RowHasParts (exactly shape) = HasParts shape
+  RowHasParts (rest name) = P (rest_part name)
+  RowHasParts (after shape next) = ⊥
+
+  pub parts_if : (b : Bool) (s t : Shape) → HasParts s → HasParts t → HasParts (if b then s else t)
+  parts_if true s t h k = h
+  parts_if false s t h k = k
+
+  pub row_if : (b : Bool) (s t : Layout) → RowHasParts s → RowHasParts t → RowHasParts (if b then s else t)
+  row_if true s t h k = h
+  row_if false s t h k = k
+
+module _ (P Q : Part → Type 0) (weaker : (part : Part) → P part → Q part) where
+  pub parts_weaker : (s : Shape) → HasParts P s → HasParts Q s
+  parts_weaker (choose name accepted reason next) h = (weaker (word_part name reason) h.0, λ n. parts_weaker (next n) (h.1 n))
+  parts_weaker (hyper name) h = weaker (hyper_part name) h
+  parts_weaker (fixed name) h = weaker (fixed_part name) h
+  parts_weaker (write_verf name) h = weaker (write_verf_part name) h
+  parts_weaker (opaque kind name max) h = weaker (opaque_part kind name max) h
+  parts_weaker nothing h = tt
+  parts_weaker (both a b) h = (parts_weaker a h.0, parts_weaker b h.1)
+  parts_weaker (linked name s) h = (weaker (word_part name BadBool) h.0, parts_weaker s h.1)
+  parts_weaker (counted name max s) h = (weaker (word_part name TooLong) h.0, parts_weaker s h.1)
+  parts_weaker (sized name s) h = (weaker (size_part name s) h.0, parts_weaker s h.1)
+
+  pub row_weaker : (layout : Layout) → RowHasParts P layout → RowHasParts Q layout
+  row_weaker (exactly shape) h = parts_weaker shape h
+  row_weaker (rest name) h = weaker (rest_part name) h
+  row_weaker (after shape next) h = absurd h
