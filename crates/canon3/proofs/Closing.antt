@@ -12,10 +12,9 @@ use Rattle.capture3.specs.Typed.{IsIn, reply_entry, Typed}
 use Rattle.capture3.proofs.BytesOf.{AreBytes-nil, AreBytes-append, AreBytes-front, all_bytes, checked}
 use Rattle.capture3.proofs.Verdicts.{verdict_from_typed, verdict_from_fault, is_cut_short}
 use Rattle.canon3.specs.Bytes.{record_bytes, message_bytes, entry_bytes, bytes_of}
-use Rattle.canon3.proofs.RenamingLemmas.{all_mapped}
-use Rattle.canon3.proofs.Items.{all_append, are_bytes_of_number, spellings_are_bytes}
+use Rattle.canon3.proofs.Items.{are_bytes_of_number, spellings_are_bytes}
 use Rattle.canon3.proofs.Conversations.{stream_of, Conversation, reply_items, items_of_reply, IsSpelledCall, IsSpelledReply, AreConversing}
-use Rattle.canon3.proofs.Files.{all_of, total_weight, AreCapture, all_regrouped, typed_anew}
+use Rattle.canon3.proofs.Files.{all_of, total_weight, AreCapture, all_entries, all_regrouped, typed_anew}
 
 -- ---- fronts of joined lists
 
@@ -181,16 +180,7 @@ reply_bytes : (r : ReplyItems) → IsSpelledReply r → HasBytes (reply_entry r)
 reply_bytes r s = message_are_bytes r.items (spellings_are_bytes r.items (zero_spelling r.items) s.0.1)
 
 entries_have_bytes : (cs : List Conversation) → AllByRecursion AreConversing cs → AllByRecursion HasBytes (all_of cs)
-entries_have_bytes [] h = (word_are_bytes 0, tt)
-entries_have_bytes (c ∷ cs) h =
-    subst (AllByRecursion HasBytes) (sym (all_regrouped c cs)) (
-      word_are_bytes 1,
-      all_append HasBytes (map Call c.calls) (Turn ∷ (map reply_entry c.replies ++ (Close ∷ all_of cs))) (all_mapped IsSpelledCall HasBytes Call call_bytes c.calls h.0.calls_are) (
-        word_are_bytes 0,
-        all_append HasBytes (map reply_entry c.replies) (Close ∷ all_of cs) (all_mapped IsSpelledReply HasBytes reply_entry reply_bytes c.replies h.0.replies_are)
-            (word_are_bytes 0, entries_have_bytes cs h.1),
-      ),
-    )
+entries_have_bytes = all_entries HasBytes call_bytes reply_bytes (word_are_bytes 1) (word_are_bytes 0) (word_are_bytes 0) (word_are_bytes 0)
 
 joined_are_bytes : (es : List Entry) → AllByRecursion HasBytes es → AreBytes (flat_map entry_bytes es)
 joined_are_bytes [] h = AreBytes-nil

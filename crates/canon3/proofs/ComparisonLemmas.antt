@@ -43,6 +43,7 @@ use Rattle.canon3.proofs.AgreementLemmas.{agree_more, differ_here, mark_alike, n
 use Rattle.canon3.proofs.First.{same_from_bytes}
 use Rattle.canon3.proofs.Reaching.{first_reached}
 use Rattle.canon3.proofs.ProgressLemmas.{place_is}
+use Rattle.canon3.proofs.SummaryLemmas.{first_fault}
 use Rattle.canon3.proofs.Visiting.{told_after-append}
 
 -- ---- an entry of each
@@ -82,19 +83,8 @@ module _ {S H : Type 0} (comparison : Comparison S H) (a b : List Entry) (n : Me
 
 -- ---- what a reader answers
 
-rest_of : (file given : List ℕ) (left : Option (List ℕ)) → Consumes (Some file) left given → (rest : List ℕ) × (left ≡ Some rest) × (file ≡ given ++ rest)
-rest_of file given None consumed = absurd consumed
-rest_of file given (Some rest) consumed = (rest, refl, consumed)
-
 pub met_refused : (file given : List ℕ) (handed : List Entry) (left : Option (List ℕ)) (error : Error) → Consumes (Some file) left given → IsMetBy error left given handed → SaysOfFile file error
-met_refused file given handed left (errors.Refused fault) consumed met =
-    let (rest, is, whole) = rest_of file given left consumed in
-    ⊎_elim
-    (λ (shown : (more : List ℕ) → FirstFault (given ++ more) fault × Reached (given ++ more) handed). rw whole (shown rest).0)
-    (λ (shown : IsAtEnd left × FirstFault given fault × Reached given handed).
-    let all : given ≡ file = Consumes-all (Some file) left given [] given consumed shown.0 refl in
-    subst (λ (l : List ℕ). FirstFault l fault) all shown.1)
-    met
+met_refused file given handed left (errors.Refused fault) consumed met = first_fault file given handed left fault consumed met
 met_refused file given handed left errors.Read consumed met = tt
 met_refused file given handed left errors.Write consumed met = tt
 met_refused file given handed left errors.Memory consumed met = tt
@@ -140,14 +130,6 @@ module _ {R S H V : Type 0} {builds : BuildHasher.Ghosts S H} {hashes : Hasher.G
 module _ {R S H : Type 0} {builds : BuildHasher.Ghosts S H} {hashes : Hasher.Ghosts H} (left : R → Option (List ℕ)) (file : List ℕ) (reader : Entries R S H builds hashes) (handed : List Entry) where
   pub given_on : HasGiven left file reader handed → HasGivenOn left file reader handed
   given_on h = record { more = []; all = subst (HasGiven left file reader) (sym (append-nil handed)) h }
-
-  pub is_read_out : (more : Bool) → more ≡ false → ReadsOn left file reader handed (Ok more) → (rest : List Entry) × Typed file (handed ++ rest)
-  is_read_out false ends done = done
-  is_read_out true ends done = absurd (cc)
-
-pub passed_on : (file : List ℕ) (handed : List Entry) (error : Error) (result : Result (Unit {0}) Error) → IsErr result × IsErrAnd result (λ e. e ≡ error) → SaysOfFile file error → IsReadOut file handed result
-passed_on file handed error (Ok x) (bad, is) met = absurd is
-passed_on file handed error (Err e) (bad, is) met = subst (SaysOfFile file) (sym is) met
 
 -- the next entry was handed out, if there is one
 pub read_on : {R S H V : Type 0} {builds : BuildHasher.Ghosts S H} {hashes : Hasher.Ghosts H} (left : R → Option (List ℕ)) (stands : V → List Item → Type 0) (file : List ℕ) (old new : Entries R S H builds hashes) (was now : V) (handed : List Entry) (h : HasGivenOn left file old handed) (next : Option Kind) → Hands left stands file old new was now (handed ++ h.more) (Ok next) → ReadsOn left file new handed (Ok (is_some next))

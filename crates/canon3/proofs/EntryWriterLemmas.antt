@@ -53,7 +53,3 @@ module _ (form : List Entry → List ℕ) (prefixes : KeepsPrefixes form) where
     written_goes_on given handed one (Err errors.Write) more error consumed reached reads cut = record { given = given; consumed = consumed; stopped = cut_reached old new given (handed ++ one ∷ []) reached cut }
     written_goes_on given handed one (Err errors.Read) more error consumed reached reads cut = ⊎_elim (λ e. absurd (cc)) (λ e. absurd (cc)) error
     written_goes_on given handed one (Err (errors.Refused fault)) more error consumed reached reads cut = ⊎_elim (λ e. absurd (cc)) (λ e. absurd (cc)) error
-
-    pub is_done : (more : Bool) → more ≡ false → WritesOn form before stands going left first old reader writer passed new (Ok more) → HasWrittenAll form before stands going left first old reader writer passed new
-    is_done false ends done = done
-    is_done true ends done = absurd (cc)

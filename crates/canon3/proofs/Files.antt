@@ -16,8 +16,9 @@ use Rattle.canon3.specs.Values.{xid_of, call_xids, handles, verifiers}
 use Rattle.canon3.specs.Bytes.{message_bytes, entry_bytes, bytes_of}
 use Rattle.canon3.specs.Canonical.{numbered_message, numbered, canonical}
 use Rattle.canon3.specs.Laws.{AreOfTheirBytes}
-use Rattle.canon3.proofs.RenamingLemmas.{all_weaker}
-use Rattle.canon3.proofs.Conversations.{chunks_of, IsSmall, is_stream, Conversation, items_of_reply, reply_items, IsSpelledCall, AreConversing, weight, streams_of}
+use Rattle.canon3.proofs.RenamingLemmas.{all_mapped, all_weaker}
+use Rattle.canon3.proofs.Items.{all_append}
+use Rattle.canon3.proofs.Conversations.{chunks_of, IsSmall, is_stream, Conversation, items_of_reply, reply_items, IsSpelledCall, IsSpelledReply, AreConversing, weight, streams_of}
 use Rattle.canon3.proofs.Conversing.{conversing, conversing_weight, converses_anew, small_items, xids_of, length_of_xids, numbered_reply, numbered_conversation, conversing_numbered, weight_numbered}
 
 -- ---- the entries of conversations
@@ -190,6 +191,16 @@ own_xids c cs =
 
 pub all_regrouped : (c : Conversation) (cs : List Conversation) → all_of (c ∷ cs) ≡ Begin ∷ (map Call c.calls ++ (Turn ∷ (map reply_entry c.replies ++ (Close ∷ all_of cs))))
 all_regrouped c cs = append_assoc (connection_entries c.calls c.replies) (entries_of cs) (End ∷ []) ∙ regrouped (map Call c.calls) (map reply_entry c.replies) (all_of cs)
+
+-- what holds of each message, and of each other entry, holds of all
+module _ (P : Entry → Type 0) (call : (m : List Item) → IsSpelledCall m → P (Call m)) (reply : (r : ReplyItems) → IsSpelledReply r → P (reply_entry r)) (begin : P Begin) (turn : P Turn) (close : P Close) (end : P End) where
+  pub all_entries : (cs : List Conversation) → AllByRecursion AreConversing cs → AllByRecursion P (all_of cs)
+  all_entries [] h = (end, tt)
+  all_entries (c ∷ cs) h =
+      subst (AllByRecursion P) (sym (all_regrouped c cs))
+      (begin, all_append P (map Call c.calls) (Turn ∷ (map reply_entry c.replies ++ (Close ∷ all_of cs))) (all_mapped IsSpelledCall P Call call c.calls h.0.calls_are)
+      (turn, all_append P (map reply_entry c.replies) (Close ∷ all_of cs) (all_mapped IsSpelledReply P reply_entry reply c.replies h.0.replies_are)
+      (close, all_entries cs h.1)))
 
 module _ (hs vs : List (List ℕ)) where
   numbered-calls : (xs : List ℕ) (calls : List (List Item)) (tail : List Entry) → numbered hs vs xs (map Call calls ++ tail) ≡ map Call (map (numbered_message hs vs xs) calls) ++ numbered hs vs xs tail

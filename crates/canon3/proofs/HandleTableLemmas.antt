@@ -1,6 +1,6 @@
 -- Tables that gather the handles of items.
-use Rattle.std.proofs.Common.{◌≡◌, ◌≢◌, ℕ, ◌+◌, Bool, true, false, List, [], ◌∷◌, ◌++◌, drop, length, map, refl, sym, ap, ◌∙◌, append-nil, ◌≤◌, Result, Ok, Err, arith}
-use Rattle.std.specs.Prelude.{bytes_eq, if◌then◌else◌, ◌||◌, OnOk}
+use Rattle.std.proofs.Common.{◌≡◌, ◌≢◌, ℕ, ◌+◌, Bool, true, false, List, [], ◌∷◌, ◌++◌, drop, length, map, refl, sym, ap, ◌∙◌, append-nil, ◌≤◌, arith}
+use Rattle.std.specs.Prelude.{bytes_eq, if◌then◌else◌, ◌||◌}
 use Rattle.std.specs.List.{list_any}
 use Rattle.std.proofs.lemmas.List.{length-map, map-append}
 use Rattle.std.proofs.lemmas.Grind.{flat_map-append}
@@ -92,10 +92,6 @@ handles_of_all (entry ∷ entries) =
     flat_map-append handle_in (items_of entry) (all_items entries) ∙ ap (λ (l : List (List ℕ)). handles_in (items_of entry) ++ l) (handles_of_all entries)
 
 -- ---- of one message
-
-pub still_ok : {T E : Type 0} {P Q : Type 0} (r : Result T E) → (P → Q) → OnOk r P → OnOk r Q
-still_ok (Ok x) f p = f p
-still_ok (Err e) f p = p
 
 -- what was read can be walked
 pub within_limit : (items : List Item) (body : List ℕ) → Spells items body → length body ≤ max_body → AreWithinLimit items

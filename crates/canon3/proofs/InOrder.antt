@@ -6,18 +6,18 @@ use Rattle.capture3.specs.Bodies.{ReplyItems, xid_in}
 use Rattle.capture3.specs.Chunks.{max_bytes}
 use Rattle.capture3.specs.Entry.{Entry, Begin, Call, Turn, Reply, Close, End, items_of}
 use Rattle.capture3.specs.Laws.{spelled}
-use Rattle.capture3.specs.Typed.{IsIn, reply_entry, connection_entries, Typed}
+use Rattle.capture3.specs.Typed.{IsIn, reply_entry, Typed}
 use Rattle.capture3.proofs.Limits.{typed_within}
 use Rattle.canon3.specs.Values.{handles_in, verifiers_in, xid_of}
 use Rattle.canon3.specs.Pairing.{Member, IsHandle, IsVerifier}
 use Rattle.canon3.proofs.Order.{BeginsWithXid, IsAnswering, Between, InCalls, InReplies, Over, begin, call, turn, reply, close, end, Runs, stays, steps, IsWellFormed}
 use Rattle.canon3.proofs.RankLemmas.{member-append_cases}
-use Rattle.canon3.proofs.RenamingLemmas.{all_mapped, all_weaker}
-use Rattle.canon3.proofs.Items.{IsShort, all_append, handles_are, verifiers_are, few_handles, few_verifiers}
+use Rattle.canon3.proofs.RenamingLemmas.{all_weaker}
+use Rattle.canon3.proofs.Items.{IsShort, handles_are, verifiers_are, few_handles, few_verifiers}
 use Rattle.canon3.proofs.Messages.{BeginsWithWord, call_begins, reply_begins, call_short, reply_short}
 use Rattle.canon3.proofs.Conversations.{all_in, of_all, Conversation, IsSpelledCall, IsSpelledReply, AreConversing}
 use Rattle.canon3.proofs.Conversing.{xids_of, reply_known}
-use Rattle.canon3.proofs.Files.{entries_of, all_of, all_regrouped, holds}
+use Rattle.canon3.proofs.Files.{all_entries, all_of, all_regrouped, holds}
 
 -- ---- order
 
@@ -70,18 +70,6 @@ call_fits m s = message_fits m (zero_spelling m) (call_short m s.0.0) s.0.1
 reply_fits : (r : ReplyItems) → IsSpelledReply r → EntryFits (reply_entry r)
 reply_fits r s = message_fits r.items (zero_spelling r.items) (reply_short r.id r.items s.0.0) s.0.1
 
-connection_fits : (c : Conversation) → AreConversing c → AllByRecursion EntryFits (connection_entries c.calls c.replies)
-connection_fits c h =
-    all_append EntryFits ((Begin ∷ map Call c.calls) ++ (Turn ∷ map reply_entry c.replies)) (Close ∷ [])
-    (all_append EntryFits (Begin ∷ map Call c.calls) (Turn ∷ map reply_entry c.replies)
-    (nothing_fits, all_mapped IsSpelledCall EntryFits Call call_fits c.calls h.calls_are)
-    (nothing_fits, all_mapped IsSpelledReply EntryFits reply_entry reply_fits c.replies h.replies_are))
-    (nothing_fits, tt)
-
-entries_fit : (cs : List Conversation) → AllByRecursion AreConversing cs → AllByRecursion EntryFits (entries_of cs)
-entries_fit [] h = tt
-entries_fit (c ∷ cs) h = all_append EntryFits (connection_entries c.calls c.replies) (entries_of cs) (connection_fits c h.0) (entries_fit cs h.1)
-
 member_fits : (f : List Item → List (List ℕ)) (P : List ℕ → Type 0) (es : List Entry) → AllByRecursion (λ e. (x : List ℕ) → Member x (f (items_of e)) → P x) es → (x : List ℕ) → Member x (flat_map (λ e. f (items_of e)) es) → P x
 member_fits f P [] h x m = elim m [ ]
 member_fits f P (e ∷ es) h x m = ⊎_elim (h.0 x) (member_fits f P es h.1 x) (member-append_cases (f (items_of e)) m)
@@ -98,7 +86,7 @@ count_of f (End ∷ es) h = omega (arith, h.0, count_of f es h.1, length-append 
 in_order : (cs : List Conversation) → AllByRecursion AreConversing cs → spelled (all_of cs) ≤ max_bytes → IsWellFormed (all_of cs)
 in_order cs h small =
     let all = all_of cs in
-    let fit : AllByRecursion EntryFits all = all_append EntryFits (entries_of cs) (End ∷ []) (entries_fit cs h) (nothing_fits, tt) in
+    let fit : AllByRecursion EntryFits all = all_entries EntryFits call_fits reply_fits nothing_fits nothing_fits nothing_fits nothing_fits cs h in
     record {
       stage = Over;
       run = runs_all cs h;

@@ -1,5 +1,5 @@
 -- From what was handed out to what a capture has.
-use Rattle.std.proofs.Common.{◌≡◌, ◌≤◌, ⊎_elim, ℕ, ◌+◌, Bool, true, false, cond, min, Option, None, Some, Result, Ok, Err, IfOk, List, [], ◌∷◌, ◌++◌, count_by, length, refl, sym, ap, subst, ◌∙◌, append-nil, arith}
+use Rattle.std.proofs.Common.{◌≡◌, ◌≤◌, inl, inr, ℕ, ◌+◌, Bool, true, false, cond, min, Option, None, Some, Result, Ok, Err, IfOk, List, [], ◌∷◌, ◌++◌, count_by, length, refl, sym, ap, subst, ◌∙◌, append-nil, arith}
 use Rattle.std.specs.Prelude.{bytes_eq}
 use Rattle.std.specs.Cmp.Lexicographic.{nat_list_eq_equiv}
 use Rattle.std.specs.Io.KnownBytes.{Consumes, IsAtEnd}
@@ -9,10 +9,11 @@ use Rattle.std.proofs.lemmas.List.Sums.{sum_by-append, sum_by-cons}
 use Rattle.std.specs.declared.hash.BuildHasher as BuildHasher
 use Rattle.std.specs.declared.hash.Hasher as Hasher
 use Rattle.xdr3.specs.Item.{Item}
-use Rattle.capture3.specs.Entries.{OnRefused}
+use Rattle.capture3.specs.Entries.{IsMetBy, OnRefused}
 use Rattle.capture3.specs.declared.reader.entries.Entries.{Entries}
 use Rattle.capture3.specs.declared.fault.Error.{Error}
 use Rattle.capture3.specs.declared.fault.Error.TheVariants as errors
+use Rattle.capture3.specs.declared.fault.Fault.{Fault}
 use Rattle.capture3.specs.Entry.{Entry, Begin, Call, Turn, Reply, Close, End, items_of}
 use Rattle.capture3.specs.FirstFault.{FirstFault}
 use Rattle.capture3.specs.Reached.{Reached}
@@ -91,13 +92,6 @@ connections_counted (Reply id items ∷ entries) = connections_counted entries
 connections_counted (Close ∷ entries) = connections_counted entries
 connections_counted (End ∷ entries) = connections_counted entries
 
--- ---- along a reader
-
-module _ {R S H : Type 0} {builds : BuildHasher.Ghosts S H} {hashes : Hasher.Ghosts H} (left : R → Option (List ℕ)) (first : Option (List ℕ)) (reader : Entries R S H builds hashes) (tally : Tally S H) where
-  pub is_done : (more : Bool) → more ≡ false → TalliesOn left first reader tally (Ok more) → HasTalliedAll left first reader tally
-  is_done false ends done = done
-  is_done true ends done = absurd (cc)
-
 -- there are few enough handles to be counted
 few_distinct : (bytes : List ℕ) (entries : List Entry) → Typed bytes entries → min (length (distinct bytes_eq (handles entries))) number_limit ≡ length (distinct bytes_eq (handles entries))
 few_distinct bytes entries typed = omega (arith, (typed_in_order bytes entries typed).few_handles, length-with_keys bytes_eq nat_list_eq_equiv (handles entries) [])
@@ -119,20 +113,19 @@ summary_of bytes old new (Ok summary) tells (given, consumed, (ended, is)) =
     subst (λ (b : List ℕ). IsSummary b summary) all is
 summary_of bytes old new (Err error) tells c = tt
 
-rest_of : (bytes given : List ℕ) (new : Option (List ℕ)) → Consumes (Some bytes) new given → (rest : List ℕ) × (new ≡ Some rest) × (bytes ≡ given ++ rest)
-rest_of bytes given None consumed = absurd consumed
-rest_of bytes given (Some rest) consumed = (rest, refl, consumed)
-
 -- the fault that is met is the first of all bytes
+pub first_fault : (bytes given : List ℕ) (entries : List Entry) (left : Option (List ℕ)) (fault : Fault) → Consumes (Some bytes) left given → IsMetBy (errors.Refused fault) left given entries → FirstFault bytes fault
+first_fault bytes given entries None fault consumed met = absurd consumed
+first_fault bytes given entries (Some rest) fault consumed met =
+    elim met [
+      | inl shown ↦ rw consumed (shown rest).0
+      | inr shown ↦ subst (λ (b : List ℕ). FirstFault b fault) (Consumes-all (Some bytes) (Some rest) given [] given consumed shown.0 refl) shown.1
+    ]
+
 pub faults_of : (bytes : List ℕ) (old new : Option (List ℕ)) (result : Result Summary Error) → old ≡ Some bytes → ConcludesGiven old new result → OnRefused result (FirstFault bytes)
 faults_of bytes old new (Ok summary) tells c = tt
 faults_of bytes old new (Err (errors.Refused met)) tells (given, consumed, (entries, is)) =
-    let from = subst (λ (o : Option (List ℕ)). Consumes o new given) tells consumed in
-    let r = rest_of bytes given new from in
-    ⊎_elim
-    (λ (shown : (rest : List ℕ) → FirstFault (given ++ rest) met × Reached (given ++ rest) entries). subst (λ (b : List ℕ). FirstFault b met) (sym r.2) (shown r.0).0)
-    (λ (shown : IsAtEnd new × FirstFault given met × Reached given entries). subst (λ (b : List ℕ). FirstFault b met) (Consumes-all (Some bytes) new given [] given from shown.0 refl) shown.1)
-    is
+    first_fault bytes given entries new met (subst (λ (o : Option (List ℕ)). Consumes o new given) tells consumed) is
 faults_of bytes old new (Err errors.Read) tells c = tt
 faults_of bytes old new (Err errors.Write) tells c = tt
 faults_of bytes old new (Err errors.Memory) tells c = tt

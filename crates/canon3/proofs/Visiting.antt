@@ -35,10 +35,6 @@ is_none (x ∷ l) b e t =
     let none : length (x ∷ l) ≡ 0 = (Decides-eqb (length (x ∷ l)) 0).0 (sym e ∙ t) in
     absurd (omega arith)
 
-pub still_err : {T E : Type 0} {P Q : Type 0} (r : Result T E) → (P → Q) → OnErr r P → OnErr r Q
-still_err (Ok x) f p = p
-still_err (Err e) f p = f p
-
 -- what a writer stands for
 abbrev pub Spells : List ℕ → List Item → Type 0
 Spells bytes items = bytes ≡ zero_spelling items

@@ -1,5 +1,5 @@
 -- Lemmas of captures.
-mod PassedOn
+pub mod PassedOn
 pub mod ContainerMachineLemmas
 pub mod PositionLemmas
 pub mod ContainerLemmas

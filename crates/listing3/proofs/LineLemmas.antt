@@ -1,5 +1,6 @@
 -- A line, and what is held after it.
 use Rattle.std.proofs.Common.{◌≡◌, ◌⊎◌, inl, inr, ℕ, List, [], ◌∷◌, ◌++◌, length, take, refl, sym, ap, ◌∙◌, subst, append_assoc, append-nil, arith, Result, Ok, Err}
+use Rattle.std.proofs.lemmas.Result.{on_err_weaker}
 use Rattle.std.specs.Prelude.{Option, None, Some, codes, decimal, OnErr, OnOk}
 use Rattle.std.specs.Io.KnownBytes.{Appends}
 use Rattle.std.proofs.KnownBytes.{Appends-trans}
@@ -27,7 +28,6 @@ use Rattle.canon3.specs.SinkWrites.{AppendsFront}
 use Rattle.canon3.proofs.HandleTableLemmas.{gathers_none}
 use Rattle.canon3.proofs.Laid.{IsLaidOut, last_laid}
 use Rattle.canon3.proofs.Messages.{is_headed_call, is_headed_reply}
-use Rattle.canon3.proofs.Visiting.{still_err}
 use Rattle.canon3.proofs.SinkWritesLemmas.{front_of_second}
 use Rattle.listing3.proofs.ListingLemmas.{shown_push}
 use Rattle.listing3.specs.machinery.LineWriter.{always, after_front, HasLineUnderWay, IsTextOf, items_before, LineStands}
@@ -179,7 +179,7 @@ module _ {S H : Type 0} (writer : LineWriter S H) (table : List handles.Handle) 
       → OnErr written (Keeps Gathers writer.handles table) → OnErr result (Keeps LineStands writer with_both)
   settled_err {T = T} {E = E} written result between more before same cut size is kept =
       subst (λ (r : Result T E). OnErr r (Keeps LineStands writer with_both)) (sym same)
-      (still_err written (λ (c : Keeps Gathers writer.handles table × (new ≡ take before between)). kept_both c.0 (c.1 ∙ ap (λ n. take n between) size ∙ ap (take (length writer.items)) is ∙ take-append_seam writer.items more)) (both_err _ _ written kept cut))
+      (on_err_weaker written (λ (c : Keeps Gathers writer.handles table × (new ≡ take before between)). kept_both c.0 (c.1 ∙ ap (λ n. take n between) size ∙ ap (take (length writer.items)) is ∙ take-append_seam writer.items more)) (both_err _ _ written kept cut))
 
 -- ---- an entry's line
 

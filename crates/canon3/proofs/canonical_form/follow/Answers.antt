@@ -1,6 +1,6 @@
 use Rattle.std.proofs.Common.{[], ◌∷◌, ◌++◌, ap, subst, ◌∙◌}
-use Rattle.std.proofs.lemmas.Result.{err_from_is_err_and}
 use Rattle.std.specs.Io.KnownBytes.{Appends}
+use Rattle.capture3.proofs.PassedOn.{error_is}
 use Rattle.canon3.specs.machinery.MessageWriter.{values_of}
 use Rattle.canon3.specs.machinery.Spelling.{spelling_of}
 use Rattle.canon3.specs.SinkWrites.{AppendsFront}
@@ -17,5 +17,4 @@ returns-clause-follows g c entries one of first few stands =
 pub returns-in_err-write_spelling-clause-follows : goal.returns-in_err-write_spelling-clause-follows
 returns-in_err-write_spelling-clause-follows g c entries one of first few stands =
     let s = c.in-Ok.ensures entries one of first few stands in
-    let p = err_from_is_err_and c.from_residual.result c.from_residual.ensures.1 in
-    rw p.1 (subst (AppendsFront (g.W.Sink.written c.args.sink.now) (g.W.Sink.written c.write_spelling.new.sink)) (ap (spelling_of c.in-Ok.form) c.bytes.ensures ∙ s.spelled) c.in_err-write_spelling.ensures.err)
+    rw (error_is _ _ c.from_residual.ensures) (subst (AppendsFront (g.W.Sink.written c.args.sink.now) (g.W.Sink.written c.write_spelling.new.sink)) (ap (spelling_of c.in-Ok.form) c.bytes.ensures ∙ s.spelled) c.in_err-write_spelling.ensures.err)

@@ -1,5 +1,5 @@
 use Rattle.std.proofs.Common.{[]}
-use Rattle.std.proofs.lemmas.Result.{err_from_is_err_and}
+use Rattle.capture3.proofs.PassedOn.{error_is}
 use Rattle.canon3.proofs.ComparisonLemmas.{fresh}
 use Rattle.canon3.proofs.comparison.compared.Goals as goal
 
@@ -15,8 +15,7 @@ returns-clause-decides g c file other tells other_tells =
 
 pub returns-in_err-finding-clause-decides : goal.returns-in_err-finding-clause-decides
 returns-in_err-finding-clause-decides g c file other tells other_tells =
-    let p = err_from_is_err_and c.from_residual.result c.from_residual.ensures.1 in
-    rw (p.1, p.2) (c.in_err-finding.ensures.found file other (record {
+    rw (error_is _ _ c.from_residual.ensures) (c.in_err-finding.ensures.found file other (record {
       a = [];
       b = [];
       first_given = fresh g.A.Source.left file c.args.first.now tells c.requires.fresh_first;
@@ -25,10 +24,10 @@ returns-in_err-finding-clause-decides g c file other tells other_tells =
     }))
 
 pub returns-in_err-finding-clause-read_first : goal.returns-in_err-finding-clause-read_first
-returns-in_err-finding-clause-read_first g c = let p = err_from_is_err_and c.from_residual.result c.from_residual.ensures.1 in rw (p.1, p.2) c.in_err-finding.ensures.read_first
+returns-in_err-finding-clause-read_first g c = rw (error_is _ _ c.from_residual.ensures) c.in_err-finding.ensures.read_first
 
 pub returns-in_err-finding-clause-read_second : goal.returns-in_err-finding-clause-read_second
-returns-in_err-finding-clause-read_second g c = let p = err_from_is_err_and c.from_residual.result c.from_residual.ensures.1 in rw (p.1, p.2) c.in_err-finding.ensures.read_second
+returns-in_err-finding-clause-read_second g c = rw (error_is _ _ c.from_residual.ensures) c.in_err-finding.ensures.read_second
 
 pub returns-in_err-finding-clause-write : goal.returns-in_err-finding-clause-write
-returns-in_err-finding-clause-write g c = let p = err_from_is_err_and c.from_residual.result c.from_residual.ensures.1 in rw (p.1, p.2) c.in_err-finding.ensures.write
+returns-in_err-finding-clause-write g c = rw (error_is _ _ c.from_residual.ensures) c.in_err-finding.ensures.write

@@ -1,12 +1,11 @@
 use Rattle.std.proofs.Common.{Ok, Err, ◌++◌}
-use Rattle.std.proofs.lemmas.Result.{err_from_is_err_and}
+use Rattle.capture3.proofs.PassedOn.{error_is}
 use Rattle.canon3.proofs.ComparisonLemmas.{hands, read_on}
 use Rattle.canon3.proofs.comparison.read_next.Goals as goal
 
 pub returns-in_err-next-clause-on : goal.returns-in_err-next-clause-on
 returns-in_err-next-clause-on g c file handed h =
-    let p = err_from_is_err_and c.from_residual.result c.from_residual.ensures.1 in
-    rw (p.1, p.2) (hands g.R.Source.left (λ silent items. Unit {0}) file c.args.entries.now c.next.new.self _ c.next.new.visitor (handed ++ h.more) h.all (Err c.in_err-next.field-0.0) (c.in_err-next.ensures.answers h.all.given (handed ++ h.more) h.all.stands))
+    rw (error_is _ _ c.from_residual.ensures) (hands g.R.Source.left (λ silent items. Unit {0}) file c.args.entries.now c.next.new.self _ c.next.new.visitor (handed ++ h.more) h.all (Err c.in_err-next.field-0.0) (c.in_err-next.ensures.answers h.all.given (handed ++ h.more) h.all.stands))
 
 pub returns-clause-on : goal.returns-clause-on
 returns-clause-on g c file handed h =

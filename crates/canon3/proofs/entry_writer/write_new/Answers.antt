@@ -1,8 +1,8 @@
 use Rattle.std.proofs.Common.{[], sym, subst, List, ℕ}
 use Rattle.std.specs.Io.KnownBytes.{Appends}
-use Rattle.std.proofs.lemmas.Result.{err_from_is_err_and}
 use Rattle.std.proofs.KnownBytes.{Appends-nil, Consumes-nil}
 use Rattle.capture3.specs.Entries.{source_of}
+use Rattle.capture3.proofs.PassedOn.{error_is}
 use Rattle.canon3.proofs.entry_writer.write_new.Goals as goal
 
 pub returns-clause-writes : goal.returns-clause-writes
@@ -29,5 +29,4 @@ returns-in_err-write_rest-clause-writes g c =
       reads = c.requires.fresh;
       writes = record { goes = c.requires.well; stands_for = c.requires.new; came = c.new-passed.ensures.passed; written = subst (λ (l : List ℕ). Appends old old l) (sym c.requires.empty) (Appends-nil old) };
     }) in
-    let p = err_from_is_err_and c.from_residual.result c.from_residual.ensures.1 in
-    rw (p.1, p.2) (s.given, s.consumed, s.stopped)
+    rw (error_is _ _ c.from_residual.ensures) (s.given, s.consumed, s.stopped)

@@ -1,9 +1,9 @@
 use Rattle.std.proofs.Common.{Ok, [], ◌∷◌, ◌++◌, length, arith, subst, sym, ◌<◌, ◌^◌}
-use Rattle.std.proofs.lemmas.Result.{err_from_is_err_and}
 use Rattle.std.proofs.KnownBytes.{Consumes-trans}
 use Rattle.xdr3.specs.Visit.{Adds}
 use Rattle.capture3.specs.Entries.{source_of}
 use Rattle.capture3.specs.Handing.{HandsOut}
+use Rattle.capture3.proofs.PassedOn.{error_is}
 use Rattle.canon3.specs.machinery.EntryWriter.{HasWritten}
 use Rattle.canon3.proofs.EntryWriterLemmas.{met_stops, written_goes_on}
 use Rattle.canon3.proofs.Reaching.{first_reached}
@@ -39,8 +39,7 @@ returns-in-None-clause-goes_on g c first old u =
 pub returns-in_err-kind-clause-goes_on : goal.returns-in_err-kind-clause-goes_on
 returns-in_err-kind-clause-goes_on g c first old u =
     let a = c.in_err-kind.ensures.answers u.given u.handed u.reads in
-    let p = err_from_is_err_and c.from_residual.result c.from_residual.ensures.1 in
-    rw (p.1, p.2) (record {
+    rw (error_is _ _ c.from_residual.ensures) (record {
       given = u.given ++ a.more;
       consumed = Consumes-trans first (g.R.Source.left (source_of c.args.entries.now)) (g.R.Source.left (source_of c.next.new.self)) u.given a.more u.consumed a.consumed;
       stopped = met_stops g.E.EntryWriter.form c.requires.prefixes c.in_err-kind.field-0.0 (g.R.Source.left (source_of c.next.new.self)) old (g.W.Sink.written c.args.sink.now) (u.given ++ a.more) u.handed a.hands_out.0 u.writes.written;

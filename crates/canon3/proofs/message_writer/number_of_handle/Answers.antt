@@ -1,4 +1,4 @@
-use Rattle.canon3.proofs.HandleTableLemmas.{still_ok}
+use Rattle.std.proofs.lemmas.Result.{on_ok_weaker}
 use Rattle.canon3.proofs.Tables.{holds_more, number_by_bytes}
 use Rattle.canon3.proofs.message_writer.number_of_handle.Goals as goal
 
@@ -8,4 +8,4 @@ returns-clause-number g c hs h =
 
 pub returns-clause-given : goal.returns-clause-given
 returns-clause-given g c hs h =
-    still_ok c.number_of.result (holds_more c.number_of.new.self h.0 c.from_short.result hs c.args.bytes.now h.2 c.from_short.ensures) (c.number_of.ensures.given h.0 h.1)
+    on_ok_weaker c.number_of.result (holds_more c.number_of.new.self h.0 c.from_short.result hs c.args.bytes.now h.2 c.from_short.ensures) (c.number_of.ensures.given h.0 h.1)

@@ -1,7 +1,7 @@
 use Rattle.std.proofs.Common.{[]}
-use Rattle.std.proofs.lemmas.Result.{err_from_is_err_and}
 use Rattle.std.proofs.KnownBytes.{Consumes-nil}
 use Rattle.capture3.specs.Entries.{source_of}
+use Rattle.capture3.proofs.PassedOn.{error_is}
 use Rattle.canon3.proofs.SummaryLemmas.{summary_is}
 use Rattle.canon3.proofs.summary.summed.Goals as goal
 
@@ -15,5 +15,4 @@ pub returns-in_err-add_all-clause-concludes : goal.returns-in_err-add_all-clause
 returns-in_err-add_all-clause-concludes g c =
     let before = g.R.Source.left (source_of c.args.entries.now) in
     let failed = c.in_err-add_all.ensures.over before (record { given = []; handed = []; consumed = Consumes-nil before; stands = c.requires.fresh; tallied = c.new-tally.ensures.tallies }) in
-    let p = err_from_is_err_and c.from_residual.result c.from_residual.ensures.1 in
-    rw (p.1, p.2) (failed.given, failed.consumed, (failed.handed, failed.met))
+    rw (error_is _ _ c.from_residual.ensures) (failed.given, failed.consumed, (failed.handed, failed.met))

@@ -1,12 +1,12 @@
 use Rattle.std.proofs.Common.{◌++◌, refl}
+use Rattle.std.proofs.lemmas.Result.{on_err_weaker}
 use Rattle.xdr3.proofs.Walks.{on_err}
-use Rattle.canon3.proofs.Visiting.{still_err}
 use Rattle.canon3.proofs.SinkWritesLemmas.{front_of_first, front_of_second}
 use Rattle.listing3.proofs.line_writer.write_two.Goals as goal
 
 pub returns-clause-err : goal.returns-clause-err
 returns-clause-err g c =
-    still_err c.write_all-2.result
+    on_err_weaker c.write_all-2.result
     (front_of_second (g.W.Sink.written c.args.sink.now) (g.W.Sink.written c.write_all.new.sink) (g.W.Sink.written c.write_all-2.new.sink) c.args.first.now c.args.second.now (c.args.first.now ++ c.args.second.now) refl c.in_ok-write_all.ensures.ok)
     c.write_all-2.ensures.err
 

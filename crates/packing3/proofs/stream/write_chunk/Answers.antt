@@ -1,6 +1,6 @@
 use Rattle.std.proofs.Common.{arith, take, ◌≤◌}
 use Rattle.std.proofs.lemmas.List.{length-take-le}
-use Rattle.std.proofs.lemmas.Result.{err_from_is_err_and}
+use Rattle.capture3.proofs.PassedOn.{error_is}
 use Rattle.canon3.proofs.SinkWritesLemmas.{front_of_first, front_of_second}
 use Rattle.xdr3.specs.Item.{word_bytes}
 use Rattle.std.proofs.Common.{refl, subst, ◌++◌}
@@ -17,19 +17,17 @@ returns-then-count-extent-clause-err g c =
 
 pub returns-in_err-write-clause-err : goal.returns-in_err-write-clause-err
 returns-in_err-write-clause-err g c =
-    let p = err_from_is_err_and c.from_residual.result c.from_residual.ensures.1 in
     let chunk = take c.in-Ok.count c.fill.new.block in
     let front = subst (AppendsFront (g.W.Sink.written c.args.sink.now) (g.W.Sink.written c.write.new.sink)) c.pack_chunk.ensures c.in_err-write.ensures.err in
-    rw (p.1, p.2)
+    rw (error_is _ _ c.from_residual.ensures)
     (chunk_cut (g.R.Source.left c.args.source.now) (g.R.Source.left c.fill.new.source) (g.W.Sink.written c.args.sink.now) (g.W.Sink.written c.write.new.sink) c.args.extent.now _ chunk c.in-Ok.count c.in-Ok.ensures.bytes (length-take-le c.in-Ok.count c.fill.new.block c.in-Ok.ensures.within) (omega arith) (omega (arith, c.in-Ok.ensures.within, c.fill.ensures.size, c.requires.block)) c.in_err-write.ensures.error
     (front_of_first (g.W.Sink.written c.args.sink.now) (g.W.Sink.written c.write.new.sink) (word_bytes c.in-Ok.count) chunk (word_bytes c.in-Ok.count ++ chunk) refl front))
 
 pub returns-in_err-write-2-clause-err : goal.returns-in_err-write-2-clause-err
 returns-in_err-write-2-clause-err g c =
-    let p = err_from_is_err_and c.from_residual-in_err-write-2.result c.from_residual-in_err-write-2.ensures.1 in
     let chunk = take c.in-Ok.count c.fill.new.block in
     let word = subst (Appends (g.W.Sink.written c.args.sink.now) (g.W.Sink.written c.write.new.sink)) c.pack_chunk.ensures c.in_ok-write.ensures.ok in
-    rw (p.1, p.2)
+    rw (error_is _ _ c.from_residual-in_err-write-2.ensures)
     (chunk_cut (g.R.Source.left c.args.source.now) (g.R.Source.left c.fill.new.source) (g.W.Sink.written c.args.sink.now) (g.W.Sink.written c.write-2.new.sink) c.args.extent.now _ chunk c.in-Ok.count c.in-Ok.ensures.bytes (length-take-le c.in-Ok.count c.fill.new.block c.in-Ok.ensures.within) (omega arith) (omega (arith, c.in-Ok.ensures.within, c.fill.ensures.size, c.requires.block)) c.in_err-write-2.ensures.error
     (front_of_second (g.W.Sink.written c.args.sink.now) (g.W.Sink.written c.write.new.sink) (g.W.Sink.written c.write-2.new.sink) (word_bytes c.in-Ok.count) chunk (word_bytes c.in-Ok.count ++ chunk) refl word c.in_err-write-2.ensures.err))
 

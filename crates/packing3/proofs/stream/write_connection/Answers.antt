@@ -1,6 +1,7 @@
 use Rattle.std.proofs.Common.{refl, subst, ◌+◌}
-use Rattle.std.proofs.lemmas.Result.{IfErr-weaker, err_from_is_err_and, on_ok_weaker}
+use Rattle.std.proofs.lemmas.Result.{IfErr-weaker, on_ok_weaker}
 use Rattle.std.specs.Io.KnownBytes.{Appends}
+use Rattle.capture3.proofs.PassedOn.{error_is}
 use Rattle.canon3.specs.SinkWrites.{AppendsFront}
 use Rattle.packing3.specs.declared.stream.Extent.{Extent}
 use Rattle.packing3.proofs.Chunks.{one_word}
@@ -9,16 +10,14 @@ use Rattle.packing3.proofs.stream.write_connection.Goals as goal
 
 pub returns-in_err-write-clause-err : goal.returns-in_err-write-clause-err
 returns-in_err-write-clause-err g c =
-    let p = err_from_is_err_and c.from_residual.result c.from_residual.ensures.1 in
     let front = subst (AppendsFront (g.W.Sink.written c.args.sink.now) (g.W.Sink.written c.write.new.sink)) c.pack_chunk.ensures c.in_err-write.ensures.err in
-    rw (p.1, p.2) (stops_at_mark (g.C.Source.left c.args.client.now) (g.S.Source.left c.args.server.now) (g.W.Sink.written c.args.sink.now) (g.W.Sink.written c.write.new.sink) c.args.extent.now _ c.in_err-write.ensures.error front)
+    rw (error_is _ _ c.from_residual.ensures) (stops_at_mark (g.C.Source.left c.args.client.now) (g.S.Source.left c.args.server.now) (g.W.Sink.written c.args.sink.now) (g.W.Sink.written c.write.new.sink) c.args.extent.now _ c.in_err-write.ensures.error front)
 
 pub returns-in_err-write_stream-clause-err : goal.returns-in_err-write_stream-clause-err
 returns-in_err-write_stream-clause-err g c =
-    let p = err_from_is_err_and c.from_residual-in_err-write_stream.result c.from_residual-in_err-write_stream.ensures.1 in
     let word = subst (Appends (g.W.Sink.written c.args.sink.now) (g.W.Sink.written c.write.new.sink)) c.pack_chunk.ensures c.in_ok-write.ensures.ok in
     let begun : Extent = record { streamed = c.args.extent.now.streamed; at = c.args.extent.now.at + 4 } in
-    rw (p.1, p.2)
+    rw (error_is _ _ c.from_residual-in_err-write_stream.ensures)
     (stops_in_client (g.C.Source.left c.args.client.now) (g.C.Source.left c.write_stream.new.source) (g.S.Source.left c.args.server.now) (g.W.Sink.written c.args.sink.now) (g.W.Sink.written c.write.new.sink) (g.W.Sink.written c.write_stream.new.sink) c.args.extent.now begun _ word (one_word 1 c.args.extent.now begun refl refl) c.in_err-write_stream.ensures.err)
 
 pub returns-clause-ok : goal.returns-clause-ok

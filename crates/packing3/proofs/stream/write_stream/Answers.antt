@@ -1,6 +1,6 @@
 use Rattle.std.proofs.Common.{rules, arith, refl, subst, ◌≤◌, ◌<◌, ◌∙◌}
-use Rattle.std.proofs.lemmas.Result.{err_from_is_err_and}
 use Rattle.std.specs.Io.KnownBytes.{Appends}
+use Rattle.capture3.proofs.PassedOn.{error_is}
 use Rattle.canon3.specs.SinkWrites.{AppendsFront}
 use Rattle.packing3.specs.Packed.{full_size}
 use Rattle.packing3.proofs.Chunks.{more_full, one_word, stops_at_end, stops_in_chunk, whole_stream}
@@ -8,8 +8,7 @@ use Rattle.packing3.proofs.stream.write_stream.Goals as goal
 
 pub returns-in_err-count-clause-err : goal.returns-in_err-count-clause-err
 returns-in_err-count-clause-err g c =
-    let p = err_from_is_err_and c.from_residual.result c.from_residual.ensures.1 in
-    rw (p.1, p.2)
+    rw (error_is _ _ c.from_residual.ensures)
     (stops_in_chunk (g.R.Source.left c.args.source.now) (g.R.Source.left c.loop-count.source) (g.R.Source.left c.write_chunk.new.source) (g.W.Sink.written c.args.sink.now) (g.W.Sink.written c.loop-count.sink) (g.W.Sink.written c.write_chunk.new.sink) c.args.extent.now c.loop-count.extent _ c.loop-count.invariant.full c.in_err-count.ensures.err)
 
 pub loop-count-preserved : goal.loop-count-preserved
@@ -27,9 +26,8 @@ loop-count-preserved g c =
 
 pub returns-in_err-write-clause-err : goal.returns-in_err-write-clause-err
 returns-in_err-write-clause-err g c =
-    let p = err_from_is_err_and c.from_residual-in_err-write.result c.from_residual-in_err-write.ensures.1 in
     let front = subst (AppendsFront (g.W.Sink.written c.write_chunk.new.sink) (g.W.Sink.written c.write.new.sink)) c.pack_chunk.ensures c.in_err-write.ensures.err in
-    rw (p.1, p.2)
+    rw (error_is _ _ c.from_residual-in_err-write.ensures)
     (stops_at_end (g.R.Source.left c.args.source.now) (g.R.Source.left c.loop-count.source) (g.R.Source.left c.write_chunk.new.source) (g.W.Sink.written c.args.sink.now) (g.W.Sink.written c.loop-count.sink) (g.W.Sink.written c.write_chunk.new.sink) (g.W.Sink.written c.write.new.sink) c.args.extent.now c.loop-count.extent c.write_chunk.new.extent c.in_ok-count.count _ c.loop-count.invariant.full c.in_ok-count.ensures.ok c.in_err-write.ensures.error front)
 
 pub returns-clause-ok : goal.returns-clause-ok

@@ -1,6 +1,6 @@
 use Rattle.std.proofs.Common.{[], subst, sym}
-use Rattle.std.proofs.lemmas.Result.{err_from_is_err_and}
 use Rattle.capture3.specs.Entry.{items_of}
+use Rattle.capture3.proofs.PassedOn.{error_is}
 use Rattle.canon3.specs.machinery.MessageWriter.{WriterStands, values_of}
 use Rattle.canon3.proofs.CanonicalFormLemmas.{cut_in_magic, written_or_cut}
 use Rattle.canon3.proofs.Visiting.{told_after-append}
@@ -14,5 +14,4 @@ returns-clause-writes g c old entries one of first few came told written =
 
 pub returns-in_err-open-clause-writes : goal.returns-in_err-open-clause-writes
 returns-in_err-open-clause-writes g c old entries one of first few came told written =
-    let p = err_from_is_err_and c.from_residual.result c.from_residual.ensures.1 in
-    rw p.1 (cut_in_magic c.args.self.now old (g.W.Sink.written c.args.sink.now) (g.W.Sink.written c.open.new.sink) (g.W.Sink.written c.open.new.sink) entries one c.args.passed.now.progress.connections first came.progress.connections_are written c.in_err-open.ensures.err)
+    rw (error_is _ _ c.from_residual.ensures) (cut_in_magic c.args.self.now old (g.W.Sink.written c.args.sink.now) (g.W.Sink.written c.open.new.sink) (g.W.Sink.written c.open.new.sink) entries one c.args.passed.now.progress.connections first came.progress.connections_are written c.in_err-open.ensures.err)

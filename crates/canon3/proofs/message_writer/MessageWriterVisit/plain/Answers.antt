@@ -1,13 +1,13 @@
+use Rattle.std.proofs.lemmas.Result.{on_ok_weaker}
 use Rattle.xdr3.specs.Plain.{run_items}
 use Rattle.xdr3.specs.Visit.{Adds}
 use Rattle.canon3.specs.machinery.MessageWriter.{WriterStands}
-use Rattle.canon3.proofs.HandleTableLemmas.{still_ok}
 use Rattle.canon3.proofs.Visiting.{adds_run, after_xid, settled}
 use Rattle.canon3.proofs.message_writer.MessageWriterVisit.plain.Goals as goal
 
 pub returns-in-Goes : goal.returns-in-Goes
 returns-in-Goes g c = record {
-  ok = still_ok c.plain.result (adds_run c.args.self.now c.plain.new.self c.args.fields.now c.args.bytes.now (after_xid c.args.self.now c.plain.new.self c.in-Goes.is)) c.plain.ensures.ok;
+  ok = on_ok_weaker c.plain.result (adds_run c.args.self.now c.plain.new.self c.args.fields.now c.args.bytes.now (after_xid c.args.self.now c.plain.new.self c.in-Goes.is)) c.plain.ensures.ok;
 }
 
 pub returns-in-Begins : goal.returns-in-Begins

@@ -1,9 +1,9 @@
 use Rattle.std.proofs.Common.{[], ◌∷◌}
+use Rattle.std.proofs.lemmas.Result.{on_err_weaker, on_ok_weaker}
 use Rattle.xdr3.specs.Item.{Word}
 use Rattle.xdr3.specs.Visit.{Adds}
 use Rattle.canon3.specs.machinery.MessageWriter.{WriterStands}
-use Rattle.canon3.proofs.HandleTableLemmas.{still_ok}
-use Rattle.canon3.proofs.Visiting.{adds_word, after_xid, keeps_writer, settled, still_err}
+use Rattle.canon3.proofs.Visiting.{adds_word, after_xid, keeps_writer, settled}
 use Rattle.canon3.proofs.message_writer.MessageWriterVisit.word.Goals as goal
 
 pub returns-in-Begins-clause-ok : goal.returns-in-Begins-clause-ok
@@ -12,6 +12,6 @@ returns-in-Begins-clause-ok g c =
 
 pub returns-in-Goes : goal.returns-in-Goes
 returns-in-Goes g c = record {
-  ok = still_ok c.word.result (adds_word c.args.self.now c.word.new.self c.args.name.now c.args.n (after_xid c.args.self.now c.word.new.self c.in-Goes.is)) c.word.ensures.ok;
-  err = still_err c.word.result (keeps_writer c.args.self.now c.word.new.self) c.word.ensures.err;
+  ok = on_ok_weaker c.word.result (adds_word c.args.self.now c.word.new.self c.args.name.now c.args.n (after_xid c.args.self.now c.word.new.self c.in-Goes.is)) c.word.ensures.ok;
+  err = on_err_weaker c.word.result (keeps_writer c.args.self.now c.word.new.self) c.word.ensures.err;
 }

@@ -1,9 +1,9 @@
 use Rattle.std.proofs.Common.{List, Ok, [], ◌∷◌, ◌++◌, subst, sym}
-use Rattle.std.proofs.lemmas.Result.{err_from_is_err_and}
 use Rattle.std.proofs.KnownBytes.{Consumes-trans}
 use Rattle.xdr3.specs.Item.{Item}
 use Rattle.xdr3.specs.Visit.{Adds}
 use Rattle.capture3.specs.Entries.{source_of}
+use Rattle.capture3.proofs.PassedOn.{error_is}
 use Rattle.canon3.specs.HandleTable.{Gathers}
 use Rattle.canon3.specs.machinery.Summary.{all_items}
 use Rattle.capture3.specs.Handing.{HandsOut}
@@ -29,8 +29,7 @@ returns-in-Some-clause-goes_on g c first u =
 pub returns-in_err-kind-clause-goes_on : goal.returns-in_err-kind-clause-goes_on
 returns-in_err-kind-clause-goes_on g c first u =
     let a = c.in_err-kind.ensures.answers u.given u.handed u.stands in
-    let p = err_from_is_err_and c.from_residual.result c.from_residual.ensures.1 in
-    rw (p.1, p.2) (record {
+    rw (error_is _ _ c.from_residual.ensures) (record {
       given = u.given ++ a.more;
       handed = u.handed;
       consumed = Consumes-trans first (g.R.Source.left (source_of c.args.entries.now)) (g.R.Source.left (source_of c.next.new.self)) u.given a.more u.consumed a.consumed;

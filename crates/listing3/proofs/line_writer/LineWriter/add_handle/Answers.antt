@@ -1,9 +1,9 @@
 use Rattle.std.proofs.Common.{[], ◌∷◌, ◌++◌, ap, length}
+use Rattle.std.proofs.lemmas.Result.{on_ok_weaker}
 use Rattle.hex.specs.Hex.{encode_lower}
 use Rattle.xdr3.specs.Item.{Handle, Opaque}
 use Rattle.xdr3.specs.Visit.{Adds, Keeps}
 use Rattle.xdr3.proofs.Walks.{on_err}
-use Rattle.canon3.proofs.HandleTableLemmas.{still_ok}
 use Rattle.canon3.proofs.Visiting.{settled}
 use Rattle.listing3.specs.machinery.LineWriter.{LineStands}
 use Rattle.listing3.specs.Listing.{opening}
@@ -19,7 +19,7 @@ returns-clause-ok g c =
     let bytes = c.args.bytes.now in
     settled (λ t. Adds (LineStands {S = g.row.S.Denot} {H = g.row.S-Hasher.Denot}) w (record { handles = table; xid = w.xid; items = t; head = w.head }) (Opaque Handle name bytes ∷ []))
     c.handle-gathered.result c.settle.result c.append_hex.new.self c.settle.new.self c.settle.ensures.result c.settle.ensures.ok
-    (still_ok c.handle-gathered.result (adds_both w c.append_hex.new.self table name bytes c.in_ok-append_hex.ensures.ok) c.handle-gathered.ensures.ok)
+    (on_ok_weaker c.handle-gathered.result (adds_both w c.append_hex.new.self table name bytes c.in_ok-append_hex.ensures.ok) c.handle-gathered.ensures.ok)
 
 pub returns-clause-err : goal.returns-clause-err
 unfolding Keeps

@@ -1,8 +1,7 @@
 use Rattle.std.proofs.Common.{subst, ◌+◌}
+use Rattle.std.proofs.lemmas.Result.{on_err_weaker, on_ok_weaker}
 use Rattle.std.specs.Io.KnownBytes.{Appends}
 use Rattle.canon3.specs.SinkWrites.{AppendsFront}
-use Rattle.canon3.proofs.HandleTableLemmas.{still_ok}
-use Rattle.canon3.proofs.Visiting.{still_err}
 use Rattle.listing3.proofs.LineLemmas.{is_line, no_xid}
 use Rattle.listing3.proofs.line_writer.LineWriter.write_line.Goals as goal
 
@@ -12,7 +11,7 @@ returns-in_default-clause-ok g c front rest n stands = absurd (no_xid c.args.sel
 pub returns-in-Ok-clause-ok : goal.returns-in-Ok-clause-ok
 returns-in-Ok-clause-ok g c front rest n stands =
     let p = c.args.passed.now.progress in
-    still_ok c.hand_over.result
+    on_ok_weaker c.hand_over.result
     (subst (Appends (g.W.Sink.written c.args.sink.now) (g.W.Sink.written c.hand_over.new.sink))
     (is_line c.args.self.now p.connections c.args.side.now (p.records + 1) c.in-Some.xid c.args.id front rest n c.compose.new.self.head c.compose.new.self.items c.in-Some.is stands c.in-Ok.ensures.head c.in-Ok.ensures.items))
     c.hand_over.ensures.ok
@@ -20,7 +19,7 @@ returns-in-Ok-clause-ok g c front rest n stands =
 pub returns-in-Ok-clause-err : goal.returns-in-Ok-clause-err
 returns-in-Ok-clause-err g c front rest n stands =
     let p = c.args.passed.now.progress in
-    still_err c.hand_over.result
+    on_err_weaker c.hand_over.result
     (subst (AppendsFront (g.W.Sink.written c.args.sink.now) (g.W.Sink.written c.hand_over.new.sink))
     (is_line c.args.self.now p.connections c.args.side.now (p.records + 1) c.in-Some.xid c.args.id front rest n c.compose.new.self.head c.compose.new.self.items c.in-Some.is stands c.in-Ok.ensures.head c.in-Ok.ensures.items))
     c.hand_over.ensures.err

@@ -1,16 +1,15 @@
 use Rattle.std.proofs.Common.{refl, subst, sym}
+use Rattle.std.proofs.lemmas.Result.{on_err_weaker, on_ok_weaker}
 use Rattle.xdr3.specs.Item.{Word}
-use Rattle.canon3.proofs.HandleTableLemmas.{still_ok}
-use Rattle.canon3.proofs.Visiting.{still_err}
 use Rattle.listing3.proofs.LineLemmas.{adds_plain, adds_xid, IsLater, keeps_text}
 use Rattle.listing3.proofs.line_writer.LineWriterVisit.word.Goals as goal
 
 pub returns-in-Some-clause-ok : goal.returns-in-Some-clause-ok
 returns-in-Some-clause-ok g c =
-    still_ok c.word.result (adds_plain c.args.self.now c.word.new.self (Word c.args.name.now c.args.n) refl (subst (λ x. IsLater x (Word c.args.name.now c.args.n)) (sym c.in-Some.is) tt)) c.word.ensures.ok
+    on_ok_weaker c.word.result (adds_plain c.args.self.now c.word.new.self (Word c.args.name.now c.args.n) refl (subst (λ x. IsLater x (Word c.args.name.now c.args.n)) (sym c.in-Some.is) tt)) c.word.ensures.ok
 
 pub returns-in-Some-clause-err : goal.returns-in-Some-clause-err
-returns-in-Some-clause-err g c = still_err c.word.result (keeps_text c.args.self.now c.word.new.self) c.word.ensures.err
+returns-in-Some-clause-err g c = on_err_weaker c.word.result (keeps_text c.args.self.now c.word.new.self) c.word.ensures.err
 
 pub returns-in-None-clause-ok : goal.returns-in-None-clause-ok
 returns-in-None-clause-ok g c = adds_xid c.args.self.now c.args.name.now c.args.n c.in-None.is
