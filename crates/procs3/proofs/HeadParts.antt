@@ -1,6 +1,5 @@
 -- Each part of the heads of messages is one of the protocol's, save the version of a call, which is refused for a reason of its own.
-use Rattle.std.proofs.Common.{ℕ, arith, refl}
-use Rattle.std.specs.Prelude.{nat_eq, if◌then◌else◌}
+use Rattle.std.specs.Prelude.{nat_eq}
 use Rattle.xdr3.specs.declared.reason.Reason.TheVariants.{RpcVersion}
 use Rattle.xdr3.specs.Item.{Var}
 use Rattle.xdr3.specs.Shape.{Shape, ◌then◌, listed, nothing, opaque, word}

@@ -4,7 +4,7 @@ use Rattle.std.specs.Prelude.{nat_eq, ◌||◌, if◌then◌else◌}
 use Rattle.xdr3.specs.Item.{Item}
 use Rattle.xdr3.specs.Shape.{Shape, fixed, hyper, nothing, optional, word}
 use Rattle.xdr3.specs.Layout.{Layout, exactly, rest}
-use Rattle.xdr3.proofs.ShapeParts.{HasParts, RowHasParts, parts_if, row_if}
+use Rattle.xdr3.proofs.ShapeParts.{RowHasParts, parts_if, row_if}
 use Rattle.rpc_head.specs.declared.call.ProcId.{ProcId}
 use Rattle.rpc_head.specs.Messages.{has_results}
 use Rattle.nfs3_types.specs.Names.{names}

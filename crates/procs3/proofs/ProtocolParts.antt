@@ -1,8 +1,8 @@
 -- What is so of each part of the protocol's shapes: for which reason it is refused, which room it has, and that its name tells its kind.
-use Rattle.std.proofs.Common.{◌≡◌, ℕ, List, [], ◌∷◌, Bool, true, false, ◌≤◌}
+use Rattle.std.proofs.Common.{◌≡◌, ℕ, List, [], ◌∷◌, Bool, true, ◌≤◌}
 use Rattle.std.specs.Prelude.{⊤, ◌==◌, not, bytes_eq, codes, if◌then◌else◌}
 use Rattle.std.specs.List.{list_all, list_any}
-use Rattle.xdr3.specs.Item.{Item, Word, Hyper, Fixed, WriteVerf, Opaque, Rest, Kind, Var, Text, Handle}
+use Rattle.xdr3.specs.Item.{Kind, Var, Text, Handle}
 use Rattle.xdr3.specs.Shape.{Shape}
 use Rattle.xdr3.proofs.Reasons.{HasItemReason}
 use Rattle.xdr3.proofs.ShapeParts.{HasParts, Part, word_part, hyper_part, fixed_part, write_verf_part, rest_part, opaque_part, size_part}
