@@ -197,10 +197,14 @@ module _ (P : Entry → Type 0) (call : (m : List Item) → IsSpelledCall m → 
   pub all_entries : (cs : List Conversation) → AllByRecursion AreConversing cs → AllByRecursion P (all_of cs)
   all_entries [] h = (end, tt)
   all_entries (c ∷ cs) h =
-      subst (AllByRecursion P) (sym (all_regrouped c cs))
-      (begin, all_append P (map Call c.calls) (Turn ∷ (map reply_entry c.replies ++ (Close ∷ all_of cs))) (all_mapped IsSpelledCall P Call call c.calls h.0.calls_are)
-      (turn, all_append P (map reply_entry c.replies) (Close ∷ all_of cs) (all_mapped IsSpelledReply P reply_entry reply c.replies h.0.replies_are)
-      (close, all_entries cs h.1)))
+      subst (AllByRecursion P) (sym (all_regrouped c cs)) (
+        begin,
+        all_append P (map Call c.calls) (Turn ∷ (map reply_entry c.replies ++ (Close ∷ all_of cs))) (all_mapped IsSpelledCall P Call call c.calls h.0.calls_are) (
+          turn,
+          all_append P (map reply_entry c.replies) (Close ∷ all_of cs) (all_mapped IsSpelledReply P reply_entry reply c.replies h.0.replies_are)
+              (close, all_entries cs h.1),
+        ),
+      )
 
 module _ (hs vs : List (List ℕ)) where
   numbered-calls : (xs : List ℕ) (calls : List (List Item)) (tail : List Entry) → numbered hs vs xs (map Call calls ++ tail) ≡ map Call (map (numbered_message hs vs xs) calls) ++ numbered hs vs xs tail
