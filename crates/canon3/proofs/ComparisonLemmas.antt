@@ -1,8 +1,7 @@
 -- A comparison of two captures, entry by entry.
-use Rattle.std.proofs.Common.{◌≡◌, ◌≢◌, ⊎_elim, ℕ, Bool, true, false, ◌<◌, ◌^◌, List, [], ◌∷◌, ◌++◌, length, append-nil, append_assoc, Option, None, Some, Result, Ok, Err, refl, sym, ap, ◌∙◌, subst, arith}
+use Rattle.std.proofs.Common.{◌≡◌, ◌≢◌, ℕ, ◌<◌, ◌^◌, List, [], ◌∷◌, ◌++◌, length, append-nil, append_assoc, Option, None, Some, Result, Ok, Err, refl, sym, ap, ◌∙◌, subst, arith}
 use Rattle.std.specs.Io.KnownBytes.{Consumes, IsAtEnd}
 use Rattle.std.specs.Option.{is_some, IsSomeAnd, MatchOption}
-use Rattle.std.specs.Result.{IsErr, IsErrAnd}
 use Rattle.std.proofs.KnownBytes.{Consumes-all, Consumes-trans}
 use Rattle.std.specs.declared.hash.BuildHasher as BuildHasher
 use Rattle.std.specs.declared.hash.Hasher as Hasher
@@ -16,8 +15,6 @@ use Rattle.capture3.specs.Entries.{IsMetBy, source_of}
 use Rattle.capture3.specs.Handing.{HandsOutGiven}
 use Rattle.capture3.specs.machinery.Entries.{StandsFor}
 use Rattle.capture3.specs.Entry.{Entry, items_of}
-use Rattle.capture3.specs.FirstFault.{FirstFault}
-use Rattle.capture3.specs.Reached.{Reached}
 use Rattle.capture3.specs.Typed.{IsWellFormed, Typed}
 use Rattle.canon3.specs.declared.comparison.Comparison.{Comparison}
 use Rattle.canon3.specs.declared.comparison.Finding.{Finding}
@@ -31,7 +28,7 @@ use Rattle.canon3.specs.declared.verdict.Verdict.{Verdict}
 use Rattle.canon3.specs.declared.verdict.Verdict.TheVariants as verdicts
 use Rattle.canon3.specs.declared.verdict.Which.TheVariants.{First, Second}
 use Rattle.canon3.specs.Comparison.{DecidesSame, StopsComparing}
-use Rattle.canon3.specs.machinery.Comparison.{Agree, Compares, HasGiven, HasGivenOn, HaveEnded, HaveParted, IsCompared, IsFound, IsReadAfter, IsReadOut, SaysOfFile, IsTold, Meets, met_second, PartWith, ReadsOn, StepsOn}
+use Rattle.canon3.specs.machinery.Comparison.{Agree, Compares, HasGiven, HasGivenOn, HaveEnded, HaveParted, IsCompared, IsFound, IsReadAfter, SaysOfFile, IsTold, Meets, met_second, PartWith, ReadsOn, StepsOn}
 use Rattle.canon3.specs.Laws.{AreFirst}
 use Rattle.canon3.specs.machinery.MessageWriter.{Before, told_after, WriterStands, values_of}
 use Rattle.canon3.specs.Renaming.{Same}
@@ -43,7 +40,7 @@ use Rattle.canon3.proofs.AgreementLemmas.{agree_more, differ_here, mark_alike, n
 use Rattle.canon3.proofs.First.{same_from_bytes}
 use Rattle.canon3.proofs.Reaching.{first_reached}
 use Rattle.canon3.proofs.ProgressLemmas.{place_is}
-use Rattle.canon3.proofs.SummaryLemmas.{first_fault}
+use Rattle.canon3.proofs.SummaryLemmas.{met_is_first}
 use Rattle.canon3.proofs.Visiting.{told_after-append}
 
 -- ---- an entry of each
@@ -84,7 +81,7 @@ module _ {S H : Type 0} (comparison : Comparison S H) (a b : List Entry) (n : Me
 -- ---- what a reader answers
 
 pub met_refused : (file given : List ℕ) (handed : List Entry) (left : Option (List ℕ)) (error : Error) → Consumes (Some file) left given → IsMetBy error left given handed → SaysOfFile file error
-met_refused file given handed left (errors.Refused fault) consumed met = first_fault file given handed left fault consumed met
+met_refused file given handed left (errors.Refused fault) consumed met = met_is_first file given handed left fault consumed met
 met_refused file given handed left errors.Read consumed met = tt
 met_refused file given handed left errors.Write consumed met = tt
 met_refused file given handed left errors.Memory consumed met = tt

@@ -1,5 +1,5 @@
 -- What is written of the entries that a reader hands out.
-use Rattle.std.proofs.Common.{◌≡◌, ⊎_elim, ℕ, Bool, true, false, List, [], ◌∷◌, ◌++◌, refl, Option, Result, Ok, Err, IfErr, IfOk, arith}
+use Rattle.std.proofs.Common.{⊎_elim, ℕ, Bool, true, false, List, [], ◌∷◌, ◌++◌, refl, Option, Result, Ok, Err, IfErr, IfOk, arith}
 use Rattle.std.specs.Prelude.{IsTrue}
 use Rattle.std.specs.Io.KnownBytes.{Appends, Consumes}
 use Rattle.std.proofs.KnownBytes.{Appends-nil, Consumes-nil}
@@ -16,7 +16,7 @@ use Rattle.capture3.specs.Reached.{AreFirstReached, Reached}
 use Rattle.capture3.proofs.EmittedEntries.{reached_by_machine}
 use Rattle.canon3.specs.declared.passed.Passed.{Passed}
 use Rattle.canon3.specs.EntryWriter.{IsStoppedBy, KeepsPrefixes, WritesGiven}
-use Rattle.canon3.specs.machinery.EntryWriter.{WritesOn, HasMore, HasWrittenAll}
+use Rattle.canon3.specs.machinery.EntryWriter.{WritesOn, HasMore}
 use Rattle.canon3.specs.WriteErrors.{IsOfWriting}
 use Rattle.canon3.specs.SinkWrites.{AppendsFront}
 use Rattle.canon3.proofs.Reaching.{reached_first}

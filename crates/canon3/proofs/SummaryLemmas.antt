@@ -1,27 +1,22 @@
 -- From what was handed out to what a capture has.
-use Rattle.std.proofs.Common.{◌≡◌, ◌≤◌, inl, inr, ℕ, ◌+◌, Bool, true, false, cond, min, Option, None, Some, Result, Ok, Err, IfOk, List, [], ◌∷◌, ◌++◌, count_by, length, refl, sym, ap, subst, ◌∙◌, append-nil, arith}
+use Rattle.std.proofs.Common.{◌≡◌, ◌≤◌, inl, inr, ℕ, ◌+◌, Bool, cond, min, Option, None, Some, Result, Ok, Err, IfOk, List, [], ◌∷◌, ◌++◌, count_by, length, refl, sym, ap, subst, ◌∙◌, append-nil, arith}
 use Rattle.std.specs.Prelude.{bytes_eq}
 use Rattle.std.specs.Cmp.Lexicographic.{nat_list_eq_equiv}
-use Rattle.std.specs.Io.KnownBytes.{Consumes, IsAtEnd}
+use Rattle.std.specs.Io.KnownBytes.{Consumes}
 use Rattle.std.proofs.KnownBytes.{Consumes-all, Consumes-nil}
 use Rattle.std.proofs.lemmas.Grind.{flat_map-append}
 use Rattle.std.proofs.lemmas.List.Sums.{sum_by-append, sum_by-cons}
-use Rattle.std.specs.declared.hash.BuildHasher as BuildHasher
-use Rattle.std.specs.declared.hash.Hasher as Hasher
 use Rattle.xdr3.specs.Item.{Item}
 use Rattle.capture3.specs.Entries.{IsMetBy, OnRefused}
-use Rattle.capture3.specs.declared.reader.entries.Entries.{Entries}
 use Rattle.capture3.specs.declared.fault.Error.{Error}
 use Rattle.capture3.specs.declared.fault.Error.TheVariants as errors
 use Rattle.capture3.specs.declared.fault.Fault.{Fault}
 use Rattle.capture3.specs.Entry.{Entry, Begin, Call, Turn, Reply, Close, End, items_of}
 use Rattle.capture3.specs.FirstFault.{FirstFault}
-use Rattle.capture3.specs.Reached.{Reached}
 use Rattle.capture3.specs.Typed.{Typed}
 use Rattle.capture3.proofs.EmittedEntries.{reached_by_machine}
 use Rattle.canon3.specs.declared.passed.Passed.{Passed}
 use Rattle.canon3.specs.declared.summary.Summary.{Summary}
-use Rattle.canon3.specs.declared.summary.Tally.{Tally}
 use Rattle.capture3.specs.declared.reader.entry.Kind.{Kind}
 use Rattle.capture3.specs.declared.reader.entry.Kind.TheVariants as kinds
 use Rattle.canon3.specs.Rank.{distinct, number_limit}
@@ -31,7 +26,6 @@ use Rattle.canon3.specs.machinery.Passed.{calls, replies}
 use Rattle.canon3.specs.Progress.{HasPassed}
 use Rattle.canon3.specs.Summary.{ConcludesGiven, is_begin, is_call, is_reply, IsSummary}
 use Rattle.canon3.specs.machinery.Summary.{all_items, Sums}
-use Rattle.canon3.specs.machinery.Tally.{TalliesOn, HasTalliedAll}
 use Rattle.capture3.specs.Kept.{IsOfKind}
 use Rattle.canon3.specs.Values.{handles}
 use Rattle.canon3.proofs.InOrder.{typed_in_order}
@@ -114,9 +108,9 @@ summary_of bytes old new (Ok summary) tells (given, consumed, (ended, is)) =
 summary_of bytes old new (Err error) tells c = tt
 
 -- the fault that is met is the first of all bytes
-pub first_fault : (bytes given : List ℕ) (entries : List Entry) (left : Option (List ℕ)) (fault : Fault) → Consumes (Some bytes) left given → IsMetBy (errors.Refused fault) left given entries → FirstFault bytes fault
-first_fault bytes given entries None fault consumed met = absurd consumed
-first_fault bytes given entries (Some rest) fault consumed met =
+pub met_is_first : (bytes given : List ℕ) (entries : List Entry) (left : Option (List ℕ)) (fault : Fault) → Consumes (Some bytes) left given → IsMetBy (errors.Refused fault) left given entries → FirstFault bytes fault
+met_is_first bytes given entries None fault consumed met = absurd consumed
+met_is_first bytes given entries (Some rest) fault consumed met =
     elim met [
       | inl shown ↦ rw consumed (shown rest).0
       | inr shown ↦ subst (λ (b : List ℕ). FirstFault b fault) (Consumes-all (Some bytes) (Some rest) given [] given consumed shown.0 refl) shown.1
@@ -125,7 +119,7 @@ first_fault bytes given entries (Some rest) fault consumed met =
 pub faults_of : (bytes : List ℕ) (old new : Option (List ℕ)) (result : Result Summary Error) → old ≡ Some bytes → ConcludesGiven old new result → OnRefused result (FirstFault bytes)
 faults_of bytes old new (Ok summary) tells c = tt
 faults_of bytes old new (Err (errors.Refused met)) tells (given, consumed, (entries, is)) =
-    first_fault bytes given entries new met (subst (λ (o : Option (List ℕ)). Consumes o new given) tells consumed) is
+    met_is_first bytes given entries new met (subst (λ (o : Option (List ℕ)). Consumes o new given) tells consumed) is
 faults_of bytes old new (Err errors.Read) tells c = tt
 faults_of bytes old new (Err errors.Write) tells c = tt
 faults_of bytes old new (Err errors.Memory) tells c = tt

@@ -1,6 +1,6 @@
 -- Each visit adds its item to the message that is written with numbers.
 use Rattle.std.proofs.Common.{◌≡◌, ◌≢◌, ℕ, ◌<◌, ◌≤◌, ◌^◌, List, [], ◌∷◌, ◌++◌, drop, length, length-append, append_assoc, append-nil, refl, sym, ap, ap₂, ◌∙◌, subst, arith, min, Result, Ok, Err, ◌⊎◌, inl, inr, Bool, true}
-use Rattle.std.specs.Prelude.{bytes_eq, nat_eq, OnErr, OnOk, ◌==◌}
+use Rattle.std.specs.Prelude.{bytes_eq, nat_eq, OnOk, ◌==◌}
 use Rattle.std.specs.Bool.{Decides}
 use Rattle.std.specs.List.{flat_map}
 use Rattle.std.proofs.lemmas.Grind.{flat_map-append}
