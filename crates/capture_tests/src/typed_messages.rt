@@ -4,10 +4,10 @@
 ghost use Rattle.std.specs.Prelude.{◌≤◌, length};
 
 use crate::sample::NULL;
-use capture3::{Entry, parse};
+use capture3::{Entry, pack_chunk, pack_header, parse};
 use nfs3_types::Res;
 use rpc_head::ProcId;
-use std::alloc::Global;
+use std::alloc::{AllocError, Global};
 use std::test::Fail;
 use typed3::{Args, Results, read_call, read_reply};
 use xdr3::{GetError, Input, Reason, Stop, Walk, Writer};
@@ -137,5 +137,104 @@ fn kept_messages_are_read(rt: HostRuntime) -> Result<(), Fail> {
             _ => {}
         }
     }
+    Ok(())
+}
+
+/// The arguments of a READDIRPLUS of the handle aa, from its beginning.
+const READDIRPLUS_ARGS: [u8; 32] = [
+    0, 0, 0, 1, 0xaa, 0, 0, 0, 0, 0, 0, 0, 0, 0, 0, 0, 0, 0, 0, 0, 0, 0, 0, 0, 0, 0, 2, 0, 0, 0,
+    0x10, 0,
+];
+
+/// The arguments of a LOOKUP of x in the handle aa.
+const LOOKUP_ARGS: [u8; 16] = [0, 0, 0, 1, 0xaa, 0, 0, 0, 0, 0, 0, 1, 0x78, 0, 0, 0];
+
+/// The body of a call with the xid 9 and AUTH_NONE.
+fn call(alloc: Global, procedure: u8, args: &[u8]) -> Result<Vec<u8>, AllocError> {
+    let mut body = Vec::from_slice(
+        alloc,
+        &[
+            0, 0, 0, 9, 0, 0, 0, 0, 0, 0, 0, 2, 0, 1, 0x86, 0xa3, 0, 0, 0, 3,
+        ],
+    )?;
+    body.extend_from_slice(&[0, 0, 0, procedure])?;
+    body.extend_from_slice(&[0; 16])?;
+    body.extend_from_slice(args)?;
+    Ok(body)
+}
+
+/// The body of an accepted reply with the xid 9.
+fn reply(alloc: Global, results: &[u8]) -> Result<Vec<u8>, AllocError> {
+    let mut body = Vec::from_slice(alloc, &[0, 0, 0, 9, 0, 0, 0, 1])?;
+    body.extend_from_slice(&[0; 16])?;
+    body.extend_from_slice(results)?;
+    Ok(body)
+}
+
+/// Appends a chunk of one record.
+fn push_record(file: &mut Vec<u8>, body: &[u8]) -> Result<(), AllocError> {
+    let length = (body.len() as u32).wrapping_add(4);
+    file.extend_from_slice(&pack_chunk(length))?;
+    file.extend_from_slice(&(length.wrapping_sub(4) | 0x8000_0000).to_be_bytes())?;
+    file.extend_from_slice(body)
+}
+
+/// A capture of one connection.
+fn capture(alloc: Global, calls: &[Vec<u8>], replies: &[Vec<u8>]) -> Result<Vec<u8>, AllocError> {
+    let mut file = Vec::from_slice(alloc, &pack_header())?;
+    file.extend_from_slice(&pack_chunk(1))?;
+    for body in calls {
+        push_record(&mut file, body)?;
+    }
+    file.extend_from_slice(&pack_chunk(0))?;
+    for body in replies {
+        push_record(&mut file, body)?;
+    }
+    file.extend_from_slice(&[0; 8])?;
+    Ok(file)
+}
+
+/// The items of a value, as they are spelled.
+fn spelled<W: Walk>(alloc: Global, value: &W) -> Result<Vec<u8>, Fail> {
+    let mut writer = Writer::new(alloc);
+    value.walk(&mut writer)?;
+    Ok(Vec::from_slice(alloc, writer.bytes())?)
+}
+
+#[test]
+fn a_kept_reply_is_read_as_its_results(rt: HostRuntime) -> Result<(), Fail> {
+    let alloc = rt.alloc();
+    let calls = vec![in alloc; call(alloc, 17, &READDIRPLUS_ARGS)?]?;
+    let replies = vec![in alloc; reply(alloc, &READDIRPLUS)?]?;
+    let entries = parse(alloc, &capture(alloc, &calls, &replies)?)?;
+    let Some(Entry::Reply(kept)) = entries.get(3) else {
+        return Err("no reply".into());
+    };
+    let read = read_reply(alloc, kept.lend())?;
+    let Some(read) = &read.results else {
+        return Err("no results".into());
+    };
+    let direct = results(alloc, nfs(17), &READDIRPLUS).map_err(|_| "refused")?;
+    assert_eq!(rt; spelled(alloc, read)?, spelled(alloc, &direct)?);
+    assert_eq!(rt; spelled(alloc, read)?.as_slice(), READDIRPLUS.as_slice());
+    Ok(())
+}
+
+#[test]
+fn two_calls_of_one_xid_are_read_alike(rt: HostRuntime) -> Result<(), Fail> {
+    let alloc = rt.alloc();
+    let calls = vec![in alloc;
+        call(alloc, 3, &LOOKUP_ARGS)?,
+        call(alloc, 3, &LOOKUP_ARGS)?,
+    ]?;
+    let entries = parse(alloc, &capture(alloc, &calls, &[])?)?;
+    let (Some(Entry::Call(first)), Some(Entry::Call(second))) = (entries.get(1), entries.get(2))
+    else {
+        return Err("no calls".into());
+    };
+    let first = read_call(alloc, first.lend())?;
+    let second = read_call(alloc, second.lend())?;
+    assert_eq!(rt; (first.xid, second.xid), (9, 9));
+    assert_eq!(rt; spelled(alloc, &first)?, spelled(alloc, &second)?);
     Ok(())
 }

@@ -6,6 +6,8 @@ mod canonical;
 #[cfg(test)]
 mod comparisons;
 #[cfg(test)]
+mod hashers;
+#[cfg(test)]
 mod lines;
 #[cfg(test)]
 mod listings;

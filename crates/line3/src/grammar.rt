@@ -9,49 +9,63 @@ use std::alloc::{AllocError, Global};
 
 /// What stands below the list of the commands.
 const ENDINGS: &str = "\
-Status: 0 where a command did what it says; 1 where the captures of `same` differ;
-2 where a capture is refused: its first fault is told by place and reason;
-3 where a file, a device or memory failed; 4 where the command line is refused, and for help.
+Exit status:
+  0  success; for `same`: the captures are the same
+  1  `same` only: the captures differ
+  2  a capture is not valid; its first fault is printed with position and reason
+  3  a file or device failed, or memory ran out
+  4  the command line is wrong, or help was asked for
+
+Captures are made from tcpdump or Wireshark recordings by tools/from_pcap.
 
 Examples:
   nfs3canon check run.nfs3cap
-  nfs3canon canon run.nfs3cap canonical.nfs3cap
-  nfs3canon same before.nfs3cap after.nfs3cap";
+  nfs3canon show run.nfs3cap | grep NFSPROC3_WRITE
+  nfs3canon same before.nfs3cap after.nfs3cap
+  nfs3canon canon run.nfs3cap reference.nfs3cap";
 
-const CHECK: &str = "Checks a capture against the standards and counts what it has";
+const CHECK: &str = "Check that every message is valid, and count them";
 
 const CHECK_ENDINGS: &str = "\
-Prints `ok connections=C calls=N replies=R handles=H`, status 0. A refused capture is told on standard error
-by the place and the reason of its first fault, as `connection 2 server record 3 byte 24: BadBool` or
-`file 12: BadMark`, status 2.";
+Prints `ok connections=C calls=N replies=R handles=H`, where H is the number of
+distinct file handles. If the capture is not valid, prints the position and
+reason of its first fault on standard error, status 2:
+  connection 2 server record 3 byte 24: BadBool
+  file 12: BadMark
+tools/explain shows what is at that position.";
 
-const SHOW: &str = "Lists a capture, one line for each message";
+const SHOW: &str = "Print one line for each message, with all its fields";
 
 const SHOW_ENDINGS: &str = "\
-Prints each call and each reply with its connection, side, number, xid, procedure and all its items, status 0.
-Where the capture is refused, the messages before the fault are listed; the fault is told as by `check`,
+Each line has the connection, the side, the record's number, the xid, the
+procedure and then name=value for each field, as recorded. If the capture is not
+valid, prints the messages before the fault, and the fault as `check` does,
 status 2.";
 
-const CANON: &str = "Writes the canonical form of a capture to a file";
+const CANON: &str = "Write the canonical form of a capture";
 
 const CANON_ENDINGS: &str = "\
-Xids, file handles and write verifiers are numbered by first appearance, so that runs which differ in these
-alone have equal bytes. Prints the line of `check`, status 0. On any other status OUT is as it was, unless
-the line alone could not be printed; it is written beside its name, as OUT.part, and never is a file that is
-read.";
+Renumbers xids, file handles and write verifiers by first appearance. Two
+captures that differ in nothing else have equal canonical forms, so a stored form
+can be compared with later ones by cmp. Times, stamps and file ids are kept.
+Prints the same line as `check`. OUT is written beside its name and gets the name
+when it is complete; if anything fails before that, OUT is unchanged.";
 
-const SAME: &str = "Compares two captures up to renaming";
+const SAME: &str = "Compare two captures, ignoring xids, file handles and write verifiers";
 
 const SAME_ENDINGS: &str = "\
-Prints `same`, status 0, where one-to-one renamings of xids, file handles and write verifiers turn one capture
-into the other; else the first record at which they part, as `differ at connection C SIDE record N`, status 1.
-A fault is told as by `check`, after `first: ` or `second: `, status 2.";
+Prints `same`, status 0, or the first record that differs, status 1:
+  differ at connection 1 server record 7
+Everything but xids, file handles and write verifiers is compared exactly,
+including times, stamps and file ids. If a capture is not valid, prints its first
+fault after `first: ` or `second: `, status 2.";
 
-const PACK: &str = "Packs the streams of recorded connections into a capture";
+const PACK: &str = "Make a capture from the byte streams of TCP connections";
 
 const PACK_ENDINGS: &str = "\
-STREAMS are files with the bytes of TCP streams, of each connection the client's and then the server's. Prints
-nothing, status 0. The records in them are not checked. On any other status OUT is as it was.";
+STREAMS are files, for each connection the bytes sent by the client and then
+those sent by the server. Their contents are not checked. Prints nothing. If
+anything fails, OUT is unchanged.";
 
 fn file<'a>(alloc: Global, id: &'a str, help: &'a str) -> Arg<'a>
     ensures rule { rule_of result ≡ file_rule id.entry.now }
@@ -64,7 +78,7 @@ fn streams<'a>(alloc: Global) -> Arg<'a>
     ensures rule { rule_of result ≡ streams_rule }
     ensures local { result.global ≡ false }
 {
-    file(alloc, "STREAMS", "The streams, in pairs").num_args(1..)
+    file(alloc, "STREAMS", "Client and server stream of each connection").num_args(1..)
 }
 
 fn of_one_file<'a>(
@@ -78,7 +92,7 @@ fn of_one_file<'a>(
     Command::new(alloc, name)
         .about(about)
         .after_help(endings)
-        .arg(file(alloc, "FILE", "The capture"))
+        .arg(file(alloc, "FILE", "A capture file"))
 }
 
 fn rewriting<'a>(alloc: Global) -> Result<Command<'a>, AllocError>
@@ -87,8 +101,8 @@ fn rewriting<'a>(alloc: Global) -> Result<Command<'a>, AllocError>
     Command::new(alloc, "canon")
         .about(CANON)
         .after_help(CANON_ENDINGS)
-        .arg(file(alloc, "IN", "The capture"))?
-        .arg(file(alloc, "OUT", "The file that is written"))
+        .arg(file(alloc, "IN", "A capture file"))?
+        .arg(file(alloc, "OUT", "The file to write"))
 }
 
 fn comparison<'a>(alloc: Global) -> Result<Command<'a>, AllocError>
@@ -97,8 +111,8 @@ fn comparison<'a>(alloc: Global) -> Result<Command<'a>, AllocError>
     Command::new(alloc, "same")
         .about(SAME)
         .after_help(SAME_ENDINGS)
-        .arg(file(alloc, "A", "The first capture"))?
-        .arg(file(alloc, "B", "The second capture"))
+        .arg(file(alloc, "A", "A capture file"))?
+        .arg(file(alloc, "B", "A capture file"))
 }
 
 fn packing<'a>(alloc: Global) -> Result<Command<'a>, AllocError>
@@ -107,7 +121,7 @@ fn packing<'a>(alloc: Global) -> Result<Command<'a>, AllocError>
     Command::new(alloc, "pack")
         .about(PACK)
         .after_help(PACK_ENDINGS)
-        .arg(file(alloc, "OUT", "The file that is written"))?
+        .arg(file(alloc, "OUT", "The file to write"))?
         .arg(streams(alloc))
 }
 
@@ -116,7 +130,7 @@ fn program<'a>(alloc: Global) -> Command<'a>
 {
     Command::new(alloc, "nfs3canon")
         .about(
-            "Checks, lists, compares and packs recorded NFS version 3 and MOUNT version 3 traffic",
+            "Check, list and compare recorded NFS version 3 and MOUNT version 3 traffic",
         )
         .after_help(ENDINGS)
         .subcommand_required(true)
