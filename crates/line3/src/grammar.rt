@@ -37,8 +37,7 @@ const CANON: &str = "Writes the canonical form of a capture to a file";
 const CANON_ENDINGS: &str = "\
 Xids, file handles and write verifiers are numbered by first appearance, so that runs which differ in these
 alone have equal bytes. Prints the line of `check`, status 0. On any other status OUT is as it was, unless
-the line alone could not be printed; it is written beside its name, as OUT.part, and never is a file that is
-read.";
+the line alone could not be printed. It never is a file that is read.";
 
 const SAME: &str = "Compares two captures up to renaming";
 
