@@ -95,7 +95,7 @@ class Runs:
         self.want('canon ' + name, self.run('canon', name, name + '.out'), wanted)
         form = self.read(name + '.out')
         self.want('what canon made of ' + name, form is not None, accepted)
-        self.want('what canon left beside it', self.read(name + '.out.part'), None)
+        self.want('what canon left beside it', [other for other in os.listdir(self.folder) if other.startswith('.')], [])
         return form
 
 

@@ -1,5 +1,5 @@
 #!/usr/bin/env python3
-"""Refuses each growth of memory of the built program in turn, makes each read, write and sync fail, and counts the reads.
+"""Refuses each growth of memory of the built program in turn, makes each call of the system fail, and counts the reads and writes.
 
     python3 tests/failures.py [PROGRAM] [--only TEXT] [-v]
 
@@ -14,15 +14,16 @@ import pathlib
 import random
 import tempfile
 
+import outputs
 import tracing
 from captures import Runs
+from outputs import AS_IT_WAS, PACKED, SETTINGS, Setting
 from running import try_all, words_of
 from texts import fragment, mixed
 from tracing import Fault
 from traffic import NFS, NFSACL, Names, Traffic, call, in_version_2, messages, streams_of, success
 
 EXAMPLES = pathlib.Path(__file__).resolve().parent.parent / 'examples'
-AS_IT_WAS = b'as it was'
 OUT_OF_MEMORY, READ_FAILED, WRITE_FAILED = 'out of memory\n', 'read failed\n', 'write failed\n'
 BLOCK = 65_536
 # The last growths of a run are those of its line, which is not printed where one of them is refused.
@@ -34,6 +35,10 @@ OTHER_LINES = ['check absent', 'same a absent', 'canon a ./a', 'canon a new', 'p
 GIVEN_AT_ONCE = {'getattr': 3, 'two_connections': 7, 'bad_bool': 1, 'bad_server_record': 5, 'bad_file_length': 9,
                  'every_procedure': 997, 'interleaved': 101}
 WRITTEN_AT_ONCE = 499
+# The calls of the system that each fail once for each kind of output, and how.
+LOOKING = (errno.ENOMEM, errno.EIO, errno.EACCES)
+FAILING = {'stat': LOOKING, 'open': LOOKING, 'readlink': LOOKING, 'link': (errno.EIO, errno.EPERM, errno.EEXIST), 'rename': (errno.EIO,),
+           'unlink': (errno.EIO,), 'mode': (errno.EPERM,), 'owner': (errno.EPERM,), 'sync': (errno.EIO,), 'random': (errno.EAGAIN,)}
 MIXED = messages.interleaved(messages.in_turn([call(1, NFS, 3, 0)], [success(1)]))
 
 
@@ -160,6 +165,7 @@ def writes(line, capture, place):
                            ('of nothing', Fault('write', number, takes=0))):
             answer = place.fail(line, fault, pieces)
             place.ended(what + way, answer, 3, plain.out[:len(answer.out)], WRITE_FAILED)
+            place.want(what + way + ': no write after it', answer.counts['write'], number)
             is_of_the_line = answer.file == 1 and not is_streamed(line)
             place.want(what + way + ': files', place.files() == (written if is_of_the_line else place.as_before()), True)
         answer = place.fail(line, Fault('write', number, takes=1), pieces)
@@ -174,6 +180,95 @@ def syncs(line, place):
     place.ended(line, answer, 3, '', WRITE_FAILED)
     place.want('calls', answer.counts['sync'], 1)
     place.want('files', place.files(), place.as_before())
+
+
+def randoms(line: str, place: Place) -> None:
+    """Where the system gives no random bytes, nothing is read, listed or written."""
+    place.put(example('getattr'))
+    last, prefix = place.fail(line).counts['random'], 'first: ' if line.startswith('same') else ''
+    place.want('calls of ' + line, last > 0, True)
+    for number in range(1, last + 1):
+        answer = place.fail(line, Fault('random', number))
+        what = '%s without random bytes %d of %d' % (line, number, last)
+        place.want(what, (answer.status, answer.out, answer.counts['read']), (3, '', 0))
+        place.want(what, answer.error in (prefix + READ_FAILED, 'open failed: out\n'), True)
+        place.want(what + ': files', place.files(), place.as_before())
+
+
+def unopened_names(line: str, told: str, place: Place) -> None:
+    """Of two captures the one is told for whose name memory ran out."""
+    place.put(example('getattr'))
+    last = place.fail(line, Fault('growth', 0)).counts['growth']
+    errors = [place.fail(line, Fault('growth', number)).error for number in range(1, last + 1)]
+    place.want('growths of %s of which the file is told' % line, errors.count(told + OUT_OF_MEMORY), 1)
+
+
+# --- Outputs ---
+
+def calls(setting: Setting, place: Place) -> None:
+    """Where one call of the system fails, the inputs are as they were, and what has the name of the output is old or whole."""
+    if not outputs.is_possible(setting):
+        print('left out, since root alone makes devices: ' + setting.line)
+        return
+    capture, program, folder = example('getattr'), place.program, place.folder
+    outputs.make(folder, setting, capture)
+    before = outputs.found_in(folder)
+    plain, streamed = outputs.run(program, folder, setting)
+    after = outputs.found_in(folder)
+    place.want(setting.line, (plain.status, plain.error.startswith('ok ') or plain.out.startswith('ok ')),
+               (setting.status, setting.status == 0 and setting.line.startswith('canon')))
+    whole = PACKED if setting.line.startswith('pack') else form_of(place, capture)
+    place.want('what was written', written(setting, after, streamed), expected(setting, whole))
+    for kind, errors in FAILING.items():
+        for number in range(1, plain.counts[kind] + 1):
+            for error in errors:
+                outputs.make(folder, setting, capture)
+                answer, through = outputs.run(program, folder, setting, Fault(kind, number, error))
+                what = '%s with %s %d of %d failed by %s' % (setting.line, kind, number, plain.counts[kind], errno.errorcode[error])
+                old_or_whole(place, what, setting, (answer, outputs.found_in(folder), through), (plain, before, after, streamed))
+
+
+def form_of(place, capture):
+    place.write('a', capture)
+    place.write('new', b'')
+    tracing.run(place.program, ['canon', 'a', 'new'], place.folder)
+    return place.read('new')
+
+
+def written(setting, found, streamed):
+    """What was written to the output, of which standard output may have had bytes before."""
+    if setting.status != 0 or not setting.written or setting.written in ('fifo', 'node'):
+        return streamed
+    return found[setting.written][1]
+
+
+def expected(setting, whole):
+    if setting.status != 0 or setting.written == 'node':
+        return b''
+    return AS_IT_WAS + whole if setting.stdout == 'out' else whole
+
+
+def old_or_whole(place, what, setting, seen, wanted):
+    """A run ended as without a fault, or it was told that a file could not be opened, read or written, and nothing is changed."""
+    (answer, found, through), (plain, before, after, streamed) = seen, wanted
+    if (answer.status, answer.out, answer.error) == (plain.status, plain.out, plain.error):
+        place.want(what + ': files', outputs.without_parts(found), after)
+        place.want(what + ': through', through, streamed)
+    else:
+        names = {'open failed: %s\n' % word for word in setting.line.split()[1:]}
+        place.want(what, (answer.status, answer.out), (3, ''))
+        place.want(what + ': ' + answer.error, answer.error in {READ_FAILED, WRITE_FAILED, *names}, True)
+        place.want(what + ': files', front_of_standard_output(outputs.without_parts(found), setting, before, after), before)
+        place.want(what + ': a front', streamed.startswith(through), True)
+    if ' unlink ' not in what:
+        place.want(what + ': parts', outputs.without_parts(found), found)
+
+
+def front_of_standard_output(found, setting, before, after):
+    """The files, of which standard output may have more: a front of what is written to it."""
+    if setting.stdout in before and after[setting.stdout][1].startswith(found[setting.stdout][1]):
+        return {**found, setting.stdout: before[setting.stdout]}
+    return found
 
 
 # --- How often is read ---
@@ -226,6 +321,12 @@ def tries():
         yield 'reads: %s of version 2 byte by byte' % line, reads, line, MIXED, 1
     for line in ('canon a out', 'canon a new', 'pack out a a', 'pack new a a'):
         yield 'syncs: ' + line, syncs, line
+    for line in ('check a', 'show a', 'canon a out', 'same a a', 'pack out a a'):
+        yield 'random bytes: ' + line, randoms, line
+    for line, told in (('same absent a', 'first: '), ('same a absent', 'second: ')):
+        yield 'unopened names: ' + line, unopened_names, line, told
+    for name, setting in SETTINGS.items():
+        yield 'outputs: ' + name, calls, setting
     for make in (of_version_1, of_version_2):
         yield 'number of reads: ' + make.__name__, number_of_reads, make
 

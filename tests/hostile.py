@@ -6,6 +6,7 @@
 PROGRAM is crates/nfs3canon/out/nfs3canon where none is named. Each test below is a function with a folder of its own. The
 last line is 'N passed, M failed', and the status is 1 where any failed. It takes less than a minute on four cores.
 """
+import functools
 import os
 import pathlib
 import shutil
@@ -16,6 +17,7 @@ import threading
 import time
 
 from captures import Runs
+from outputs import PART
 from running import try_all, words_of
 from texts import fragment, mixed
 from traffic import (
@@ -227,6 +229,17 @@ def readers_that_go_away(place):
         place.want(words[0], (process.wait(TIMEOUT), process.stderr.read()), (3, b'write failed\n'))
 
 
+def pipes_that_do_not_wait(place):
+    """A full pipe that does not wait is a failed write."""
+    place.write('a', LARGE)
+    reader, writer = os.pipe()
+    os.set_blocking(writer, False)
+    done = subprocess.run([place.program, 'show', 'a'], cwd=place.folder, stdout=writer, stderr=subprocess.PIPE, timeout=TIMEOUT)
+    place.want('show', (done.returncode, done.stderr), (3, b'write failed\n'))
+    os.close(reader)
+    os.close(writer)
+
+
 def standard_error_that_nobody_reads(place):
     """The status still tells."""
     place.write('a', messages.MAGIC)
@@ -249,33 +262,66 @@ def standard_files_that_are_closed(place):
     place.want('check of what was packed', place.run('check', 'out')[0], 2)
 
 
+def part_in(place) -> str:
+    """The file that is written beside its name, once it has some bytes."""
+    def parts() -> list[str]:
+        return [name for name in os.listdir(place.folder) if PART.fullmatch(name) and place.read(name)]
+    wait_for(parts)
+    return parts()[0]
+
+
 def signals_in_the_middle(place):
-    """What has the name of the output stays. What was written beside it stays too, and is told at the next run."""
+    """What has the name of the output stays. What was written beside it stays too, is for its owner alone, and is in nobody's way."""
     place.write('a', LARGE)
-    place.write('out', b'as it was')
-    for words in (['canon', '/dev/stdin', 'out'], ['pack', 'out', '/dev/stdin', 'a']):
+    for words in (['canon', '/dev/stdin', 'out'], ['pack', 'out', '/dev/stdin', 'a'], ['canon', '/dev/stdin', 'new']):
         for number in (signal.SIGTERM, signal.SIGINT, signal.SIGKILL):
+            place.write('out', b'as it was')
             process = place.begin(*words, stdin=subprocess.PIPE)
             process.stdin.write(LARGE[:2_000_000])
             process.stdin.flush()
-            wait_for(lambda: place.read('out.part'))
+            part = part_in(place)
+            place.want('mode of the part', os.stat(os.path.join(place.folder, part)).st_mode & 0o7777, 0o600)
             process.send_signal(number)
             place.want('%s %s' % (words[0], number), process.wait(TIMEOUT), -number)
             process.stdin.close()
+            place.want('files', sorted(os.listdir(place.folder)), sorted([part, 'a', 'out']))
             place.want('out', place.read('out'), b'as it was')
-            place.want('canon after it', place.run('canon', 'a', 'out')[0], 3)
-            os.remove(os.path.join(place.folder, 'out.part'))
+            place.want('canon after it', place.run('canon', 'a', 'out'), (0, LARGE_LINE, ''))
+            os.remove(os.path.join(place.folder, part))
 
 
 def names_that_are_taken_in_the_middle(place):
-    """Where the whole output cannot get its name, what was written beside it is removed."""
-    process = place.begin('canon', '/dev/stdin', 'out', stdin=subprocess.PIPE)
-    process.stdin.write(LARGE[:2_000_000])
-    wait_for(lambda: place.read('out.part'))
-    os.mkdir(os.path.join(place.folder, 'out'))
-    feed(process.stdin, [LARGE[2_000_000:]])
-    place.want('canon', (process.wait(TIMEOUT), process.stderr.read()), (3, b'write failed\n'))
-    place.want('files', os.listdir(place.folder), ['out'])
+    """Where the whole output cannot get its name, what was written beside it is removed, and what has got the name stays."""
+    def take(name, make, before):
+        for old in os.listdir(place.folder):
+            remove(os.path.join(place.folder, old))
+        if before is not None:
+            place.write(name, before)
+        process = place.begin('canon', '/dev/stdin', name, stdin=subprocess.PIPE)
+        process.stdin.write(LARGE[:2_000_000])
+        part_in(place)
+        remove(os.path.join(place.folder, name))
+        make(os.path.join(place.folder, name))
+        feed(process.stdin, [LARGE[2_000_000:]])
+        place.want('canon', (process.wait(TIMEOUT), process.stderr.read()), (3, b'write failed\n'))
+        place.want('files', os.listdir(place.folder), [name] if os.path.lexists(os.path.join(place.folder, name)) else [])
+
+    def other(path):
+        with open(path, 'wb') as file:
+            file.write(b'of somebody else')
+    for before in (None, b'as it was'):
+        take('out', os.mkdir, before)
+        take('out', lambda path: os.symlink('absent', path), before)
+        take('out', other, before)
+        place.want('what has got the name', place.read('out'), b'of somebody else')
+    take('out', lambda path: None, b'as it was')
+
+
+def remove(path):
+    if os.path.isdir(path) and not os.path.islink(path):
+        os.rmdir(path)
+    elif os.path.lexists(path):
+        os.remove(path)
 
 
 def many_streams_and_few_open_files(place):
@@ -283,6 +329,143 @@ def many_streams_and_few_open_files(place):
     place.write('reply', messages.record(NULL[1][0])[4:])
     place.want('pack', place.limited('-n 16', 'pack', 'out', *['call', 'reply'] * 3_000), (0, '', ''))
     place.want('what was packed', place.read('out') == messages.capture(*[NULL] * 3_000), True)
+
+
+# --- Names, folders and rights ---
+
+def names_of_the_most_bytes(place):
+    """A name of an output may have 255 bytes, as many as a file system takes."""
+    place.write('a', GOOD)
+    for size in (250, 251, 255):
+        for _ in range(2):
+            place.want('canon', place.run('canon', 'a', 'n' * size), (0, GOOD_LINE, ''))
+            place.want('pack', place.run('pack', 'p' * size, 'a', 'a'), (0, '', ''))
+    place.want('a name of 256', place.run('canon', 'a', 'n' * 256), (3, '', 'open failed: %s\n' % ('n' * 256)))
+    place.want('files', sorted(os.listdir(place.folder)), sorted(['a', *(kind * size for kind in 'np' for size in (250, 251, 255))]))
+
+
+def folders_that_no_path_names(place):
+    """An output is written again as the first time if the name of its folder is no text, or the path is longer than the system takes."""
+    for names in ([b'\xff'], [b'd' * 200] * 30):
+        folder = os.open(place.folder, os.O_RDONLY)
+        for name in names:
+            os.mkdir(name, dir_fd=folder)
+            folder = os.open(name, os.O_RDONLY, dir_fd=folder)
+        with open(os.open('a', os.O_WRONLY | os.O_CREAT, dir_fd=folder), 'wb') as file:
+            file.write(GOOD)
+        os.symlink('out', 'link', dir_fd=folder)
+        for name in ('out', 'out', 'link'):
+            answer = place.run_by([place.program, 'canon', 'a', name], preexec_fn=functools.partial(os.fchdir, folder))
+            place.want('canon a ' + name, answer, (0, GOOD_LINE, ''))
+        place.want('files', sorted(os.listdir(folder)), ['a', 'link', 'out'])
+
+
+def as_nobody(place):
+    """How somebody whom modes bind runs a copy of the program; nothing if the tests do not run as root."""
+    if os.geteuid() != 0:
+        return None
+    os.chmod(place.folder, 0o777)
+    program = shutil.copy(place.program, place.folder)  # since the repository may stand where others may not look
+    return lambda *words: place.run_by([program, *words], user=NOBODY, group=NOBODY, extra_groups=[])
+
+
+def outputs_that_are_refused_before_the_work(place):
+    """The input is refused, but what is told is that nothing can be written to the output."""
+    place.write('a', messages.MAGIC)
+    run = as_nobody(place)
+    if run is None:
+        print('left out, since the tests do not run as root: outputs that are refused before the work')
+        return
+    place.write('of_root', b'as it was')
+    os.mkdir(os.path.join(place.folder, 'closed'), 0o755)
+    os.chmod(os.path.join(place.folder, 'closed'), 0o755)
+    place.write('closed/open', b'as it was')
+    os.chmod(os.path.join(place.folder, 'closed/open'), 0o666)
+    for name in ('of_root', 'closed/new', 'closed/open'):
+        place.want(name, run('canon', 'a', name), (3, '', 'open failed: %s\n' % name))
+    place.write('log', b'as it was')
+    log = os.path.join(place.folder, 'log')
+    if subprocess.run(['chattr', '+a', log], stderr=subprocess.DEVNULL).returncode != 0:
+        print('left out, since no file can be made append-only here: an append-only file')
+    else:
+        place.want('an append-only file', place.run('canon', 'a', 'log'), (3, '', 'open failed: log\n'))
+        subprocess.run(['chattr', '-a', log])
+    for name in ('of_root', 'closed/open', 'log'):
+        place.want(name, place.read(name), b'as it was')
+    place.want('files', sorted(os.listdir(place.folder)), ['a', 'closed', 'log', os.path.basename(place.program), 'of_root'])
+    place.want('files', sorted(os.listdir(os.path.join(place.folder, 'closed'))), ['open'])
+
+
+def rights_on_an_output(place):
+    """A file that is replaced keeps its owner and who may open it, and never the bits that lend its owner's rights."""
+    place.write('a', GOOD)
+    path = os.path.join(place.folder, 'out')
+
+    def rights(mode, owner, run=place.run):
+        place.write('out', b'as it was')
+        if owner is not None:
+            os.chown(path, owner, owner)
+        os.chmod(path, mode)
+        place.want('canon', run('canon', 'a', 'out'), (0, GOOD_LINE, ''))
+        state = os.stat(path)
+        return state.st_mode & 0o7777, state.st_uid, state.st_gid
+    own = os.geteuid(), os.getegid()
+    for mode in (0o644, 0o600, 0o6755, 0o1606):
+        place.want('rights of %o' % mode, rights(mode, None), (mode & 0o777, *own))
+    run = as_nobody(place)
+    if run is not None:
+        for mode in (0o640, 0o6755):
+            place.want('rights of %o, of nobody' % mode, rights(mode, NOBODY), (mode & 0o777, NOBODY, NOBODY))
+        place.want('rights that cannot be given back', rights(0o666, 0, run), (0o666 & ~umask(), NOBODY, NOBODY))
+    for mask in (0o022, 0o027, 0o077):
+        os.remove(path)
+        answer = place.run_by(['sh', '-c', 'umask %o; exec "$@"' % mask, 'sh', place.program, 'canon', 'a', 'out'])
+        place.want('canon to a new file', (answer, os.stat(path).st_mode & 0o7777), ((0, GOOD_LINE, ''), 0o666 & ~mask))
+
+
+def umask():
+    with open('/proc/self/status') as file:
+        return int(next(line.split()[1] for line in file if line.startswith('Umask:')), 8)
+
+
+def mounted(place, script, *words):
+    """A run after a script that mounts something for it alone, or nothing if that may not be."""
+    flags = '-m' if os.geteuid() == 0 else '-rm'
+    try:
+        answer = place.run_by(['unshare', flags, 'sh', '-c', '(%s) >/dev/null 2>&1 || exit 77; exec "$@"' % script, 'sh', *words])
+    except FileNotFoundError:
+        return None
+    return None if answer[0] == 77 or answer[2].startswith('unshare: ') else answer
+
+
+def files_of_two_devices_with_one_number(place):
+    """They are two files."""
+    place.write('a', GOOD)
+    for name in ('one', 'two'):
+        os.mkdir(os.path.join(place.folder, name))
+    script = ('mount -t tmpfs none one && mount -t tmpfs none two && cp a one/a && cp a two/out && '
+              '[ "$(stat -c %i one/a)" = "$(stat -c %i two/out)" ]')
+    for words, out in ((['canon', 'one/a', 'two/out'], GOOD_LINE), (['pack', 'two/out', 'a', 'a', 'one/a', 'one/a'], '')):
+        answer = mounted(place, script, place.program, *words)
+        if answer is None:
+            print('left out, since nothing can be mounted here: files of two devices with one number')
+            return
+        place.want(' '.join(words), answer, (0, out, ''))
+
+
+def outputs_on_which_something_is_mounted(place):
+    """They are refused before the work, also if it is a file of the same device."""
+    place.write('a', messages.MAGIC)
+    place.write('out', b'as it was')
+    place.write('other', b'as it was')
+    os.mkdir(os.path.join(place.folder, 'far'))
+    for script in ('mount --bind other out', 'mount -t tmpfs none far && cp other far && mount --bind far/other out'):
+        answer = mounted(place, script, place.program, 'canon', 'a', 'out')
+        if answer is None:
+            print('left out, since nothing can be mounted here: outputs on which something is mounted')
+            return
+        place.want(script, answer, (3, '', 'open failed: out\n'))
+    place.want('files', sorted(os.listdir(place.folder)), ['a', 'far', 'other', 'out'])
 
 
 # --- Inputs ---
@@ -445,7 +628,9 @@ TESTS = [linear(xids, 1_000_000), linear(handles, 1_000_000), linear(empty_fragm
          memory_that_is_refused, memory_that_is_refused_to_version_2, memory_of_one_connection, streams_without_an_end,
          lengths_with_nothing_after_them, disks_that_are_full_in_the_middle, readers_that_go_away,
          standard_error_that_nobody_reads, standard_files_that_are_closed, signals_in_the_middle,
-         names_that_are_taken_in_the_middle, many_streams_and_few_open_files, inputs_that_never_end, fifos,
+         names_that_are_taken_in_the_middle, pipes_that_do_not_wait, names_of_the_most_bytes, folders_that_no_path_names,
+         outputs_that_are_refused_before_the_work, rights_on_an_output, files_of_two_devices_with_one_number,
+         outputs_on_which_something_is_mounted, many_streams_and_few_open_files, inputs_that_never_end, fifos,
          files_that_may_not_be_read, files_that_change_while_they_are_read]
 
 

@@ -1,4 +1,4 @@
-"""Runs of a program in which one growth of memory is refused, or one read, write or sync fails, or moves less than was asked for.
+"""Runs of a program in which one growth of memory is refused, or one call of the system fails, or moves less than was asked for.
 
 The program runs traced, as under a debugger (ptrace(2)), by Python's standard library alone; on Linux and x86-64 only. What is
 counted begins where the loader has ended. Growths are the program's own calls of malloc and realloc: their slots in its table of
@@ -24,7 +24,12 @@ ENTRY_OF_PROGRAM = 9  # the kind of the word in /proc/PID/auxv
 BREAKPOINT = b'\xcc'
 GROWING = ('malloc', 'realloc', 'calloc', 'aligned_alloc', 'posix_memalign')
 NOWHERE = 16  # Addresses below the least that may be mapped, so many bytes apart.
-DEVICE_CALLS = {0: 'read', 1: 'write', 74: 'sync', 75: 'sync'}
+# Calls of the system by their numbers: what they do with a file that is open, and then with names.
+MOVING = {0: 'read', 1: 'write'}
+KINDS = {**MOVING, 74: 'sync', 75: 'sync', 4: 'stat', 5: 'stat', 6: 'stat', 262: 'stat', 332: 'stat', 2: 'open', 257: 'open',
+         86: 'link', 265: 'link', 82: 'rename', 264: 'rename', 316: 'rename', 87: 'unlink', 263: 'unlink', 89: 'readlink',
+         267: 'readlink', 90: 'mode', 91: 'mode', 268: 'mode', 92: 'owner', 93: 'owner', 94: 'owner', 260: 'owner', 318: 'random'}
+NO_WAIT = 1  # A flag of getrandom: the C library asks so for itself, and does without.
 STANDARD_ERROR = 2
 NO_CALL = (1 << 64) - 1
 
@@ -34,8 +39,8 @@ class Registers(ctypes.Structure):
 
 
 class Fault:
-    """What happens at the growth or call of a kind (`growth`, `read`, `write`, `sync`) that has this number, from 1: it fails
-    with an error, or takes so many bytes."""
+    """What happens at the growth or call of a kind (`growth`, or one of KINDS) that has this number, from 1: it fails with an error,
+    or takes so many bytes."""
 
     def __init__(self, kind, number, error=errno.EIO, takes=None):
         self.kind, self.number, self.error, self.takes = kind, number, error, takes
@@ -107,7 +112,7 @@ class Traced:
 
     def __init__(self, elf, process, fault, pieces):
         self.elf, self.process, self.fault, self.pieces = elf, process, fault, pieces
-        self.counts = {'growth': 0, 'read': 0, 'write': 0, 'sync': 0}
+        self.counts = dict.fromkeys(['growth', *KINDS.values()], 0)
         self.registers, self.real, self.pending, self.file = Registers(), {}, None, None
         self.resume = RESUME if fault and fault.kind == 'growth' else RESUME_TO_CALL
 
@@ -188,21 +193,22 @@ class Traced:
             self.pending = self.begun()
             self.store()
             return
-        answer, asked = self.pending
-        self.pending = None
+        (answer, asked), self.pending = self.pending, None
         if answer is not None:
             self.registers.rax = answer & NO_CALL
         if asked is not None:
             self.registers.rdx = asked
+        if answer is not None or asked is not None:
             self.store()
 
     def begun(self):
         """What a call that begins is to answer in place of the system's answer, and how many bytes it asked for."""
-        kind = DEVICE_CALLS.get(self.registers.orig_rax)
-        if kind is None or kind == 'write' and self.registers.rdi == STANDARD_ERROR:
+        kind = self.kind()
+        if kind is None:
             return None, None
-        asked, is_fault = self.registers.rdx, self.counted(kind)
+        is_fault = self.counted(kind)
         self.file = self.registers.rdi if is_fault else self.file
+        asked = self.registers.rdx if self.registers.orig_rax in MOVING else None
         most = self.fault.takes if is_fault else self.pieces.get(kind)
         if is_fault and not most:
             self.registers.orig_rax = NO_CALL
@@ -211,13 +217,33 @@ class Traced:
             self.registers.rdx = min(asked, most)
         return None, asked
 
+    def kind(self):
+        """The kind of a call that is counted. What goes to standard error is not, nor what the system tells in /proc."""
+        kind, file = KINDS.get(self.registers.orig_rax), self.registers.rdi
+        if kind == 'write' and file == STANDARD_ERROR or kind == 'random' and self.registers.rdx & NO_WAIT:
+            return None
+        if kind == 'read' and self.is_told_by_the_system(file):
+            return None
+        return kind
 
-def run(program, words, folder, fault=None, pieces=None):
+    def is_told_by_the_system(self, file):
+        try:
+            return os.readlink('/proc/%d/fd/%d' % (self.process.pid, file)).startswith('/proc/')
+        except OSError:
+            return False
+
+
+def run(program, words, folder, fault=None, pieces=None, stdout=None, closed=()):
     """A run of the program there, with this fault, whose reads and writes move at most so many bytes at once as `pieces` says
-    by kind. Growths are counted where the fault is one, and else the calls of the system. The outputs are Latin-1."""
+    by kind. Growths are counted where the fault is one, and else the calls of the system. Its standard output is a file of its own
+    if none is given, and is then answered; the outputs are Latin-1. The standard files with the numbers `closed` are closed."""
+    def begin():
+        for number in closed:
+            os.close(number)
+        trace_me()
     with tempfile.TemporaryFile() as out, tempfile.TemporaryFile() as error:
-        process = subprocess.Popen([program, *words], cwd=folder, stdin=subprocess.DEVNULL, stdout=out, stderr=error,
-                                   env={**os.environ, 'LD_BIND_NOW': '1'}, preexec_fn=trace_me)
+        process = subprocess.Popen([program, *words], cwd=folder, stdin=subprocess.DEVNULL, stdout=stdout or out, stderr=error,
+                                   env={**os.environ, 'LD_BIND_NOW': '1'}, preexec_fn=begin)
         traced = Traced(Elf(program), process, fault, pieces or {})
         traced.run()
         out.seek(0)

@@ -47,9 +47,19 @@ fn told(alloc: Global, error: clap::Error) -> LineFault
     if error.kind() == ErrorKind::OutOfMemory {
         return LineFault::Memory;
     }
-    match format!(in alloc; "{error}") {
+    match advised(alloc, error) {
         Ok(text) => LineFault::Usage(text),
         Err(_) => LineFault::Memory,
+    }
+}
+
+/// What clap says. Its advice on a name that begins with a hyphen is to put `--` before it, which no line
+/// has.
+fn advised(alloc: Global, error: clap::Error) -> Result<String, AllocError> {
+    let text = format!(in alloc; "{error}")?;
+    match text.as_str().split_once("as a value, use '-- ") {
+        Some((before, name)) => format!(in alloc; "{before}as a value, use './{name}"),
+        None => Ok(text),
     }
 }
 

@@ -1,1 +1,3 @@
+pub mod Opening
 pub mod Printed
+pub mod Writing

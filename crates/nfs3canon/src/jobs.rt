@@ -1,15 +1,22 @@
 // What each job does with its files.
 
-use crate::outcome::Outcome;
-use crate::output::{OutputFile, is_same_file, unopened};
+ghost use Rattle.std.specs.Prelude.{◌≡◌, ◌≢◌, Err};
+ghost use Rattle.std.specs.Io.Buffered.{writer_contents, writer_inner};
+ghost use Rattle.nfs3canon.specs.Writing.{WritesOut};
+
+use crate::destination::Destination;
+use crate::identity::{FileId, standard_output};
+use crate::opening::{OpenError, opened, unopened};
+use crate::outcome::{Ended, Outcome};
+use crate::output::OutputFile;
 use canon3::{SameError, Sink, Summary, ToWrite, Which, canon, check, same};
 use capture3::{Error, FromRead, Hashers};
 use line3::LineFault;
 use listing3::show;
 use packing3::Packing;
-use std::fs::File;
+use std::fs::{File, Metadata};
 use std::hash::RandomState;
-use std::io::{BufWriter, Write};
+use std::io::{BufWriter, ErrorKind, Write};
 use std::{fs, io};
 
 /// How many bytes are gathered before they are written.
@@ -25,6 +32,27 @@ fn hashers(rt: &HostRuntime) -> io::Result<Hashers<RandomState>> {
     })
 }
 
+fn uncounted(rt: &HostRuntime, name: &str, error: OpenError) -> Outcome {
+    unopened(rt.alloc(), name, error, Outcome::Counted(Err(Error::Memory)))
+}
+
+fn unlisted(rt: &HostRuntime, name: &str, error: OpenError) -> Outcome {
+    unopened(rt.alloc(), name, error, Outcome::Listed(Err(Error::Memory)))
+}
+
+fn unpacked(rt: &HostRuntime, name: &str, error: OpenError) -> Outcome {
+    unopened(rt.alloc(), name, error, Outcome::Packed(Err(Error::Memory)))
+}
+
+/// If memory ran out for the name of one of two captures, that one is told.
+fn uncompared(rt: &HostRuntime, which: Which, name: &str, error: OpenError) -> Outcome {
+    let out_of_memory = SameError {
+        which,
+        error: Error::Memory,
+    };
+    unopened(rt.alloc(), name, error, Outcome::Compared(Err(out_of_memory)))
+}
+
 /// Checks the file with this name.
 pub fn checked(rt: &HostRuntime, name: &str) -> Outcome {
     let Ok(hashers) = hashers(rt) else {
@@ -32,19 +60,31 @@ pub fn checked(rt: &HostRuntime, name: &str) -> Outcome {
     };
     match fs::open(rt, name) {
         Ok(file) => Outcome::Counted(check(rt.alloc(), hashers, &mut FromRead::new(file))),
-        Err(_) => unopened(rt, name),
+        Err(error) => uncounted(rt, name, OpenError::from(error)),
     }
 }
 
-/// What came of it, once what was gathered before an error is written too.
-fn written_out<W: Write>(
+/// What came of it, and the writer, once what was gathered is written too. After a failed write nothing is
+/// written any more.
+fn written_out<W: Write + Drop>(
     came: Result<Summary, Error>,
-    sink: &mut ToWrite<W>,
-) -> Result<Summary, Error> {
-    if came.is_err() && sink.flush_all().is_err() {
-        return Err(Error::Write);
+    mut buffer: BufWriter<W>,
+) -> (Result<Summary, Error>, W)
+    ensures failed { came ≡ Err Error.Write → result.1 ≡ writer_inner buffer }
+    ensures came { came ≡ Err Error.Write → result.0 ≡ came }
+    ensures written { came ≢ Err Error.Write
+        → WritesOut came (writer_contents W.contents buffer) result.0 (W.contents result.1) }
+{
+    let has_failed = match &came {
+        Err(Error::Write) => true,
+        _ => buffer.flush().is_err(),
+    };
+    let (writer, _unwritten) = buffer.into_parts();
+    if has_failed {
+        (Err(Error::Write), writer)
+    } else {
+        (came, writer)
     }
-    came
 }
 
 /// The lines before a fault are written too.
@@ -52,47 +92,95 @@ pub fn listed(rt: &HostRuntime, name: &str) -> Outcome {
     let Ok(hashers) = hashers(rt) else {
         return Outcome::Listed(Err(Error::Read));
     };
-    let Ok(file) = fs::open(rt, name) else {
-        return unopened(rt, name);
+    let file = match fs::open(rt, name) {
+        Ok(file) => file,
+        Err(error) => return unlisted(rt, name, OpenError::from(error)),
     };
-    let Ok(buffer) = BufWriter::with_capacity(rt.alloc(), WRITTEN_AT_ONCE, rt.stdout()) else {
+    let Ok(mut buffer) = BufWriter::with_capacity(rt.alloc(), WRITTEN_AT_ONCE, rt.stdout()) else {
         return Outcome::Listed(Err(Error::Memory));
     };
-    let mut sink = ToWrite::new(buffer);
-    let result = show(rt.alloc(), hashers, &mut FromRead::new(file), &mut sink);
-    Outcome::Listed(written_out(result, &mut sink))
+    let mut sink = ToWrite::new(&mut buffer);
+    let came = show(rt.alloc(), hashers, &mut FromRead::new(file), &mut sink);
+    let (came, _stdout) = written_out(came, buffer);
+    Outcome::Listed(came)
 }
 
 /// The output is made once the input is open.
-pub fn rewritten(rt: &HostRuntime, input: &str, output: &str) -> Outcome {
+pub fn rewritten(rt: &HostRuntime, input: &str, output: &str) -> Ended {
     let Ok(hashers) = hashers(rt) else {
-        return Outcome::Counted(Err(Error::Read));
+        return Ended::printing(Outcome::Counted(Err(Error::Read)));
     };
-    let Ok(source) = fs::open(rt, input) else {
-        return unopened(rt, input);
-    };
-    if is_same_file(rt, input, output) {
-        return Outcome::Line(LineFault::SameName);
+    match both_opened(rt, input, output) {
+        Ok((source, made)) => Ended {
+            is_aside: made.is_standard_output(),
+            outcome: Outcome::Counted(form_kept(rt, hashers, source, made)),
+        },
+        Err(outcome) => Ended::printing(outcome),
     }
-    let mut made = match OutputFile::make(rt, output) {
-        Ok(made) => made,
-        Err(outcome) => return outcome,
-    };
-    let result = match BufWriter::with_capacity(rt.alloc(), WRITTEN_AT_ONCE, &mut made.file) {
-        Ok(buffer) => {
-            let mut sink = ToWrite::new(buffer);
-            let result = canon(rt.alloc(), hashers, &mut FromRead::new(source), &mut sink);
-            written_out(result, &mut sink)
-        }
-        Err(_) => Err(Error::Memory),
-    };
-    Outcome::Counted(match result {
+}
+
+fn both_opened(
+    rt: &HostRuntime,
+    input: &str,
+    output: &str,
+) -> Result<(File, OutputFile), Outcome> {
+    let own = standard_output(rt);
+    let (source, read) = opened(rt, input).map_err(|error| uncounted(rt, input, error))?;
+    match made_apart(rt, output, own, &read) {
+        Ok(Some(made)) => Ok((source, made)),
+        Ok(None) => Err(Outcome::Line(LineFault::SameName)),
+        Err(error) => Err(uncounted(rt, output, error)),
+    }
+}
+
+/// Makes the output, unless it is the input, of which the system says `read`. The name may lead to another
+/// file once it is open, so it is compared again.
+fn made_apart(
+    rt: &HostRuntime,
+    output: &str,
+    own: io::Result<Option<FileId>>,
+    read: &Metadata,
+) -> Result<Option<OutputFile>, OpenError> {
+    let destination = Destination::of(rt, output, own?)?;
+    if destination.is_regular(read) {
+        return Ok(None);
+    }
+    let made = OutputFile::make(rt, output, &destination)?;
+    if made.is_regular(read) {
+        made.discard(rt);
+        return Ok(None);
+    }
+    Ok(Some(made))
+}
+
+fn form_kept(
+    rt: &HostRuntime,
+    hashers: Hashers<RandomState>,
+    source: File,
+    made: OutputFile,
+) -> Result<Summary, Error> {
+    match form_written(rt, hashers, source, &made.file) {
         Ok(summary) => made.keep(rt).map(|()| summary),
         Err(error) => {
             made.discard(rt);
             Err(error)
         }
-    })
+    }
+}
+
+fn form_written(
+    rt: &HostRuntime,
+    hashers: Hashers<RandomState>,
+    source: File,
+    output: &File,
+) -> Result<Summary, Error> {
+    let Ok(mut buffer) = BufWriter::with_capacity(rt.alloc(), WRITTEN_AT_ONCE, output) else {
+        return Err(Error::Memory);
+    };
+    let mut sink = ToWrite::new(&mut buffer);
+    let came = canon(rt.alloc(), hashers, &mut FromRead::new(source), &mut sink);
+    let (came, _output) = written_out(came, buffer);
+    came
 }
 
 /// Both are open before either is read.
@@ -103,11 +191,13 @@ pub fn compared(rt: &HostRuntime, first: &str, second: &str) -> Outcome {
             error: Error::Read,
         }));
     };
-    let Ok(source) = fs::open(rt, first) else {
-        return unopened(rt, first);
+    let source = match fs::open(rt, first) {
+        Ok(source) => source,
+        Err(error) => return uncompared(rt, Which::First, first, OpenError::from(error)),
     };
-    let Ok(other) = fs::open(rt, second) else {
-        return unopened(rt, second);
+    let other = match fs::open(rt, second) {
+        Ok(other) => other,
+        Err(error) => return uncompared(rt, Which::Second, second, OpenError::from(error)),
     };
     Outcome::Compared(same(
         rt.alloc(),
@@ -119,42 +209,84 @@ pub fn compared(rt: &HostRuntime, first: &str, second: &str) -> Outcome {
 }
 
 /// The output is made first, and then each pair of streams is opened in turn.
-pub fn packed(rt: &HostRuntime, output: &str, streams: &[String]) -> Outcome {
-    if streams
-        .iter()
-        .any(|stream| is_same_file(rt, stream.as_str(), output))
-    {
-        return Outcome::Line(LineFault::SameName);
+pub fn packed(rt: &HostRuntime, output: &str, streams: &[String]) -> Ended {
+    match made_apart_from_all(rt, output, streams) {
+        Ok(made) => Ended {
+            is_aside: made.is_standard_output(),
+            outcome: packing_kept(rt, made, streams),
+        },
+        Err(outcome) => Ended::printing(outcome),
     }
-    let mut made = match OutputFile::make(rt, output) {
-        Ok(made) => made,
-        Err(outcome) => return outcome,
-    };
-    match pack_streams(rt, &mut made.file, streams) {
-        Outcome::Packed(Ok(())) => Outcome::Packed(made.keep(rt)),
-        failed => {
+}
+
+fn made_apart_from_all(
+    rt: &HostRuntime,
+    output: &str,
+    streams: &[String],
+) -> Result<OutputFile, Outcome> {
+    let destination = destination(rt, output).map_err(|error| unpacked(rt, output, error))?;
+    for stream in streams {
+        stands_apart(rt, &destination, stream.as_str())?;
+    }
+    OutputFile::make(rt, output, &destination).map_err(|error| unpacked(rt, output, error))
+}
+
+fn destination(rt: &HostRuntime, output: &str) -> Result<Destination, OpenError> {
+    let own = standard_output(rt)?;
+    Ok(Destination::of(rt, output, own)?)
+}
+
+/// The stream of this name is not the output. If there is none, that is told when it is opened.
+fn stands_apart(
+    rt: &HostRuntime,
+    destination: &Destination,
+    stream: &str,
+) -> Result<(), Outcome> {
+    match fs::metadata(rt, stream) {
+        Ok(data) if destination.is_regular(&data) => Err(Outcome::Line(LineFault::SameName)),
+        Ok(_) => Ok(()),
+        Err(error) if error.kind() == ErrorKind::NotFound => Ok(()),
+        Err(error) => Err(unpacked(rt, stream, OpenError::from(error))),
+    }
+}
+
+fn packing_kept(rt: &HostRuntime, made: OutputFile, streams: &[String]) -> Outcome {
+    match streams_packed(rt, &made, streams) {
+        Ok(()) => Outcome::Packed(made.keep(rt)),
+        Err(outcome) => {
             made.discard(rt);
-            failed
+            outcome
         }
     }
 }
 
-fn pack_streams(rt: &HostRuntime, output: &mut File, streams: &[String]) -> Outcome {
-    let mut packing = match Packing::start(rt.alloc(), ToWrite::new(output)) {
+fn streams_packed(
+    rt: &HostRuntime,
+    made: &OutputFile,
+    streams: &[String],
+) -> Result<(), Outcome> {
+    let mut packing = match Packing::start(rt.alloc(), ToWrite::new(&made.file)) {
         Ok(packing) => packing,
-        Err((error, _)) => return Outcome::Packed(Err(error)),
+        Err((error, _)) => return Err(Outcome::Packed(Err(error))),
     };
     for pair in streams.chunks_exact(2) {
-        let Ok(client) = fs::open(rt, pair[0].as_str()) else {
-            return unopened(rt, pair[0].as_str());
-        };
-        let Ok(server) = fs::open(rt, pair[1].as_str()) else {
-            return unopened(rt, pair[1].as_str());
-        };
-        let added = packing.add(&mut FromRead::new(client), &mut FromRead::new(server));
-        if added.is_err() {
-            return Outcome::Packed(added);
-        }
+        let client = stream_opened(rt, made, pair[0].as_str())?;
+        let server = stream_opened(rt, made, pair[1].as_str())?;
+        packing
+            .add(&mut FromRead::new(client), &mut FromRead::new(server))
+            .map_err(|error| Outcome::Packed(Err(error)))?;
     }
-    Outcome::Packed(packing.finish())
+    packing
+        .finish()
+        .map_err(|error| Outcome::Packed(Err(error)))
+}
+
+/// Opens a stream, which is not what is written: the part may have got the number of a standard input that
+/// is closed.
+fn stream_opened(rt: &HostRuntime, made: &OutputFile, name: &str) -> Result<File, Outcome> {
+    match opened(rt, name) {
+        Ok((_, data)) if made.is_regular(&data) => Err(Outcome::Line(LineFault::SameName)),
+        Ok((stream, _)) => Ok(stream),
+        Err(error) => Err(unpacked(rt, name, error)),
+    }
 }

@@ -1,15 +1,18 @@
 // Checks, lists, compares and packs recorded NFS version 3 traffic, and brings it into a canonical form.
 #![tactic(auto)]
 
+mod destination;
+mod identity;
 mod jobs;
+mod opening;
 mod outcome;
 mod output;
+mod part;
 mod printed;
 
 use jobs::{checked, compared, listed, packed, rewritten};
 use line3::{Job, LineFault, job};
-use outcome::{Outcome, Report};
-use output::is_standard_output;
+use outcome::{Ended, Outcome, Report};
 use printed::{OUTSIDE, aside, report};
 use std::alloc::AllocError;
 use std::io::{ErrorKind, Write};
@@ -31,18 +34,25 @@ fn run(rt: &HostRuntime) -> Result<Report, AllocError> {
         Ok(words) => words,
         Err(fault) => return report(alloc, &Outcome::Line(fault)),
     };
-    let (outcome, output) = match job(alloc, &words) {
-        Ok(Job::Check(name)) => (checked(rt, name), None),
-        Ok(Job::Show(name)) => (listed(rt, name), None),
-        Ok(Job::Canon(input, output)) => (rewritten(rt, input, output), Some(output)),
-        Ok(Job::Same(first, second)) => (compared(rt, first, second), None),
-        Ok(Job::Pack(output, streams)) => (packed(rt, output, streams), Some(output)),
-        Err(fault) => (Outcome::Line(fault), None),
+    let ended = match job(alloc, &words) {
+        Ok(job) => done(rt, job),
+        Err(fault) => Ended::printing(Outcome::Line(fault)),
     };
-    let report = report(alloc, &outcome)?;
-    match output {
-        Some(output) if is_standard_output(rt, output) => aside(alloc, report),
-        _ => Ok(report),
+    let report = report(alloc, &ended.outcome)?;
+    if ended.is_aside {
+        aside(alloc, report)
+    } else {
+        Ok(report)
+    }
+}
+
+fn done(rt: &HostRuntime, job: Job<'_>) -> Ended {
+    match job {
+        Job::Check(name) => Ended::printing(checked(rt, name)),
+        Job::Show(name) => Ended::printing(listed(rt, name)),
+        Job::Canon(input, output) => rewritten(rt, input, output),
+        Job::Same(first, second) => Ended::printing(compared(rt, first, second)),
+        Job::Pack(output, streams) => packed(rt, output, streams),
     }
 }
 

@@ -1,5 +1,7 @@
 // What came of a job, and what the program prints.
 
+ghost use Rattle.std.specs.Prelude.{◌≡◌, false};
+
 use canon3::{SameError, Summary, Verdict};
 use capture3 as captures;
 use line3::LineFault;
@@ -19,6 +21,26 @@ pub enum Outcome {
     Unopened(String),
     /// The command line is refused.
     Line(LineFault),
+}
+
+/// What came of a job that may write a file.
+#[derive(Debug, Drop)]
+pub struct Ended {
+    pub outcome: Outcome,
+    /// Standard output has the bytes of the file, so the line of the job goes to standard error.
+    pub is_aside: bool,
+}
+
+impl Ended {
+    /// The end of a job that has written no file to standard output.
+    pub fn printing(outcome: Outcome) -> Ended
+        ensures { result ≡ record { outcome = outcome; is_aside = false } }
+    {
+        Ended {
+            outcome,
+            is_aside: false,
+        }
+    }
 }
 
 /// What the program prints, and its exit status.

@@ -1,0 +1,63 @@
+// What the name of an output leads to, before anything is made.
+
+use crate::identity::FileId;
+use std::fs::Metadata;
+use std::io::ErrorKind;
+use std::{fs, io};
+
+/// What the name of an output leads to.
+#[derive(Debug, Drop)]
+pub enum Destination {
+    /// To nothing.
+    New,
+    /// To a regular file, which is replaced once the new one is whole.
+    Replaced(Metadata),
+    /// To what is written as it is: to a device or a pipe, which hold nothing, or to the program's own
+    /// standard output, which may have been written before.
+    AsItIs {
+        found: Metadata,
+        is_standard_output: bool,
+    },
+}
+
+impl Destination {
+    /// Asks the system. `own` is the file to which the program prints. If the system does not say what has
+    /// the name, that is an error, and so is a link that leads to nothing.
+    pub fn of(rt: &HostRuntime, name: &str, own: Option<FileId>) -> io::Result<Destination> {
+        match fs::metadata(rt, name) {
+            Ok(found) => {
+                let is_standard_output = own == Some(FileId::of(&found));
+                if found.is_file() && !is_standard_output {
+                    return Ok(Destination::Replaced(found));
+                }
+                Ok(Destination::AsItIs {
+                    found,
+                    is_standard_output,
+                })
+            }
+            Err(error) if error.kind() == ErrorKind::NotFound => unused(rt, name),
+            Err(error) => Err(error),
+        }
+    }
+
+    /// Whether this is the regular file of which the system says `data`.
+    pub fn is_regular(&self, data: &Metadata) -> bool {
+        match self {
+            Destination::New => false,
+            Destination::Replaced(found) | Destination::AsItIs { found, .. } => {
+                FileId::of(found).is_regular(data)
+            }
+        }
+    }
+}
+
+/// A name that leads to nothing is new, unless a link has it.
+fn unused(rt: &HostRuntime, name: &str) -> io::Result<Destination> {
+    match fs::symlink_metadata(rt, name) {
+        Ok(_) => Err(io::Error::from(ErrorKind::NotFound)),
+        Err(error) if error.kind() == ErrorKind::NotFound && !name.is_empty() => {
+            Ok(Destination::New)
+        }
+        Err(error) => Err(error),
+    }
+}

@@ -1,0 +1,254 @@
+// A regular file that is written beside its name.
+
+ghost use Rattle.std.specs.Prelude.{◌≡◌, ◌++◌, IfOk, codes, string_bytes};
+ghost use Rattle.hex.specs.Hex.{encode_lower};
+
+use crate::identity::FileId;
+use crate::opening::OpenError;
+use std::alloc::{AllocError, Global};
+use std::fs::{File, OpenOptions, Permissions};
+use std::io::ErrorKind;
+use std::os::fd::AsRawFd;
+use std::os::unix::fs::{MetadataExt, OpenOptionsExt, PermissionsExt, fchown};
+use std::random::RandomSource;
+use std::{fs, io};
+
+/// How often another name is tried if one exists.
+const MOST_TRIES: u32 = 16;
+/// How many links Linux follows.
+const MOST_LINKS: u32 = 40;
+/// Who may read and write a file, beside who may execute it and the bits for its owner's rights.
+const PERMISSIONS: u32 = 0o777;
+const OWNER_ALONE: u32 = 0o600;
+const EVERYBODY: u32 = 0o666;
+
+/// A file that is not whole yet. Until it gets its name, its owner alone may open it.
+#[derive(Drop)]
+pub struct Part {
+    name: String,
+    whole: String,
+    replaced: Option<Replaced>,
+    mode_of_new: u32,
+}
+
+/// The file that has the name. It is open, so that no other file gets its number.
+#[derive(Drop)]
+struct Replaced {
+    file: File,
+    id: FileId,
+}
+
+impl Part {
+    /// Makes the part of a file of this name that is not there yet.
+    pub fn of_new(rt: &HostRuntime, name: &str) -> Result<(Part, File), OpenError> {
+        Part::make(rt, String::from_str(rt.alloc(), name)?, None)
+    }
+
+    /// Makes the part of the regular file to which this name leads. It has to be open for writing, as it
+    /// would be if it were written itself; nothing is written to it.
+    pub fn of_replaced(rt: &HostRuntime, name: &str) -> Result<(Part, File), OpenError> {
+        let path = followed(rt, name)?;
+        let file = OpenOptions::new().write(true).open(rt, path.as_str())?;
+        let data = file.metadata()?;
+        if !data.is_file() {
+            return Err(OpenError::Unopened);
+        }
+        let id = FileId::of(&data);
+        Part::make(rt, path, Some(Replaced { file, id }))
+    }
+
+    fn make(
+        rt: &HostRuntime,
+        whole: String,
+        replaced: Option<Replaced>,
+    ) -> Result<(Part, File), OpenError> {
+        let mode_of_new = mode_of_new(rt, whole.as_str())?;
+        let (name, file) = made_beside(rt, whole.as_str(), OWNER_ALONE)?;
+        let part = Part {
+            name,
+            whole,
+            replaced,
+            mode_of_new,
+        };
+        match part.is_on_mount_point(rt, &file) {
+            Ok(false) => Ok((part, file)),
+            Ok(true) => {
+                part.remove(rt);
+                Err(OpenError::Unopened)
+            }
+            Err(error) => {
+                part.remove(rt);
+                Err(error)
+            }
+        }
+    }
+
+    /// Whether the part would replace this file.
+    pub fn replaces(&self, id: FileId) -> bool {
+        match &self.replaced {
+            Some(replaced) => replaced.id == id,
+            None => false,
+        }
+    }
+
+    /// A file on which something is mounted cannot be replaced.
+    fn is_on_mount_point(&self, rt: &HostRuntime, file: &File) -> Result<bool, OpenError> {
+        match &self.replaced {
+            Some(replaced) => Ok(mount_of(rt, file)? != mount_of(rt, &replaced.file)?),
+            None => Ok(false),
+        }
+    }
+
+    /// Gives the whole file its owner, its mode and its name, once its bytes are safe on the disk.
+    pub fn keep(&self, rt: &HostRuntime, file: &File) -> io::Result<()> {
+        let mode = self.mode_at_last(file)?;
+        file.set_permissions(Permissions::from_mode(mode))?;
+        // A server of files may tell of a full disk only when the data is to be safe.
+        file.sync_all()?;
+        match &self.replaced {
+            Some(replaced) => self.replace(rt, replaced.id),
+            None => self.appear(rt),
+        }
+    }
+
+    /// Who may open the file that is replaced may open the new one, if its owner can be given to it.
+    fn mode_at_last(&self, file: &File) -> io::Result<u32> {
+        let Some(replaced) = &self.replaced else {
+            return Ok(self.mode_of_new);
+        };
+        let data = replaced.file.metadata()?;
+        match fchown(file, Some(data.uid()), Some(data.gid())) {
+            Ok(()) => Ok(data.mode() & PERMISSIONS),
+            Err(_) => Ok(self.mode_of_new),
+        }
+    }
+
+    /// Another file that has got the name meanwhile is left alone.
+    fn replace(&self, rt: &HostRuntime, replaced: FileId) -> io::Result<()> {
+        let there = fs::symlink_metadata(rt, self.whole.as_str())?;
+        if FileId::of(&there) != replaced {
+            return Err(io::Error::from(ErrorKind::AlreadyExists));
+        }
+        fs::rename(rt, self.name.as_str(), self.whole.as_str())
+    }
+
+    /// Whatever has got the name meanwhile is left alone. A file system without hard links has no way to
+    /// test for it and give the name at once.
+    fn appear(&self, rt: &HostRuntime) -> io::Result<()> {
+        match fs::hard_link(rt, self.name.as_str(), self.whole.as_str()) {
+            Ok(()) => {
+                self.remove(rt);
+                Ok(())
+            }
+            Err(error) if is_without_links(error.kind()) => self.appear_by_rename(rt),
+            Err(error) => Err(error),
+        }
+    }
+
+    fn appear_by_rename(&self, rt: &HostRuntime) -> io::Result<()> {
+        match fs::symlink_metadata(rt, self.whole.as_str()) {
+            Ok(_) => Err(io::Error::from(ErrorKind::AlreadyExists)),
+            Err(error) if error.kind() == ErrorKind::NotFound => {
+                fs::rename(rt, self.name.as_str(), self.whole.as_str())
+            }
+            Err(error) => Err(error),
+        }
+    }
+
+    /// Removes the part. If that fails, it stays, as after a signal.
+    pub fn remove(&self, rt: &HostRuntime) {
+        let _ = fs::remove_file(rt, self.name.as_str());
+    }
+}
+
+fn is_without_links(kind: ErrorKind) -> bool {
+    kind == ErrorKind::PermissionDenied || kind == ErrorKind::Unsupported
+}
+
+/// The name at the end of the links to which a name leads. The folder's own name is taken as it is given,
+/// so it may be long, and need not be text.
+fn followed(rt: &HostRuntime, name: &str) -> Result<String, OpenError> {
+    let mut path = String::from_str(rt.alloc(), name)?;
+    for _ in 0..MOST_LINKS {
+        if !fs::symlink_metadata(rt, path.as_str())?.is_symlink() {
+            return Ok(path);
+        }
+        let target = fs::read_link(rt, path.as_str())?.into_string();
+        path = if target.as_str().starts_with('/') {
+            target
+        } else {
+            beside(rt.alloc(), path.as_str(), target.as_str())?
+        };
+    }
+    Err(OpenError::Unopened)
+}
+
+/// The path of another name in the folder of a path.
+fn beside(alloc: Global, path: &str, name: &str) -> Result<String, AllocError> {
+    match path.rsplit_once('/') {
+        Some((folder, _)) => format!(in alloc; "{folder}/{name}"),
+        None => String::from_str(alloc, name),
+    }
+}
+
+/// The name of a part with these random bytes. It is short, since the name of an output may have as many
+/// bytes as a file system takes.
+fn part_name(alloc: Global, random: [u8; 8]) -> Result<String, AllocError>
+    ensures { IfOk result (λ name. string_bytes name ≡ codes ".nfs3canon-" ++ encode_lower random) }
+{
+    let digits = hex::encode(alloc, random)?;
+    format!(in alloc; ".nfs3canon-{digits}")
+}
+
+/// Makes a file of a random name in the folder of a path, and returns it with its path.
+fn made_beside(rt: &HostRuntime, path: &str, mode: u32) -> Result<(String, File), OpenError> {
+    for _ in 0..MOST_TRIES {
+        let mut random = [0; 8];
+        rt.fill_bytes(&mut random)?;
+        let part = part_name(rt.alloc(), random)?;
+        let name = beside(rt.alloc(), path, part.as_str())?;
+        match created(rt, name.as_str(), mode) {
+            Ok(file) => return Ok((name, file)),
+            Err(error) if error.kind() == ErrorKind::AlreadyExists => {}
+            Err(error) => return Err(OpenError::from(error)),
+        }
+    }
+    Err(OpenError::Unopened)
+}
+
+fn created(rt: &HostRuntime, name: &str, mode: u32) -> io::Result<File> {
+    OpenOptions::new()
+        .write(true)
+        .create_new(true)
+        .mode(mode)
+        .open(rt, name)
+}
+
+/// The mode that a new file gets in the folder of a path. Only a file tells it, since a folder may have
+/// rules of its own beside the program's umask.
+fn mode_of_new(rt: &HostRuntime, path: &str) -> Result<u32, OpenError> {
+    let (name, file) = made_beside(rt, path, EVERYBODY)?;
+    let data = file.metadata();
+    fs::remove_file(rt, name.as_str())?;
+    Ok(data?.mode() & PERMISSIONS)
+}
+
+/// The line on the mount through which an open file was found, or `None` if the system tells none.
+fn mount_of(rt: &HostRuntime, file: &File) -> Result<Option<String>, OpenError> {
+    let number = file.as_raw_fd();
+    let name = format!(in rt.alloc(); "/proc/self/fdinfo/{number}")?;
+    match fs::read_to_string(rt, name.as_str()) {
+        Ok(text) => mount_line(rt.alloc(), text.as_str()),
+        Err(error) if error.kind() == ErrorKind::NotFound => Ok(None),
+        Err(error) => Err(OpenError::from(error)),
+    }
+}
+
+fn mount_line(alloc: Global, text: &str) -> Result<Option<String>, OpenError> {
+    for line in text.lines() {
+        if line.starts_with("mnt_id:") {
+            return Ok(Some(String::from_str(alloc, line)?));
+        }
+    }
+    Ok(None)
+}
