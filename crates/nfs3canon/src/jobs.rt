@@ -1,5 +1,6 @@
 // What each job does with its files.
 
+use crate::hashing::SecretHasher;
 use crate::outcome::Outcome;
 use crate::output::{OutputFile, is_same_file, unopened};
 use canon3::{SameError, Sink, Summary, ToWrite, Which, canon, check, same};
@@ -8,7 +9,6 @@ use line3::LineFault;
 use listing3::show;
 use packing3::Packing;
 use std::fs::File;
-use std::hash::RandomState;
 use std::io::{BufWriter, Write};
 use std::{fs, io};
 
@@ -16,12 +16,12 @@ use std::{fs, io};
 const WRITTEN_AT_ONCE: usize = 65_536;
 
 /// The hashers have keys that nobody who writes a capture can know.
-fn hashers(rt: &HostRuntime) -> io::Result<Hashers<RandomState>> {
+fn hashers(rt: &HostRuntime) -> io::Result<Hashers<SecretHasher>> {
     Ok(Hashers {
-        calls: RandomState::new(rt)?,
-        xids: RandomState::new(rt)?,
-        handles: RandomState::new(rt)?,
-        verfs: RandomState::new(rt)?,
+        calls: SecretHasher::new(rt)?,
+        xids: SecretHasher::new(rt)?,
+        handles: SecretHasher::new(rt)?,
+        verfs: SecretHasher::new(rt)?,
     })
 }
 

@@ -1,6 +1,7 @@
 // Checks, lists, compares and packs recorded NFS version 3 traffic, and brings it into a canonical form.
 #![tactic(auto)]
 
+mod hashing;
 mod jobs;
 mod outcome;
 mod output;
