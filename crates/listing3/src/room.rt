@@ -1,13 +1,12 @@
 // Text of values, written into room that was taken before. A place is a count of bytes from the room's
 // start, and each function answers the place after what it wrote.
 
-ghost use Rattle.std.specs.Prelude.{◌≡◌, ◌≤◌, ◌+◌, ◌*◌, ◌++◌, ◌∷◌, [], length, take, decimal, vec_len, IfOk, OnOk, OnErr};
+ghost use Rattle.std.specs.Prelude.{◌≡◌, ◌<◌, ◌≤◌, ◌+◌, ◌*◌, ◌++◌, ◌∷◌, [], length, take, decimal, slice_index, vec_len, IfOk, OnOk, OnErr};
 ghost use Rattle.std.specs.List.{flat_map};
-ghost use Rattle.hex.specs.Hex.{encode_lower};
+ghost use Rattle.hex.specs.Hex.{encode_lower, lower_digits};
 ghost use Rattle.xdr3.specs.Visit.{body_limit};
 ghost use Rattle.listing3.specs.Listing.{opening, quoted, quoted_byte};
 
-use hex::encode_to_slice;
 use itoa::write_digits;
 use std::alloc::AllocError;
 
@@ -117,11 +116,30 @@ pub(crate) fn put_hex(room: &mut [u8], at: usize, bytes: &[u8]) -> usize
     ensures len { length room.new ≡ length room.old }
 {
     let end = at + 2 * bytes.len();
-    match encode_to_slice(bytes, &mut room[at..end]) {
-        Ok(()) => end,
-        // The room has two digits for each byte, and nothing else is refused.
-        Err(_) => unreachable!(),
+    encode(bytes, &mut room[at..end]);
+    end
+}
+
+/// Writes two lower-case hexadecimal digits for each byte. Without a table the compiler does 16 bytes at once.
+fn encode(bytes: &[u8], digits: &mut [u8])
+    requires { length digits.old ≡ 2 * length bytes.now }
+    ensures { digits.new ≡ encode_lower bytes.now }
+{
+    'bytes: for i in 0..bytes.len() {
+        let byte = bytes[i];
+        digits[2 * i] = hex_digit(byte >> 4);
+        digits[2 * i + 1] = hex_digit(byte & 0x0f);
     }
+}
+
+/// The hexadecimal digit of a number below 16.
+#[inline(always)]
+#[tactic(auto, using(crate::proofs::Rooms::low_digit, crate::proofs::Rooms::high_digit))]
+fn hex_digit(n: u8) -> u8
+    requires { n < 16 }
+    ensures { result ≡ slice_index lower_digits n }
+{
+    if n < 10 { b'0' + n } else { b'a' - 10 + n }
 }
 
 /// Writes text between quotation marks, with each byte that is not plain as `\x` and two digits, and makes
