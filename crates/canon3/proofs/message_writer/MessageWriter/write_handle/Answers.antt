@@ -11,6 +11,6 @@ returns g c =
     record {
       ok = on_ok_weaker c.fixed.result
           (λ write. adds_handle c.args.self.now c.fixed.new.self c.number_of_handle.new.handles c.args.name.now c.args.bytes.now word c.in_ok-number.number c.requires.some (sym (append-nil word)) c.in_ok-number.ensures.number c.in_ok-number.ensures.given
-              (adds_four c.args.self.now.writer c.fixed.new.self c.args.name.now c.spelled_number.result word four c.spelled_number.ensures write))
+          (adds_four c.args.self.now.writer c.fixed.new.self c.args.name.now c.spelled_number.result word four c.spelled_number.ensures write))
           c.fixed.ensures.ok;
     }
