@@ -51,7 +51,7 @@ fn number_of_handle<S: BuildHasher + Drop>(
     handles.number_of(Handle::from_short(bytes))
 }
 
-/// The spelling of a handle whose bytes are a number.
+/// Returns the spelling of a handle of four bytes, which are the number.
 fn spelled_number(number: u32) -> [u8; 8]
     ensures { result ≡ word_bytes 4 ++ word_bytes number }
 {
@@ -128,7 +128,7 @@ impl<S: BuildHasher + Drop> MessageWriter<S> {
             (Opaque HandleKind name.now bytes.now ∷ [])) }
     {
         let number = number_of_handle(&mut self.handles, bytes)?;
-        // Eight bytes at once cost less than a handle of four.
+        // The length and the number at once, since their size is constant.
         self.writer.fixed(name, &spelled_number(number))
     }
 

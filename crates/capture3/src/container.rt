@@ -128,9 +128,9 @@ impl Container {
         }
     }
 
-    /// Version 1: takes a record that stands whole at the front of `piece`, in one fragment of the chunk that is
-    /// open, and says how many bytes it takes there, and of which side it is. It takes nothing where none
-    /// stands so: `advance` does.
+    /// Version 1: takes a whole record of one fragment from the start of `piece` and of the open chunk, and
+    /// returns how many bytes it has there, and its side. Returns `None` and takes nothing if no such record
+    /// is there, or if the joiner does not take it: `advance` takes any other bytes.
     #[inline(always)]
     fn take_whole(&mut self, piece: &[u8]) -> Option<(usize, Side)>
         requires sound { IsSoundPosition self.old.position }

@@ -1,4 +1,4 @@
-// A fast hasher with two secret words.
+// A fast hasher with two secret words. How keys spread is not proved: it changes no result.
 
 ghost use Rattle.std.specs.Prelude.{◌≡◌, ◌+◌, ◌≤◌, length};
 ghost use Rattle.nfs3canon.specs.Hashing as hashing;
@@ -7,8 +7,9 @@ use std::hash::{BuildHasher, Hasher};
 use std::io;
 use std::random::RandomSource;
 
-/// A hasher, and what makes it. It multiplies 16 bytes at a time to 128 bits, and joins the halves by xor.
-/// Both factors have a secret word in them, so nobody who writes a capture can know which keys collide.
+/// A hasher, and the builder of itself. It multiplies 16 bytes at a time to 128 bits, and joins the halves
+/// by xor. Each factor contains a secret word, so who writes a capture cannot choose keys that collide.
+/// It is no cryptographic hash: who learns the words can.
 #[derive(Clone, Copy)]
 pub struct SecretHasher {
     state: u64,
@@ -16,7 +17,11 @@ pub struct SecretHasher {
 }
 
 impl SecretHasher {
-    /// A hasher with random words.
+    /// Returns a hasher with two random words.
+    ///
+    /// # Errors
+    ///
+    /// That of the system if it gives no random bytes.
     pub fn new(rt: &HostRuntime) -> io::Result<SecretHasher> {
         let mut bytes = [0; 16];
         rt.fill_bytes(&mut bytes)?;
@@ -39,7 +44,7 @@ impl BuildHasher for SecretHasher {
     }
 }
 
-/// The two halves of a product, joined by xor.
+/// Returns the two halves of the product, joined by xor.
 #[inline(always)]
 fn folded_multiply(a: u64, b: u64) -> u64
     ensures { result ≡ hashing.folded_multiply a b }
@@ -64,7 +69,7 @@ fn read_u64(bytes: &[u8], at: usize) -> u64
     read_u32(bytes, at) | read_u32(bytes, at + 4) << 32
 }
 
-/// Up to 8 bytes as one number, by reads that may overlap.
+/// Returns up to 8 bytes as one number, by reads that may overlap.
 #[inline(always)]
 fn read_short(bytes: &[u8]) -> u64
     ensures { result ≡ hashing.read_short bytes.now }

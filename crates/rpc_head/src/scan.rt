@@ -39,7 +39,7 @@ pub(crate) fn scan_listed_or<V: Visit>(
 
 // ---- items with long names: the prover follows a function's name, and not so many letters
 
-#[inline]
+#[inline(always)]
 #[tactic(auto, unfolding(crate::specs::Names::head_names))]
 fn scan_cred_flavor<V: Visit>(input: &mut Input, visitor: &mut V) -> Result<u32, GetError>
     ensures ok { IfOk result
@@ -52,7 +52,7 @@ fn scan_cred_flavor<V: Visit>(input: &mut Input, visitor: &mut V) -> Result<u32,
     scan_listed_or("cred_flavor", &[0, 1], Reason::Flavor, input, visitor)
 }
 
-#[inline]
+#[inline(always)]
 #[tactic(auto, unfolding(crate::specs::Names::head_names))]
 fn scan_cred_body<V: Visit>(input: &mut Input, visitor: &mut V) -> Result<(), GetError>
     ensures ok { OnOk result
@@ -64,7 +64,7 @@ fn scan_cred_body<V: Visit>(input: &mut Input, visitor: &mut V) -> Result<(), Ge
     scan_var("cred_body", 400, input, visitor)
 }
 
-#[inline]
+#[inline(always)]
 #[tactic(auto, unfolding(crate::specs::Names::head_names))]
 fn scan_machinename<V: Visit>(input: &mut Input, visitor: &mut V) -> Result<(), GetError>
     ensures ok { OnOk result
@@ -76,7 +76,7 @@ fn scan_machinename<V: Visit>(input: &mut Input, visitor: &mut V) -> Result<(), 
     scan_text("machinename", 255, input, visitor)
 }
 
-#[inline]
+#[inline(always)]
 #[tactic(auto, unfolding(crate::specs::Names::head_names))]
 fn scan_verf_flavor<V: Visit>(input: &mut Input, visitor: &mut V) -> Result<u32, GetError>
     ensures ok { IfOk result
@@ -89,7 +89,7 @@ fn scan_verf_flavor<V: Visit>(input: &mut Input, visitor: &mut V) -> Result<u32,
     scan_listed_or("verf_flavor", &[0], Reason::Flavor, input, visitor)
 }
 
-#[inline]
+#[inline(always)]
 #[tactic(auto, unfolding(crate::specs::Names::head_names))]
 fn scan_verf_body<V: Visit>(input: &mut Input, visitor: &mut V) -> Result<(), GetError>
     ensures ok { OnOk result

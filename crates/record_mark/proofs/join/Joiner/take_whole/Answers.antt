@@ -8,8 +8,8 @@ use Rattle.record_mark.specs.Taking.{Taking, joining_of}
 use Rattle.record_mark.proofs.Joins.{record_stops}
 use Rattle.record_mark.proofs.join.Joiner.take_whole.Goals as goal
 
-pub returns-in-Ok-clause-stops : goal.returns-in-Ok-clause-stops
-returns-in-Ok-clause-stops c running =
+pub returns-clause-stops : goal.returns-clause-stops
+returns-clause-stops c running =
     let bytes = take (4 + c.in_ok-len.len) c.args.piece.now in
     let unbegun = sym c.self.view_is ∙ ap (λ s. taking_at s c.self.inside.body.items) c.in-Unbegun.is in
     ap (λ (t : Taking). after join_next (Runs (joining_of t)) bytes) unbegun
