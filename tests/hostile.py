@@ -7,6 +7,7 @@ PROGRAM is crates/nfs3canon/out/nfs3canon where none is named. Each test below i
 last line is 'N passed, M failed', and the status is 1 where any failed. It takes less than a minute on four cores.
 """
 import functools
+import math
 import os
 import pathlib
 import shutil
@@ -27,6 +28,9 @@ HERE = pathlib.Path(__file__).resolve().parent
 TIMEOUT = 60
 NOBODY = 65_534
 MOST_RATIO, ROUNDS = 2.6, 8  # of the time that twice as much takes; where time grows by the square it is 4
+MOST_IN_ANOTHER_ORDER = 3  # of the time that the same connections take if the large one is the last
+MOST_CONNECTIONS = 65_535
+KNOWN_WORD = 0x9e3779b97f4a7c15  # of the kit's `FoldHasher`
 NULL = ([call(1, NFS, 3, 0)], [success(1)])
 GOOD = messages.capture(NULL)  # its own canonical form
 GOOD_2 = interleaved(in_turn(*NULL))
@@ -555,6 +559,25 @@ def handles(count):
     return b''.join(b'\0\0\0\x38\x80\0\0\x34%b%b' % (head, hyper(number * 0x9e3779b97f4a7c15 % (1 << 64))) for number in range(count)), b''
 
 
+def handles_before(end):
+    """GETATTR calls of one xid, on handles of eight bytes that differ and these eight."""
+    def make(count):
+        head = call(7, NFS, 3, 1, word(16))
+        return b''.join(b'\0\0\0\x40\x80\0\0\x3c%b%b%b' % (head, hyper(number), end) for number in range(count)), b''
+    return make
+
+
+def handles_chosen_against_a_known_word(place):
+    """Under a word that is known, as the one of the hasher that an `IndexMap` has if none is named, all of these handles have the
+    hash 0: the second factor of the product is 0. The program's words are random, so they cost what others do."""
+    place.write('whole', version_1(handles_before(KNOWN_WORD.to_bytes(8, 'little'))(1_000_000)))
+    place.write('half', version_1(handles_before(hyper(0x0123456789abcdef))(1_000_000)))
+    for command, *more in (('check',), ('canon', '/dev/null'), ('show',)):
+        found = ratio(place, command, *more)
+        if found > MOST_RATIO:
+            place.wrong.append('%s takes %.1f times as long for chosen handles' % (command, found))
+
+
 def empty_fragments(count):
     """Before the last fragment of a call."""
     stream = word(0) * count + messages.record(NULL[0][0])[4:]
@@ -591,16 +614,22 @@ def version_1(streams):
 
 def seconds(place, command, *names):
     """Processor time of a run."""
+    done, used = seconds_at_most(place, TIMEOUT, command, *names)
+    place.want(command, done, True)
+    return used
+
+
+def seconds_at_most(place, limit, command, *names):
+    """Whether a run ends well in so many seconds of processor time, and how many it took."""
     with open(os.devnull, 'wb') as nothing:
-        process = subprocess.Popen([place.program, command, *names], cwd=place.folder, stdout=nothing, stderr=nothing)
+        process = subprocess.Popen(place.under('-t %d' % limit, command, *names), cwd=place.folder, stdout=nothing, stderr=nothing)
         _, status, used = os.wait4(process.pid, 0)
         process.returncode = os.waitstatus_to_exitcode(status)
-    place.want(command, process.returncode, 0)
-    return used.ru_utime + used.ru_stime
+    return process.returncode == 0, used.ru_utime + used.ru_stime
 
 
 def ratio(place, command, *more):
-    """How much longer the whole takes than the half: the least of some rounds, since other programs run beside them."""
+    """How much longer `whole` takes than `half`: the least of some rounds, since other programs run beside them."""
     least = float('inf')
     for _ in range(ROUNDS):
         half, whole = (seconds(place, command, name, *more) for name in ('half', 'whole'))
@@ -623,7 +652,52 @@ def linear(make, count, capture=version_1):
     return test
 
 
-TESTS = [linear(xids, 1_000_000), linear(handles, 1_000_000), linear(empty_fragments, 2_000_000), linear(single_bytes, 2_000_000),
+def records_of(count, before=b''):
+    """NULL calls with different xids, each after these bytes."""
+    calls = call(0, NFS, 3, 0)[4:]
+    return b''.join(b'%b\x80\0\0\x28%b%b' % (before, word(number), calls) for number in range(count))
+
+
+def connection(count):
+    """A connection of NULL calls, in version 1."""
+    return word(1) + records_of(count, word(44)) + word(0) + word(0)
+
+
+def connection_2(count):
+    """The same in version 2."""
+    return word(1) + (word(1) + word(44 * count) + records_of(count) if count else b'') + word(0)
+
+
+def orders_differ(place, command):
+    """Tells that a large connection and then small ones take much longer than the small ones first, by the least of some rounds. A
+    run that takes far too long is ended."""
+    names = {order: (order, order) if command == 'same' else (order, '/dev/null') if command == 'canon' else (order,)
+             for order in ('first', 'last')}
+    for _ in range(ROUNDS):
+        most = MOST_IN_ANOTHER_ORDER * max(seconds(place, command, *names['last']), 0.01)
+        done, used = seconds_at_most(place, 2 * math.ceil(most), command, *names['first'])
+        if not done or used <= most:
+            return not done
+    return True
+
+
+def after_a_large_connection(count, small, make=connection, magic=messages.MAGIC, commands=('check', 'canon', 'show', 'same')):
+    """A test that a connection costs what it has, and not what the largest one before it had."""
+    def test(place):
+        large, others = make(count), make(small) * (MOST_CONNECTIONS - 1)
+        place.write('first', magic + large + others + word(0))
+        place.write('last', magic + others + large + word(0))
+        for command in commands:
+            if orders_differ(place, command):
+                place.wrong.append('%s takes more than %d times as long after the large connection' % (command, MOST_IN_ANOTHER_ORDER))
+    test.__name__ = 'time_of_%d_calls_each_after_%d_%s' % (small, count, make.__name__)
+    return test
+
+
+TESTS = [after_a_large_connection(1_000_000, 0), after_a_large_connection(1_000_000, 1),
+         after_a_large_connection(1_000_000, 1, connection_2, MAGIC_2), after_a_large_connection(2_000_000, 0, commands=('canon',)),
+         handles_chosen_against_a_known_word,
+         linear(xids, 1_000_000), linear(handles, 1_000_000), linear(empty_fragments, 2_000_000), linear(single_bytes, 2_000_000),
          linear(in_turns, 500_000, version_2), linear(bytes_in_turns, 2_000_000, version_2),
          memory_that_is_refused, memory_that_is_refused_to_version_2, memory_of_one_connection, streams_without_an_end,
          lengths_with_nothing_after_them, disks_that_are_full_in_the_middle, readers_that_go_away,

@@ -11,7 +11,7 @@ use Rattle.xdr3.specs.declared.plain.PlainField.{PlainField}
 use Rattle.xdr3.specs.declared.plain.PlainField.TheVariants as fields
 use Rattle.xdr3.specs.Plain.{plain_item, run_items, width}
 use Rattle.xdr3.proofs.Walks.{adds_both}
-use Rattle.xdr3.specs.Item.{Item, Hyper, Word, WriteVerf, Opaque, Rest, Handle, word_bytes, zero_spelling_of, zero_spelling}
+use Rattle.xdr3.specs.Item.{Item, Fixed, Hyper, Word, WriteVerf, Opaque, Rest, Handle, word_bytes, zero_spelling_of, zero_spelling}
 use Rattle.xdr3.specs.Visit.{Adds, Keeps}
 use Rattle.nfs3_types.specs.declared.handle.Handle as declared
 use Rattle.canon3.specs.declared.message_writer.MessageWriter.{MessageWriter}
@@ -315,6 +315,17 @@ module _ {S H : Type 0} (n : MessageWriter S H) (bytes : List ℕ) where
       adds n (record { handles = n.handles; verfs = table; xids = n.xids; writer = bytes; stage = n.stage }) (WriteVerf name verifier) (WriteVerf name written)
       (record { handles = λ hs h. subst (HoldsHandles n.handles) (sym (append-nil hs)) h; verifiers = given }) refl refl (λ before items going spelled. tt)
       (λ hs vs h g few. ap (WriteVerf name) (is_written ∙ append-nil (big_bytes 8 number) ∙ ap (big_bytes 8) (uncapped bytes_eq bytes_eq-Decides vs verifier number few.1 (is vs g))))
+
+-- eight bytes spell a handle of four
+spelled_four : (word : List ℕ) → length word ≡ 4 → word_bytes 4 ++ word ≡ zero_spelling_of (Opaque Handle [] word)
+spelled_four word four = rw four (ap (λ (l : List ℕ). word_bytes 4 ++ l) (sym (append-nil word)))
+
+pub adds_four : (old new name run word : List ℕ) → length word ≡ 4 → run ≡ word_bytes 4 ++ word → Adds Spells old new (Fixed name run ∷ []) → Adds Spells old new (Opaque Handle name word ∷ [])
+unfolding Adds
+adds_four old new name run word four is write = λ before was.
+    write before was ∙ flat_map-append zero_spelling_of before (Fixed name run ∷ [])
+    ∙ ap (λ (l : List ℕ). zero_spelling before ++ (l ++ [])) (is ∙ spelled_four word four)
+    ∙ sym (flat_map-append zero_spelling_of before (Opaque Handle name word ∷ []))
 
 -- ---- after errors
 

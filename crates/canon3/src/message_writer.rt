@@ -1,7 +1,7 @@
 // The writer of the canonical form, one message at a time.
 
 ghost use Rattle.std.specs.Prelude.{◌≡◌, ◌≢◌, ◌≤◌, ◌++◌, ◌∷◌, ℕ, List, [], bytes_eq, length, min, IfOk, OnErr, OnOk};
-ghost use Rattle.xdr3.specs.Item.{Handle as HandleKind, Item, Opaque, Word, WriteVerf};
+ghost use Rattle.xdr3.specs.Item.{Handle as HandleKind, Item, Opaque, Word, WriteVerf, word_bytes};
 ghost use Rattle.xdr3.specs.Plain.{run_items, run_size};
 ghost use Rattle.xdr3.specs.Visit.{Adds};
 ghost use Rattle.canon3.specs.HandleTable.{HoldsHandles};
@@ -10,6 +10,7 @@ ghost use Rattle.canon3.specs.Rank.{number_limit, rank};
 
 use crate::numbers::Numbers;
 use byteorder::{BigEndian, ByteOrder};
+use capture3::pack_chunk;
 use nfs3_types::Handle;
 use std::alloc::{AllocError, Global};
 use std::hash::BuildHasher;
@@ -48,6 +49,16 @@ fn number_of_handle<S: BuildHasher + Drop>(
         → OnOk result (HoldsHandles handles.new (hs ++ bytes.now ∷ [])) }
 {
     handles.number_of(Handle::from_short(bytes))
+}
+
+/// Returns the spelling of a handle of four bytes, which are the number.
+fn spelled_number(number: u32) -> [u8; 8]
+    ensures { result ≡ word_bytes 4 ++ word_bytes number }
+{
+    let mut run = [0u8; 8];
+    run[..4].copy_from_slice(&pack_chunk(4));
+    run[4..].copy_from_slice(&pack_chunk(number));
+    run
 }
 
 impl<S: BuildHasher + Drop> MessageWriter<S> {
@@ -117,9 +128,8 @@ impl<S: BuildHasher + Drop> MessageWriter<S> {
             (Opaque HandleKind name.now bytes.now ∷ [])) }
     {
         let number = number_of_handle(&mut self.handles, bytes)?;
-        let mut word = [0u8; 4];
-        BigEndian::write_u32(&mut word, number);
-        self.writer.handle(name, &word)
+        // The length and the number at once, since their size is constant.
+        self.writer.fixed(name, &spelled_number(number))
     }
 
     /// Writes the verifier's number in place of the verifier.

@@ -61,10 +61,11 @@ impl<K: Copy + Eq + Hash, S: BuildHasher + Drop> Numbers<K, S> {
         u32::try_from(self.keys.len()).unwrap_or(u32::MAX)
     }
 
-    /// Forgets the keys, and keeps the hasher and the memory.
+    /// Forgets the keys, and keeps the hasher and the memory. It costs what the table holds, and not what it
+    /// has room for.
     pub fn clear(&mut self)
         ensures { HoldsDistinct K.eq self.new [] }
     {
-        self.keys.clear();
+        self.keys.truncate(0);
     }
 }

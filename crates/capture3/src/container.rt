@@ -5,7 +5,7 @@ pub(crate) mod packing;
 pub(crate) mod position;
 pub(crate) mod side_words;
 
-ghost use Rattle.std.specs.Prelude.{◌≡◌, ◌≢◌, ◌≤◌, ◌<◌, ◌+◌, length, take, IfOk, IfErr, OnOk, None, Some};
+ghost use Rattle.std.specs.Prelude.{◌≡◌, ◌≢◌, ◌≤◌, ◌<◌, ◌+◌, length, take, IfOk, IfErr, IfSome, OnOk, None, Some};
 ghost use Rattle.capture3.specs.machinery.Container.{AreStored, Arrives, Comes, ComesToFault, ShowsError, first_cursor, IsCutInRecord, IsReady, IsStored, Leaves, RecallFails, Recalled, room_in, unpacking_in};
 ghost use Rattle.record_mark.specs.Joining.{Between};
 ghost use Rattle.capture3.specs.machinery.Position.{AreEmpty, cost_of, IsEndSpot, IsOpenBody, IsSoundPosition, KeepsStreams, most_things, room_of, StoredWith, TakesRoom, TakesSome};
@@ -114,15 +114,50 @@ impl Container {
                 Ok(event) => Ok((0, Some(event))),
                 Err(error) => Err(error),
             },
-            None => match self.advance(piece) {
-                Ok((count, Some(Event::Streams))) => match self.first_recalled() {
-                    Ok(event) => Ok((count, Some(event))),
+            None => match self.take_whole(piece) {
+                Some((count, side)) => Ok((count, Some(Event::Record(side)))),
+                None => match self.advance(piece) {
+                    Ok((count, Some(Event::Streams))) => match self.first_recalled() {
+                        Ok(event) => Ok((count, Some(event))),
+                        Err(error) => Err(error),
+                    },
+                    Ok((count, event)) => Ok((count, event)),
                     Err(error) => Err(error),
                 },
-                Ok((count, event)) => Ok((count, event)),
-                Err(error) => Err(error),
             },
         }
+    }
+
+    /// Version 1: takes a whole record of one fragment from the start of `piece` and of the open chunk, and
+    /// returns how many bytes it has there, and its side. Returns `None` and takes nothing if no such record
+    /// is there, or if the joiner does not take it: `advance` takes any other bytes.
+    #[inline(always)]
+    fn take_whole(&mut self, piece: &[u8]) -> Option<(usize, Side)>
+        requires sound { IsSoundPosition self.old.position }
+        requires stored { AreStored self.old.position None self.old.streams }
+        requires running { IsRunning self.old.joiner }
+        ensures within { IfSome result (λ r. (0 < r.0) × (r.0 ≤ length piece.now)) }
+        ensures sound { IfSome result (λ r. IsSoundPosition self.new.position) }
+        ensures joiner { IfSome result (λ r. IsWhole self.new.joiner) }
+        ensures machine { IfSome result
+            (λ r. Arrives (unpacking_in self.old) (take r.0 piece.now)
+            (Some (Event.Record r.1)) self.new.position self.new.joiner self.new.streams) }
+        ensures room { IfSome result
+            (λ r. room_of self.new.position self.new.streams + 1
+            ≤ room_of self.old.position self.old.streams) }
+        ensures stored { IfSome result
+            (λ r. AreStored self.new.position None self.new.streams) }
+        ensures cursor { self.new.cursor ≡ self.old.cursor }
+        ensures none { result ≡ None → self.new ≡ self.old }
+    {
+        let Spot::Chunk(side, left) = self.position.spot else {
+            return None;
+        };
+        let front = &piece[..piece.len().min(left as usize)];
+        let count = self.joiner.take_whole(front)?;
+        let taken = self.position.take_chunk(side, left, count as u32, true);
+        self.position = taken.position;
+        Some((count, side))
     }
 
     /// What is whole first in the streams, which are whole.

@@ -1,6 +1,7 @@
 -- Room that text is written into.
-use Rattle.std.proofs.Common.{◌≡◌, ℕ, zero, suc, ◌+◌, ◌*◌, ◌/◌, ◌%◌, ◌^◌, ◌≤◌, ◌<◌, List, [], ◌∷◌, ◌++◌, length, take, set, ap, sym, ◌∙◌, arith, length-append}
-use Rattle.std.specs.Prelude.{decimal}
+use Rattle.std.proofs.Common.{◌≡◌, ℕ, zero, suc, ◌+◌, ◌*◌, ◌/◌, ◌%◌, ◌^◌, ◌≤◌, ◌<◌, List, [], ◌∷◌, ◌++◌, length, take, set, refl, ap, sym, ◌∙◌, arith, length-append}
+use Rattle.std.specs.Prelude.{decimal, slice_index}
+use Rattle.hex.specs.Hex.{lower_digits}
 use Rattle.std.proofs.lemmas.List.{take-take, take_more_set}
 use Rattle.std.proofs.lemmas.Fmt.{decimal_digit, decimal_nonempty, decimal_step, length-decimal-le}
 
@@ -31,3 +32,37 @@ decimal_of_length k n l m s =
     let more = more_digits k n l s in
     let most = length-decimal-le (suc k) n (omega arith) (omega (arith, m)) s in
     omega (arith, more, most)
+
+-- a digit below ten
+pub low_digit : (n : ℕ) → n < 10 → slice_index lower_digits n ≡ 48 + n
+low_digit zero l = refl
+low_digit (suc zero) l = refl
+low_digit (suc (suc zero)) l = refl
+low_digit (suc (suc (suc zero))) l = refl
+low_digit (suc (suc (suc (suc zero)))) l = refl
+low_digit (suc (suc (suc (suc (suc zero))))) l = refl
+low_digit (suc (suc (suc (suc (suc (suc zero)))))) l = refl
+low_digit (suc (suc (suc (suc (suc (suc (suc zero))))))) l = refl
+low_digit (suc (suc (suc (suc (suc (suc (suc (suc zero)))))))) l = refl
+low_digit (suc (suc (suc (suc (suc (suc (suc (suc (suc zero))))))))) l = refl
+low_digit (suc (suc (suc (suc (suc (suc (suc (suc (suc (suc n)))))))))) l = absurd (omega (arith, l))
+
+-- a digit from ten on
+pub high_digit : (n : ℕ) → n < 16 → 10 ≤ n → slice_index lower_digits n ≡ 87 + n
+high_digit zero l m = absurd (omega (arith, m))
+high_digit (suc zero) l m = absurd (omega (arith, m))
+high_digit (suc (suc zero)) l m = absurd (omega (arith, m))
+high_digit (suc (suc (suc zero))) l m = absurd (omega (arith, m))
+high_digit (suc (suc (suc (suc zero)))) l m = absurd (omega (arith, m))
+high_digit (suc (suc (suc (suc (suc zero))))) l m = absurd (omega (arith, m))
+high_digit (suc (suc (suc (suc (suc (suc zero)))))) l m = absurd (omega (arith, m))
+high_digit (suc (suc (suc (suc (suc (suc (suc zero))))))) l m = absurd (omega (arith, m))
+high_digit (suc (suc (suc (suc (suc (suc (suc (suc zero)))))))) l m = absurd (omega (arith, m))
+high_digit (suc (suc (suc (suc (suc (suc (suc (suc (suc zero))))))))) l m = absurd (omega (arith, m))
+high_digit (suc (suc (suc (suc (suc (suc (suc (suc (suc (suc zero)))))))))) l m = refl
+high_digit (suc (suc (suc (suc (suc (suc (suc (suc (suc (suc (suc zero))))))))))) l m = refl
+high_digit (suc (suc (suc (suc (suc (suc (suc (suc (suc (suc (suc (suc zero)))))))))))) l m = refl
+high_digit (suc (suc (suc (suc (suc (suc (suc (suc (suc (suc (suc (suc (suc zero))))))))))))) l m = refl
+high_digit (suc (suc (suc (suc (suc (suc (suc (suc (suc (suc (suc (suc (suc (suc zero)))))))))))))) l m = refl
+high_digit (suc (suc (suc (suc (suc (suc (suc (suc (suc (suc (suc (suc (suc (suc (suc zero))))))))))))))) l m = refl
+high_digit (suc (suc (suc (suc (suc (suc (suc (suc (suc (suc (suc (suc (suc (suc (suc (suc n)))))))))))))))) l m = absurd (omega (arith, l))

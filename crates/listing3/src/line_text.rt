@@ -5,10 +5,11 @@ ghost use Rattle.hex.specs.Hex.{encode_lower};
 ghost use Rattle.xdr3.specs.Visit.{body_limit};
 ghost use Rattle.listing3.specs.Listing.{opening, prefix, quoted};
 
-use crate::room::{DIGITS, make_room, put_bytes, put_decimal, put_hex, put_name, put_quoted};
+use crate::room::{DIGITS, put_decimal, put_hex, put_name, put_quoted};
 use std::alloc::{AllocError, Global};
 use std::marker::Model;
 use xdr3::Visit;
+use xdr3::room::{make_room, put_bytes};
 
 /// The text of a line or of a part of it: what was appended since `new` or `forget`. A call that fails
 /// appends nothing. As a visitor it appends ` name=value` for each item.

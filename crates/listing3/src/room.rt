@@ -1,59 +1,21 @@
 // Text of values, written into room that was taken before. A place is a count of bytes from the room's
 // start, and each function answers the place after what it wrote.
 
-ghost use Rattle.std.specs.Prelude.{◌≡◌, ◌≤◌, ◌+◌, ◌*◌, ◌++◌, ◌∷◌, [], length, take, decimal, vec_len, IfOk, OnOk, OnErr};
+ghost use Rattle.std.specs.Prelude.{◌≡◌, ◌<◌, ◌≤◌, ◌+◌, ◌*◌, ◌++◌, ◌∷◌, [], length, take, decimal, slice_index, vec_len, IfOk};
 ghost use Rattle.std.specs.List.{flat_map};
-ghost use Rattle.hex.specs.Hex.{encode_lower};
+ghost use Rattle.hex.specs.Hex.{encode_lower, lower_digits};
 ghost use Rattle.xdr3.specs.Visit.{body_limit};
 ghost use Rattle.listing3.specs.Listing.{opening, quoted, quoted_byte};
 
-use hex::encode_to_slice;
 use itoa::write_digits;
 use std::alloc::AllocError;
+use xdr3::room::{make_room, put_bytes};
 
 /// How many digits a number has at most.
 pub(crate) const DIGITS: usize = 20;
 
 /// How many bytes of a string are written after one test of the room.
 const PIECE: usize = 256;
-
-/// Makes the room longer where it has fewer than `count` bytes after the place.
-pub(crate) fn make_room(room: &mut Vec<u8>, at: usize, count: usize) -> Result<(), AllocError>
-    requires { at ≤ vec_len room.old }
-    ensures ok { OnOk result (at + count ≤ vec_len room.new) }
-    ensures kept { take at room.new.items ≡ take at room.old.items }
-    ensures len { vec_len room.old ≤ vec_len room.new }
-{
-    let left = room.len() - at;
-    if count <= left {
-        return Ok(());
-    }
-    lengthen(room, count - left)
-}
-
-/// Makes the room longer by so many bytes.
-#[cold]
-fn lengthen(room: &mut Vec<u8>, count: usize) -> Result<(), AllocError>
-    ensures ok { OnOk result (vec_len room.new ≡ vec_len room.old + count) }
-    ensures kept { take (vec_len room.old) room.new.items ≡ room.old.items }
-    ensures len { vec_len room.old ≤ vec_len room.new }
-{
-    room.reserve(count)?;
-    room.resize(room.len() + count, 0)
-}
-
-/// Writes the bytes.
-pub(crate) fn put_bytes(room: &mut [u8], at: usize, bytes: &[u8]) -> usize
-    requires { at + length bytes.now ≤ length room.old }
-    ensures end { result ≡ at + length bytes.now }
-    ensures written { take result room.new ≡ take at room.old ++ bytes.now }
-    ensures kept { take at room.new ≡ take at room.old }
-    ensures len { length room.new ≡ length room.old }
-{
-    let end = at + bytes.len();
-    room[at..end].copy_from_slice(bytes);
-    end
-}
 
 /// Writes a space, the name and `=`.
 pub(crate) fn put_name(room: &mut [u8], at: usize, name: &'static str) -> usize
@@ -117,11 +79,31 @@ pub(crate) fn put_hex(room: &mut [u8], at: usize, bytes: &[u8]) -> usize
     ensures len { length room.new ≡ length room.old }
 {
     let end = at + 2 * bytes.len();
-    match encode_to_slice(bytes, &mut room[at..end]) {
-        Ok(()) => end,
-        // The room has two digits for each byte, and nothing else is refused.
-        Err(_) => unreachable!(),
+    encode(bytes, &mut room[at..end]);
+    end
+}
+
+/// Writes two lower-case hexadecimal digits for each byte. Because the digits are computed and not looked
+/// up, the compiler writes those of 16 bytes at once.
+fn encode(bytes: &[u8], digits: &mut [u8])
+    requires { length digits.old ≡ 2 * length bytes.now }
+    ensures { digits.new ≡ encode_lower bytes.now }
+{
+    'bytes: for i in 0..bytes.len() {
+        let byte = bytes[i];
+        digits[2 * i] = hex_digit(byte >> 4);
+        digits[2 * i + 1] = hex_digit(byte & 0x0f);
     }
+}
+
+/// Returns the lower-case hexadecimal digit of a number below 16.
+#[inline(always)]
+#[tactic(auto, using(crate::proofs::Rooms::low_digit, crate::proofs::Rooms::high_digit))]
+fn hex_digit(n: u8) -> u8
+    requires { n < 16 }
+    ensures { result ≡ slice_index lower_digits n }
+{
+    if n < 10 { b'0' + n } else { b'a' - 10 + n }
 }
 
 /// Writes text between quotation marks, with each byte that is not plain as `\x` and two digits, and makes

@@ -5,6 +5,7 @@ ghost use Rattle.std.specs.Io.Buffered.{writer_contents, writer_inner};
 ghost use Rattle.nfs3canon.specs.Writing.{WritesOut};
 
 use crate::destination::Destination;
+use crate::hashing::SecretHasher;
 use crate::identity::{FileId, standard_output};
 use crate::opening::{OpenError, opened, unopened};
 use crate::outcome::{Ended, Outcome};
@@ -15,7 +16,6 @@ use line3::LineFault;
 use listing3::show;
 use packing3::Packing;
 use std::fs::{File, Metadata};
-use std::hash::RandomState;
 use std::io::{BufWriter, ErrorKind, Write};
 use std::{fs, io};
 
@@ -23,12 +23,12 @@ use std::{fs, io};
 const WRITTEN_AT_ONCE: usize = 65_536;
 
 /// The hashers have keys that nobody who writes a capture can know.
-fn hashers(rt: &HostRuntime) -> io::Result<Hashers<RandomState>> {
+fn hashers(rt: &HostRuntime) -> io::Result<Hashers<SecretHasher>> {
     Ok(Hashers {
-        calls: RandomState::new(rt)?,
-        xids: RandomState::new(rt)?,
-        handles: RandomState::new(rt)?,
-        verfs: RandomState::new(rt)?,
+        calls: SecretHasher::new(rt)?,
+        xids: SecretHasher::new(rt)?,
+        handles: SecretHasher::new(rt)?,
+        verfs: SecretHasher::new(rt)?,
     })
 }
 
@@ -155,7 +155,7 @@ fn made_apart(
 
 fn form_kept(
     rt: &HostRuntime,
-    hashers: Hashers<RandomState>,
+    hashers: Hashers<SecretHasher>,
     source: File,
     made: OutputFile,
 ) -> Result<Summary, Error> {
@@ -170,7 +170,7 @@ fn form_kept(
 
 fn form_written(
     rt: &HostRuntime,
-    hashers: Hashers<RandomState>,
+    hashers: Hashers<SecretHasher>,
     source: File,
     output: &File,
 ) -> Result<Summary, Error> {

@@ -2,6 +2,7 @@
 #![tactic(auto)]
 
 mod destination;
+mod hashing;
 mod identity;
 mod jobs;
 mod opening;

@@ -1,5 +1,6 @@
 -- Many bytes at once: those of a header, and those of a fragment.
-use Rattle.std.proofs.Common.{◌≡◌, ℕ, ◌+◌, ◌^◌, ◌<◌, ◌≤◌, List, [], ◌++◌, length, refl, sym, ap, ◌∙◌, append-nil, arith, length-append, Bool, true, cond, lt-ltb, le-ltb, le-leb}
+use Rattle.std.proofs.Common.{◌≡◌, ℕ, ◌+◌, ◌^◌, ◌<◌, ◌≤◌, List, [], ◌++◌, length, take, drop, refl, sym, subst, ap, ◌∙◌, append-nil, arith, length-append, length-take, length-drop, Bool, true, cond, lt-ltb, le-ltb, le-leb}
+use Rattle.std.proofs.Math.Seq.{take-add}
 use Rattle.byteorder.specs.Numbers.{length-bytes_high_first, big_number-reads_back}
 use Rattle.byteorder.specs.Endian.{big_bytes}
 use Rattle.record_mark.specs.Machine.{Ends, Runs, landed, after}
@@ -74,3 +75,12 @@ one_fragment header body len h size fits =
       carried = refl;
       fits = omega arith;
     }
+
+-- a record that stands whole in one fragment
+pub whole_in_one : (piece : List ℕ) (word len : ℕ) → number (take 4 piece) ≡ word → word ≡ 2 ^ 31 + len → len ≤ max_body → 4 + len ≤ length piece → IsRecord (take (4 + len) piece) (take len (drop 4 piece))
+whole_in_one piece word len is top fits within =
+    let four = length-take 4 piece in
+    let rest = length-drop 4 piece in
+    let size = length-take len (drop 4 piece) in
+    let header : IsHeader (take 4 piece) true len = record { word = omega arith; top = ap is_last (is ∙ top) ∙ top_bit len; count = ap length_of (is ∙ top) ∙ other_bits len fits } in
+    subst (λ (b : List ℕ). IsRecord b (take len (drop 4 piece))) (sym (take-add 4 len piece)) (one_fragment (take 4 piece) (take len (drop 4 piece)) len header (omega arith) fits)

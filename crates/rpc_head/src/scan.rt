@@ -39,7 +39,7 @@ pub(crate) fn scan_listed_or<V: Visit>(
 
 // ---- items with long names: the prover follows a function's name, and not so many letters
 
-#[inline]
+#[inline(always)]
 #[tactic(auto, unfolding(crate::specs::Names::head_names))]
 fn scan_cred_flavor<V: Visit>(input: &mut Input, visitor: &mut V) -> Result<u32, GetError>
     ensures ok { IfOk result
@@ -52,7 +52,7 @@ fn scan_cred_flavor<V: Visit>(input: &mut Input, visitor: &mut V) -> Result<u32,
     scan_listed_or("cred_flavor", &[0, 1], Reason::Flavor, input, visitor)
 }
 
-#[inline]
+#[inline(always)]
 #[tactic(auto, unfolding(crate::specs::Names::head_names))]
 fn scan_cred_body<V: Visit>(input: &mut Input, visitor: &mut V) -> Result<(), GetError>
     ensures ok { OnOk result
@@ -64,7 +64,7 @@ fn scan_cred_body<V: Visit>(input: &mut Input, visitor: &mut V) -> Result<(), Ge
     scan_var("cred_body", 400, input, visitor)
 }
 
-#[inline]
+#[inline(always)]
 #[tactic(auto, unfolding(crate::specs::Names::head_names))]
 fn scan_machinename<V: Visit>(input: &mut Input, visitor: &mut V) -> Result<(), GetError>
     ensures ok { OnOk result
@@ -76,7 +76,7 @@ fn scan_machinename<V: Visit>(input: &mut Input, visitor: &mut V) -> Result<(), 
     scan_text("machinename", 255, input, visitor)
 }
 
-#[inline]
+#[inline(always)]
 #[tactic(auto, unfolding(crate::specs::Names::head_names))]
 fn scan_verf_flavor<V: Visit>(input: &mut Input, visitor: &mut V) -> Result<u32, GetError>
     ensures ok { IfOk result
@@ -89,7 +89,7 @@ fn scan_verf_flavor<V: Visit>(input: &mut Input, visitor: &mut V) -> Result<u32,
     scan_listed_or("verf_flavor", &[0], Reason::Flavor, input, visitor)
 }
 
-#[inline]
+#[inline(always)]
 #[tactic(auto, unfolding(crate::specs::Names::head_names))]
 fn scan_verf_body<V: Visit>(input: &mut Input, visitor: &mut V) -> Result<(), GetError>
     ensures ok { OnOk result
@@ -172,7 +172,7 @@ impl Scan for Group {
 }
 
 /// At most 16 groups (RFC 5531, appendix A).
-#[inline]
+#[inline(always)]
 #[tactic(auto, unfolding(crate::specs::Shapes::gids, crate::specs::Names::head_names))]
 fn scan_gids<V: Visit>(input: &mut Input, visitor: &mut V) -> Result<(), GetError>
     ensures ok { OnOk result
@@ -187,6 +187,7 @@ impl<'a> Scan for Parameters<'a> {
 
     ghost shape = { parameters };
 
+    #[inline(always)]
     #[tactic(auto, using(xdr3::proofs::ScanLemmas::scans), unfolding(crate::specs::Shapes::parameters, crate::specs::Names::head_names))]
     fn scan<V: Visit>(input: &mut Input, visitor: &mut V) -> Result<(), GetError>
         ensures ok { OnOk result
@@ -206,6 +207,7 @@ impl<'a> Scan for AuthSys<'a> {
 
     ghost shape = { auth_sys };
 
+    #[inline(always)]
     #[tactic(auto, unfolding(crate::specs::Shapes::auth_sys, crate::specs::Names::head_names))]
     fn scan<V: Visit>(input: &mut Input, visitor: &mut V) -> Result<(), GetError>
         ensures ok { OnOk result
@@ -221,6 +223,7 @@ impl<'a> Scan for Cred<'a> {
 
     ghost shape = { credential };
 
+    #[inline(always)]
     #[tactic(auto, using(xdr3::proofs::ScanLemmas::scans), unfolding(crate::specs::Shapes::credential, crate::specs::Names::head_names))]
     fn scan<V: Visit>(input: &mut Input, visitor: &mut V) -> Result<(), GetError>
         ensures ok { OnOk result
@@ -240,6 +243,7 @@ impl<'a> Scan for Verf<'a> {
 
     ghost shape = { verifier };
 
+    #[inline(always)]
     #[tactic(auto, using(xdr3::proofs::ScanLemmas::scans), unfolding(crate::specs::Shapes::verifier))]
     fn scan<V: Visit>(input: &mut Input, visitor: &mut V) -> Result<(), GetError>
         ensures ok { OnOk result
@@ -294,7 +298,7 @@ pub fn scan_call_head<V: Visit>(input: &mut Input, visitor: &mut V) -> Result<Pr
     })
 }
 
-#[inline]
+#[inline(always)]
 #[tactic(auto, using(xdr3::proofs::ScanLemmas::scans), unfolding(crate::specs::machinery::HeadScan::credentials))]
 fn scan_credentials<V: Visit>(input: &mut Input, visitor: &mut V) -> Result<(), GetError>
     ensures ok { OnOk result
@@ -329,6 +333,7 @@ pub fn scan_reply_head<V: Visit>(input: &mut Input, visitor: &mut V) -> Result<b
 }
 
 /// What became of an accepted call, and its accept_stat (RFC 5531, section 9).
+#[inline(always)]
 #[tactic(auto, using(xdr3::proofs::ScanLemmas::scans), unfolding(crate::specs::Shapes::accept, crate::specs::Names::head_names))]
 fn scan_accept<V: Visit>(input: &mut Input, visitor: &mut V) -> Result<u32, GetError>
     ensures ok { IfOk result

@@ -227,6 +227,7 @@ pub fn scan_rest<V: Visit>(
 }
 
 /// The word 0, or the word 1 and the shape (optional data, RFC 4506, section 4.19).
+#[inline(always)]
 #[tactic(auto, using(crate::proofs::ScanLemmas::scans), unfolding(crate::specs::Shape::optional))]
 pub fn scan_optional<T: Scan, V: Visit>(
     name: &'static str,
@@ -265,6 +266,7 @@ pub fn scan_linked<T: Scan, V: Visit>(
 }
 
 /// A count of at most `max`, and the shape that many times (RFC 4506, section 4.13).
+#[inline(always)]
 pub fn scan_counted<T: Scan, V: Visit>(
     name: &'static str,
     max: u32,
@@ -285,6 +287,7 @@ pub fn scan_counted<T: Scan, V: Visit>(
 /// The number of bytes of what follows, at most 400, and the shape in just these (an opaque body that is
 /// looked into, RFC 5531, section 8.2). `AuthLength` where an item is not whole in these bytes or some
 /// are left over.
+#[inline(always)]
 #[tactic(auto, using(crate::proofs::SizedScanLemmas::sizes))]
 pub fn scan_sized<T: Scan, V: Visit>(
     name: &'static str,
@@ -301,6 +304,7 @@ pub fn scan_sized<T: Scan, V: Visit>(
 }
 
 /// The shape in all that is left of a window.
+#[inline(always)]
 #[tactic(auto, unfolding(crate::specs::Scan::Scans, crate::specs::machinery::Scan::ScansInside, crate::specs::Scan::Stops, crate::specs::machinery::Scan::StopsInside))]
 fn scan_inside<T: Scan, V: Visit>(window: &mut Input, visitor: &mut V) -> Result<(), GetError>
     ensures ok { OnOk result (ScansInside V.stands T.shape window.old visitor.old visitor.new) }

@@ -174,8 +174,10 @@ impl<S: BuildHasher + Drop> KnownCalls for HashedCalls<S> {
 }
 
 impl<S: BuildHasher + Drop> CallTable for HashedCalls<S> {
+    // `IndexMap::clear` costs what the table has room for, `truncate` what it holds. A connection of few
+    // calls may follow one of a million.
     fn clear(&mut self) {
-        self.calls.clear();
+        self.calls.truncate(0);
         self.next = 0;
     }
 

@@ -78,6 +78,7 @@ fn tell_start<V: Visit>(start: MessageStart, visitor: &mut V) -> Result<(), Allo
 }
 
 /// The results after a reply's head: none but after an accepted success.
+#[inline(always)]
 #[tactic(auto, using(xdr3::proofs::ScanLemmas::layouts, xdr3::proofs::ScanLemmas::nothing_scans))]
 fn scan_results_after<V: Visit>(
     success: bool,
