@@ -66,8 +66,7 @@ def tell(taken: Taken) -> None:
         named = f'connection {connection.number}'
         sizes = f'{connection.client.size} and {connection.server.size} bytes'
         if taken.is_recording:
-            lines.append(f'{named}: {connection.client_end} and {connection.server_end}: client {connection.client_end} '
-                         f'{connection.why}, {sizes}')
+            lines.append(f'{named}: {connection.ends}: client {connection.client_end} {connection.why}, {sizes}')
         lines += [f'{named} {note}' for note in connection.notes]
     lines += [f'left out: {line}' for line in taken.left_out]
     for line in lines:

@@ -116,6 +116,7 @@ class TakenConnection(typing.NamedTuple):
     number: from 1, as in places
     stream_number: Wireshark's tcp.stream, from 0; None if read from a capture
     client_end, server_end: as '192.0.2.7:700' or '[2001:db8::7]:700'; '' if read from a capture
+    ends: both, first the one that sent the first segment, as '192.0.2.7:700 and 192.0.2.1:2049'
     why: how it is known which end is the client, as 'by the SYN'; '' if read from a capture
     notes: what was left out of its streams, each beginning with the side, as 'client: 12 bytes are missing ..'
     """
@@ -123,6 +124,7 @@ class TakenConnection(typing.NamedTuple):
     stream_number: int | None
     client_end: str
     server_end: str
+    ends: str
     why: str
     client: TakenStream
     server: TakenStream
@@ -215,9 +217,9 @@ def bytes_of(stream: TakenStream, extent: Extent, place: Place) -> tuple[int, in
 
 # --- Taking ---
 
-def take(path: str, options: Options = Options(), keeps_frames: bool = True) -> Taken:
+def take(path: str, options: Options = Options(), keeps_frames: bool = True, shows_progress: bool = True) -> Taken:
     """Reads a recording or a capture, `-` for standard input. `keeps_frames` says whether the frames of bytes are noted,
-    which takes 24 bytes of memory for each frame.
+    which takes 24 bytes of memory for each frame; `shows_progress` whether their number is shown on a terminal meanwhile.
 
     Raises `NotTaken`, `Missing` and `FilterRefused` (of `programs`), and `OSError` if a file cannot be read or a temporary
     file not be written.
@@ -229,7 +231,7 @@ def take(path: str, options: Options = Options(), keeps_frames: bool = True) -> 
                 file = files.enter_context(copied(file))
                 path = file.name
             chosen = chosen_frames(path, options.filter)
-        taken = take_from(Source(file), options, keeps_frames, chosen)
+        taken = take_from(Source(file), options, keeps_frames, chosen, Progress(shows_progress))
     return taken
 
 
@@ -243,12 +245,12 @@ def copied(file: typing.IO[bytes]) -> typing.Iterator[typing.IO[bytes]]:
         yield copy
 
 
-def take_from(source: Source, options: Options, keeps_frames: bool, chosen: set[int] | None) -> Taken:
+def take_from(source: Source, options: Options, keeps_frames: bool, chosen: set[int] | None, progress: 'Progress') -> Taken:
     """Takes what is read; of a recording only the frames that are chosen, if `chosen` is not None."""
     try:
         if source.peek(8) in MAGICS:
             return of_capture(source)
-        return of_recording(Recording(source), options, keeps_frames, chosen)
+        return of_recording(Recording(source), options, keeps_frames, chosen, progress)
     except (NoRecording, Damaged) as refused:
         raise NotTaken(str(refused)) from refused
 
@@ -259,7 +261,7 @@ def of_capture(source: Source) -> Taken:
     try:
         for streams in Container(source, taken.spool).connections():
             client, server = (TakenStream(stored, None, whole(stored)) for stored in streams)
-            taken.connections.append(TakenConnection(len(taken.connections) + 1, None, '', '', '', client, server, []))
+            taken.connections.append(TakenConnection(len(taken.connections) + 1, None, '', '', '', '', client, server, []))
     except BadCapture:
         taken.damage = 'the capture is not whole, or has a word that cannot stand there'
     except Damaged as damaged:
@@ -271,8 +273,9 @@ def whole(stored: Stored) -> list[tuple[int, int]]:
     return [(0, stored.size)] if stored.size else []
 
 
-def of_recording(recording: Recording, options: Options, keeps_frames: bool, chosen: set[int] | None) -> Taken:
-    segments, connections, progress = Segments(), Connections(keeps_frames), Progress()
+def of_recording(recording: Recording, options: Options, keeps_frames: bool, chosen: set[int] | None,
+                 progress: 'Progress') -> Taken:
+    segments, connections = Segments(), Connections(keeps_frames)
     for frame in recording.frames():
         segment = segments.segment(frame)
         if segment is not None:
@@ -302,14 +305,15 @@ def notes_of(recording: Recording, segments: Segments) -> list[str]:
 
 def add(taken: Taken, connection: Connection, selected: Selected, options: Options) -> None:
     """Takes a connection, or says why it is left out."""
+    ends = ' and '.join(connection.ends)
     streams = connection.streams[selected.client], connection.streams[1 - selected.client]
     if not any(kept.ranges for kept in selected.kept):
-        taken.left_out.append('%s and %s: %s' % (*connection.ends, why_left_out(connection, options)))
+        taken.left_out.append(f'{ends}: {why_left_out(connection, options)}')
         return
     client, server = (TakenStream(stream.stored, stream.frames, kept.ranges) for stream, kept in zip(streams, selected.kept))
     notes = [note for kept in selected.kept for note in kept.notes]
     taken.connections.append(TakenConnection(len(taken.connections) + 1, connection.number, connection.ends[selected.client],
-                                             connection.ends[1 - selected.client], selected.why, client, server, notes))
+                                             connection.ends[1 - selected.client], ends, selected.why, client, server, notes))
 
 
 def why_left_out(connection: Connection, options: Options) -> str:
@@ -325,8 +329,8 @@ def why_left_out(connection: Connection, options: Options) -> str:
 class Progress:
     """How many frames were read, on standard error if that is a terminal."""
 
-    def __init__(self) -> None:
-        self.told, self.is_shown = time.monotonic(), sys.stderr.isatty()
+    def __init__(self, is_shown: bool):
+        self.told, self.is_shown = time.monotonic(), is_shown and sys.stderr.isatty()
 
     def step(self, number: int) -> None:
         if self.is_shown and not number % 1_000 and time.monotonic() > self.told + 0.2:
