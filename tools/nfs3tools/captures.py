@@ -12,7 +12,8 @@ MAGICS = (b'NFS3CAP1', b'NFS3CAP2')
 CHUNK = 1 << 16
 MOST_CONNECTIONS, MOST_BYTES = 65_535, 1 << 30
 READ_AT_ONCE = 1 << 20
-TRIES = 16  # names for a file that is being written
+PART = '.nfs3canon-'  # begins the name of a file that is being written
+TRIES = 16  # such names
 
 
 class BadCapture(Exception):
@@ -122,14 +123,20 @@ def write_file(path: str, blocks: typing.Iterable[bytes]) -> None:
 
     Raises `OSError`; then what has the name is as it was.
     """
-    path = os.path.realpath(path)
-    with contextlib.suppress(FileNotFoundError):
-        found = os.stat(path)
-        if not stat.S_ISREG(found.st_mode):
-            return write_device(path, blocks)
-        os.close(os.open(path, os.O_WRONLY))  # what may not be written is not replaced
-        return write_beside(path, blocks, stat.S_IMODE(found.st_mode) & 0o777)
-    return write_beside(path, blocks, None)
+    target, mode = os.path.realpath(path), None
+    try:
+        with contextlib.suppress(FileNotFoundError):
+            found = os.stat(path)
+            if not stat.S_ISREG(found.st_mode):
+                return write_device(path, blocks)
+            os.close(os.open(target, os.O_WRONLY))  # what may not be written is not replaced
+            mode = found.st_mode & 0o777
+        write_beside(target, blocks, mode)
+    except BrokenPipeError:
+        raise
+    except OSError as failed:
+        named = path if failed.filename in (None, target) or PART in str(failed.filename) else failed.filename
+        raise OSError(failed.errno, failed.strerror or str(failed), named) from failed
 
 
 def write_device(path: str, blocks: typing.Iterable[bytes]) -> None:
@@ -155,7 +162,7 @@ def write_beside(path: str, blocks: typing.Iterable[bytes], mode: int | None) ->
 def part_of(path: str) -> tuple[str, typing.BinaryIO]:
     """Makes a new file in the folder of the path, with a short name that is random."""
     for _ in range(TRIES):
-        part = os.path.join(os.path.dirname(path), '.nfs3canon-' + secrets.token_hex(8))
+        part = os.path.join(os.path.dirname(path), PART + secrets.token_hex(8))
         with contextlib.suppress(FileExistsError):
             return part, open(part, 'xb')
     raise FileExistsError(f'no free name beside {path}')

@@ -26,7 +26,7 @@ def run(name: str, main: typing.Callable[[list[str]], int]) -> int:
         os.dup2(os.open(os.devnull, os.O_WRONLY), sys.stdout.fileno())
         return FAILED
     except OSError as failed:
-        return ended(name, f'{failed.filename}: {failed.strerror}' if failed.filename else str(failed.strerror or failed), FAILED)
+        return ended(name, words_of(failed), FAILED)
     except MemoryError:
         return ended(name, 'out of memory', FAILED)
     except KeyboardInterrupt:
@@ -35,6 +35,12 @@ def run(name: str, main: typing.Callable[[list[str]], int]) -> int:
 
 def interrupted(*_: object) -> None:
     raise KeyboardInterrupt
+
+
+def words_of(failed: OSError) -> str:
+    """What failed, with the name of the file if there is one."""
+    words = failed.strerror or str(failed)
+    return f'{failed.filename}: {words}' if failed.filename else words
 
 
 def ended(name: str, message: str, status: int) -> int:
@@ -59,15 +65,11 @@ def options_of(chosen: argparse.Namespace) -> Options:
     return Options(chosen.midstream, chosen.whole_records, chosen.filter)
 
 
-def tell(taken: Taken) -> None:
-    """Prints a line for each connection that is taken or left out, and for what is missing, on standard error."""
+def lines_of(taken: Taken) -> list[str]:
+    """What is told of a recording: a line for each connection that is taken or left out, and for what is missing."""
     lines = [*taken.notes]
     for connection in taken.connections:
-        named = f'connection {connection.number}'
         sizes = f'{connection.client.size} and {connection.server.size} bytes'
-        if taken.is_recording:
-            lines.append(f'{named}: {connection.ends}: client {connection.client_end} {connection.why}, {sizes}')
-        lines += [f'{named} {note}' for note in connection.notes]
-    lines += [f'left out: {line}' for line in taken.left_out]
-    for line in lines:
-        print(line, file=sys.stderr)
+        lines.append(f'connection {connection.number}: {connection.ends}: client {connection.client_end} {connection.why}, {sizes}')
+        lines += [f'connection {connection.number} {note}' for note in connection.notes]
+    return lines + [f'left out: {line}' for line in taken.left_out]

@@ -24,12 +24,15 @@ class Spool:
 
     def append(self, piece: bytes | bytearray) -> int:
         """Writes a piece, and gives where it stands."""
-        if self.file is None:
-            self.file = tempfile.TemporaryFile(prefix='nfs3canon', buffering=0)
         begin, done = self.size, 0
         self.size += len(piece)
-        while done < len(piece):
-            done += self.file.write(piece[done:] if done else piece)
+        try:
+            if self.file is None:
+                self.file = tempfile.TemporaryFile(prefix='nfs3canon', buffering=0)
+            while done < len(piece):
+                done += self.file.write(piece[done:] if done else piece)
+        except OSError as failed:
+            raise OSError(failed.errno, failed.strerror or str(failed), 'a temporary file') from failed
         return begin
 
     def read(self, begin: int, size: int) -> bytes:

@@ -27,7 +27,7 @@ import typing
 import xml.etree.ElementTree
 
 from .captures import write_file
-from .messages import add_options, options_of, parser_of
+from .messages import add_options, options_of, parser_of, words_of
 from .places import FilePlace, Place, parse_fault
 from .programs import Answer, FilterRefused, Missing, program_path, run_program
 from .taken import FrameRef, NotTaken, Options, Taken, TakenConnection, take
@@ -73,7 +73,7 @@ class Judge(typing.NamedTuple):
         except (NotTaken, FilterRefused, Missing) as refused:
             return [error_of(recording, str(refused))]
         except OSError as failed:
-            return [error_of(recording, failed.strerror or str(failed))]
+            return [error_of(recording, words_of(failed))]
         except MemoryError:
             return [error_of(recording, 'out of memory')]
 
