@@ -48,23 +48,40 @@ class Inflated:
 
     def __init__(self, file: Readable, begun: bytes):
         self.file, self.packed, self.inflate = file, begun, zlib.decompressobj(31)
+        self.damage: Damaged | None = None
 
     def read(self, size: int, /) -> bytes:
-        while True:
+        while self.damage is None:
             self.packed = self.packed or self.file.read(READ_AT_ONCE)
             if self.inflate.eof:
                 if not self.packed.startswith(GZIP):
                     return b''
                 self.inflate = zlib.decompressobj(31)
             if not self.packed:
-                raise Damaged('the compressed file is cut short')
-            try:
-                content = self.inflate.decompress(self.packed, size)
-            except zlib.error as error:
-                raise Damaged(f'the compressed file is damaged: {error}') from error
-            self.packed = self.inflate.unused_data if self.inflate.eof else self.inflate.unconsumed_tail
-            if content:
+                self.damage = Damaged('the compressed file is cut short')
+            elif content := self.inflated(size):
                 return content
+        raise self.damage
+
+    def inflated(self, size: int) -> bytes:
+        """The next bytes, of which there may be none yet; of damaged ones those before the damage."""
+        before = self.inflate.copy()
+        try:
+            content = self.inflate.decompress(self.packed, size)
+        except zlib.error as error:
+            self.damage = Damaged(f'the compressed file is damaged: {error}')
+            return byte_by_byte(before, self.packed)
+        self.packed = self.inflate.unused_data if self.inflate.eof else self.inflate.unconsumed_tail
+        return content
+
+
+def byte_by_byte(inflate: 'zlib._Decompress', packed: bytes) -> bytes:
+    """What can be decompressed before the damage."""
+    content = bytearray()
+    with contextlib.suppress(zlib.error):
+        for at in range(len(packed)):
+            content += inflate.decompress(packed[at:at + 1])
+    return bytes(content)
 
 
 class Source:
@@ -72,8 +89,8 @@ class Source:
 
     def __init__(self, file: Readable):
         self.file, self.block, self.begin, self.before = file, b'', 0, 0
-        magic = self.peek(6)
-        if magic.startswith(GZIP):
+        self.damage: Damaged | None = None
+        if self.peek(2) == GZIP:
             self.file, self.block, self.begin = Inflated(file, self.block), b'', 0
 
     @property
@@ -97,13 +114,23 @@ class Source:
         return piece
 
     def fill(self, size: int) -> None:
-        """Reads until `size` bytes are there, or the file ends."""
+        """Reads until `size` bytes are there, or the file ends. Raises `Damaged` if it is not known whether it does."""
         self.before += self.begin
         parts, there = [self.block[self.begin:]], len(self.block) - self.begin
-        while there < size and (more := self.file.read(READ_AT_ONCE)):
+        while there < size and (more := self.more()):
             parts.append(more)
             there += len(more)
         self.block, self.begin = b''.join(parts), 0
+        if there < size and self.damage:
+            raise self.damage
+
+    def more(self) -> bytes:
+        """Reads a block, none after the end or damage."""
+        try:
+            return b'' if self.damage else self.file.read(READ_AT_ONCE)
+        except Damaged as damaged:
+            self.damage = damaged
+            return b''
 
 
 class Interface(typing.NamedTuple):

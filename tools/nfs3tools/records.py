@@ -107,17 +107,24 @@ def has_head(head: bytes, side: Side) -> bool:
 
 
 class Walk(typing.NamedTuple):
-    """The records that follow one another from a place: how many are whole, and whether they reach the end of the run."""
+    """The records that follow one another from a place: how many are whole, whether they reach the end of the run, and
+    whether the first has one fragment."""
     begin: int
     records: int
     reaches_end: bool
+    is_single: bool
+
+    @property
+    def rank(self) -> tuple[bool, bool, int]:
+        """What makes it more convincing than another."""
+        return self.reaches_end, self.reaches_end and self.is_single, 0 if self.reaches_end else self.records
 
 
 class Search:
     """The search for the first record of a run, whose beginning is missing.
 
-    A place counts if from it record follows record up to the end of the run; the last record may be cut. A head that is none
-    may stand between two records: such a message is for the program to judge.
+    A place counts if from it record follows record up to the end of the run; the last record may be cut. A record of one
+    fragment whose head is none may stand between two that have one: it is for the program to judge.
     """
 
     def __init__(self, stored: Bytes, side: Side, begin: int, end: int):
@@ -126,19 +133,17 @@ class Search:
         self.failed: set[int] = set()  # places from which records do not reach the end
 
     def first(self) -> int | None:
-        """Where the first record begins.
+        """Where the first record begins: at the first place that counts, if there is one at which a record of one fragment
+        begins; any bytes look like a record of many.
 
         If there is no place that counts, it is that with the most records, of three or more: then the run has a fault.
         """
-        best = Walk(self.end, 0, False)
+        best = Walk(self.end, 0, False, False)
         for begin in self.places():
-            walk = self.walk(begin)
-            if walk.reaches_end:
-                return begin
-            best = max(best, walk, key=lambda walk: walk.records)
-            if self.marks > MARKS_AT_MOST:
+            best = max(best, self.walk(begin), key=lambda walk: walk.rank)
+            if best.reaches_end and best.is_single or self.marks > MARKS_AT_MOST:
                 break
-        return best.begin if best.records >= ENOUGH_RECORDS else None
+        return best.begin if best.reaches_end or best.records >= ENOUGH_RECORDS else None
 
     def places(self) -> typing.Iterator[int]:
         """Iterates over the places at which a record with a head may begin."""
@@ -154,20 +159,21 @@ class Search:
 
     def walk(self, begin: int) -> Walk:
         """Follows the records from a place on."""
-        at, records, is_doubted, passed = begin, 0, False, array.array('Q')
+        at, records, is_doubted, is_single, passed = begin, 0, False, False, array.array('Q')
         shortest = HEAD_OF_CALL if self.side == 'client' else HEAD_OF_REPLY
         while at < self.end and at not in self.failed:
             extent = extent_of(self.window, at, self.end)
             self.marks += extent.marks
             is_good = self.is_good(extent, shortest)
-            if extent.is_too_long or not is_good and (is_doubted or not extent.is_whole or at == begin):
+            if extent.is_too_long or not is_good and (is_doubted or not extent.is_whole or at == begin or extent.marks > 1):
                 break
             passed.append(at)
+            is_single |= at == begin and extent.marks == 1
             is_doubted, at, records = not is_good, extent.end, records + extent.is_whole
         reaches_end = at >= self.end and records > 0
         if not reaches_end and len(self.failed) < REMEMBERED_AT_MOST:
             self.failed.update(passed[:REMEMBERED_AT_MOST])
-        return Walk(begin, records, reaches_end)
+        return Walk(begin, records, reaches_end, is_single)
 
     def is_good(self, extent: Extent, shortest: int) -> bool:
         """Whether a record has a head, of which a record that is cut may have less."""

@@ -196,15 +196,16 @@ class Stream:
             self.first, self.is_begin = sequence & 0xffffffff, True
 
     def shows(self, end: int, number: int) -> None:
-        """A frame shows that bytes were sent up to a position."""
+        """A frame shows that bytes were sent up to a position. FIN is acknowledged as one more."""
+        end = end if self.end is None else min(end, self.end)
         if end > self.known_end:
             self.known_end, self.known_by = end, number
 
     def ends_at(self, end: int, number: int) -> None:
         """The position of the end is known, unless bytes beyond it were sent."""
-        self.shows(end, number)
         if self.end is None and end >= self.next:
-            self.end = end
+            self.shows(end, number)
+            self.end, self.known_end = end, min(end, self.known_end)
 
     def take(self, sequence: int, payload: bytes, missing: int, number: int, time: int) -> None:
         """Takes the payload of a segment, of which some bytes at the end may be missing."""
@@ -278,8 +279,6 @@ class Stream:
         """Nothing comes after this."""
         while self.held.begins:
             self.give_up_gap()
-        if self.end is not None:
-            self.known_end = min(self.known_end, self.end)
 
     def gap_at_end(self) -> Gap | None:
         """The bytes that are missing after the last one."""
