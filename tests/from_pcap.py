@@ -20,14 +20,16 @@ import typing
 
 from recordings import (
     ACK, CLIENT, FIN, NANOSECONDS, RST, SERVER, SYN, Talk, block, cooked, cooked_2, datagram, enhanced, ethernet, extended,
-    fragments, fragments_6, interface, loopback, obsolete, pcap, pcapng, section, segment, simple)
+    fragments, fragments_6, interface, loopback, obsolete, pcap, pcapng, section, simple)
 from running import try_all, words_of
 from scripts import (
-    ALL, CALLS, REPLIES, TOP, Options, Streams, Taken, Tools, exchange, in_fragments, packed, stream, taken_of, whole)
+    ALL, CALLS, REPLIES, TOP, Streams, Taken, Tools, exchange, in_fragments, packed, stream, taken_of, whole)
 from traffic import NFS, Names, Traffic, call, messages, success
-from nfs3tools import captures, records, streams
+from nfs3tools import captures, streams
 from nfs3tools.captures import capture_of
 from nfs3tools.places import SIDES
+from nfs3tools.recordings import Frame
+from nfs3tools.segments import Segments
 from nfs3tools.taken import NotTaken
 
 SIZES = ', %d and %d bytes' % (len(ALL[0]), len(ALL[1]))
@@ -616,6 +618,20 @@ def mutated(tools: Tools) -> None:
             tools.want(f'bytes of mutation {number}', bytes_not_on_the_wire(taken, frames_of(recording)), [])
 
 
+def short_way(tools: Tools) -> None:
+    """Plain frames, which are read by a way of their own, give the same segments as by that for frames of any kind."""
+    chance = random.Random(13)
+    frames = [frame for options in ({}, {'vlan': 7}) for frame in whole(**options)]
+    for number in range(20_000):
+        data = bytearray(chance.choice(frames))
+        for _ in range(chance.randrange(3)):
+            data[chance.randrange(12, min(60, len(data)))] = chance.choice((0, 1, 5, 6, 0x45, 0x50, 0x60, 0xf0, 255, chance.randrange(256)))
+        data = data[:chance.choice((len(data), len(data), chance.randrange(len(data))))]
+        frame = Frame(1, 0, 1, bytes(data), len(data) + chance.choice((0, 0, 9)))
+        found = [Segments().segment(frame), Segments().of_any(frame)]
+        tools.want(f'frame {number}: {frame.data.hex()}', found[0], found[1])
+
+
 def mutation(chance: random.Random, base: bytes) -> bytes:
     content = bytearray(base)
     for _ in range(chance.choice((1, 1, 2, 5, 20))):
@@ -769,7 +785,7 @@ def tried(program: str, test: typing.Callable[[Tools], None]) -> list[str]:
 
 
 OF_TSHARK = [filters]
-TESTS = [mutated, cuts, losses, memory, recordings_of_all_kinds, times, recordings_that_end_early, link_layers, internet_layers,
+TESTS = [mutated, short_way, cuts, losses, memory, recordings_of_all_kinds, times, recordings_that_end_early, link_layers, internet_layers,
          datagrams_in_fragments, segments_in_any_order, bytes_that_came_first, beginnings_and_ends, who_is_the_client, what_is_left_out,
          bytes_are_missing, frames_that_are_cut, whole_records, midstream, midstream_after_gaps, faults_stay, embedded, search_is_linear,
          files, limits, filters]

@@ -3,11 +3,10 @@
 
     python3 tests/tools.py [PROGRAM] [--only TEXT] [-v]
 
-PROGRAM is crates/nfs3canon/out/nfs3canon where none is named. What needs tshark is skipped, with a word, where it is not
-there. The last line is 'N passed, M failed', and the status is 1 where any failed.
+PROGRAM is crates/nfs3canon/out/nfs3canon where none is named. The last line is 'N passed, M failed', and the status is 1
+where any failed.
 """
 import os
-import pathlib
 import random
 import re
 import shutil
@@ -15,147 +14,24 @@ import subprocess
 import sys
 import tempfile
 
-from captures import SMALL, Runs, capture_in, rows_of
-from recordings import ACK, CLIENT, RST, SERVER, Talk, pcap, pcapng
+from captures import SMALL, capture_in, rows_of
+from recordings import pcap
 from rooms import in_the_wrong_room, long_lines, of_private_fields, of_several_meanings
 from running import try_all, words_of
+from scripts import TOP, Tools
 from traffic import NFS, Names, Traffic, call, messages, success
+from layouts import Message, procedure_of
 
-sys.path.insert(0, str(pathlib.Path(__file__).resolve().parent.parent / 'tools'))
-from layouts import Message, procedure_of  # noqa: E402
-
-HERE = pathlib.Path(__file__).resolve().parent
-TOP = HERE.parent
 README = (TOP / 'README.md').read_text()
-CALLS = [call(number, NFS, 3, 0) for number in range(1, 40)]
-REPLIES = [success(number) for number in range(1, 40)]
 
-
-def stream(bodies):
-    return b''.join(messages.record(body)[4:] for body in bodies)
-
-
-def packed(*connections):
-    """What `pack` writes of connections with short streams."""
-    sides = [side for connection in connections for side in connection]
-    sides = [messages.word(len(side)) + side + messages.word(0) if side else messages.word(0) for side in sides]
-    parts = (messages.word(1) + client + server for client, server in zip(sides[::2], sides[1::2]))
-    return messages.MAGIC + b''.join(parts) + messages.word(0)
-
-
-class Tools(Runs):
-    """A folder, and runs of the scripts there."""
-
-    tried = 0  # lines of the README
-
-    def tool(self, name, *words, stdin=None):
-        kept, self.program = self.program, str(TOP / 'tools' / name)
-        try:
-            return self.run(*words, stdin=stdin)
-        finally:
-            self.program = kept
-
-    def from_pcap(self, recording, *options):
-        """What is told, line by line, of a recording that is taken to `out`."""
-        self.write('recording', recording)
-        status, out, error = self.tool('from_pcap', 'recording', 'out', '--program', self.program, *options)
-        return status, out.splitlines() + error.splitlines()
-
-    def taken(self, what, recording, wanted, *options):
-        """The recording gives just these connections."""
-        if os.path.exists(os.path.join(self.folder, 'out')):
-            os.remove(os.path.join(self.folder, 'out'))
-        status, lines = self.from_pcap(recording, *options)
-        self.want(what, (status, self.read('out')), (0, packed(*wanted)))
-        return lines
-
-
-def exchange(talk, pieces=1, calls=CALLS, replies=REPLIES):
-    """The segments of some calls and their replies, each side's stream in pieces."""
-    frames = []
-    for side, bodies in enumerate((calls, replies)):
-        content = stream(bodies)
-        size = -(-len(content) // pieces)
-        frames += [talk.sent(side, content[at:at + size]) for at in range(0, len(content), size)]
-    return frames
-
-
-def whole(**options):
-    talk = Talk(**options)
-    return [*talk.opened(), *exchange(talk, 5), *talk.closed()]
-
-
-ALL = (stream(CALLS), stream(REPLIES))
-
-
-def recordings_of_all_kinds(tools):
-    """pcap and pcapng, IPv6, VLAN tags, sequence numbers that wrap, a filter, and connections that overlap."""
-    tools.taken('pcap', pcap(whole()), [ALL])
-    tools.taken('pcapng', pcapng(whole()), [ALL])
-    tools.taken('IPv6', pcap(whole(hosts=('2001:db8::7', '2001:db8::1'))), [ALL])
-    tools.taken('VLAN', pcap(whole(vlan=7)), [ALL])
-    tools.taken('wrapping', pcap(whole(first=((1 << 32) - 50, (1 << 32) - 1))), [ALL])
-    one, two = whole(port=700), whole(port=701, service=111)
-    tools.taken('two', pcap([frame for pair in zip(one, two) for frame in pair]), [ALL, ALL])
-    tools.taken('filter', pcap(one + two), [ALL], '--filter', 'tcp.port == 111')
-    lines = tools.taken('cut in its last frame', pcap(whole())[:-10], [ALL])
-    tools.want('cut in its last frame', 'cut short' in lines[-1], True)
-    tools.taken('a port used again', pcap(whole() + whole(first=(900_000, 800_000))), [ALL, ALL])
-
-
-def segments_in_any_order(tools):
-    """Segments out of order, again, overlapping, and before the end was known."""
-    chance = random.Random(7)
-    for _ in range(5):
-        talk = Talk()
-        opened, frames = talk.opened(), exchange(talk, 9)
-        frames += chance.choices(frames, k=9)
-        chance.shuffle(frames)
-        tools.taken('shuffled', pcap(opened + frames), [ALL])
-    talk, content = Talk(), stream(CALLS)
-    frames = talk.opened() + [talk.frame(0, ACK, content[at:at + 100], at) for at in (0, 150, 60, 240, 200, 30)]
-    talk.next[0] += 340
-    frames += [talk.frame(0, ACK, b'\0', -1), talk.sent(0, content[340:]), *talk.closed()]
-    tools.taken('overlapping', pcap(frames), [(content, b'')])
-
-
-def who_is_the_client(tools):
-    def told(recording, *options):
-        return tools.taken('client', recording, [ALL], *options)[0].partition(': client ')[2]
-    client, server = CLIENT + ':700 ', SERVER + ':2049 '
-    sizes = ', %d and %d bytes' % (len(stream(CALLS)), len(stream(REPLIES)))
-    tools.want('SYN', told(pcap(whole())), client + 'by the SYN' + sizes)
-    tools.want('the answer to a SYN', told(pcap(whole()[1:])), client + 'by the SYN' + sizes)
-    tools.want('a SYN without its answer', told(pcap([whole()[0], *whole()[2:]])), client + 'by the SYN' + sizes)
-    replies_first = whole()[8:] + whole()[3:8]
-    tools.want('ports', told(pcap(replies_first), '--midstream'), client + 'by the ports' + sizes)
-    other = [*Talk(service=900).opened(), *exchange(Talk(service=900))]
-    tools.want('first payload', told(pcap(other[3:]), '--midstream'), client + 'by the first payload' + sizes)
-    swapped = whole(port=2049, service=700, hosts=(SERVER, CLIENT))
-    tools.want('SYN before ports', told(pcap(swapped)), server + 'by the SYN' + sizes)
-
-
-def what_is_left_out(tools):
-    """Connections without a SYN or without payload, and what stands after bytes that are missing."""
-    status, lines = tools.from_pcap(pcap(whole()[3:]))
-    tools.want('no SYN', (status, 'no SYN in the recording' in lines[0]), (1, True))
-    status, lines = tools.from_pcap(pcap(Talk().opened()))
-    tools.want('no payload', (status, lines[0].endswith(': no payload')), (1, True))
-    frames, calls, replies = whole(), stream(CALLS), stream(REPLIES)
-    fifth = -(-len(calls) // 5)
-    told = 'connection 1 client: bytes are missing from the recording after the first %d; the stream ends there'
-    lines = tools.taken('a gap', pcap(frames[:4] + frames[5:]), [(calls[:fifth], replies)])
-    tools.want('a gap', lines[1:], [told % fifth])
-    lines = tools.taken('the last segment is lost', pcap(frames[:7] + frames[8:]), [(calls[:4 * fifth], replies)])
-    tools.want('the last segment is lost', lines[1:], [told % (4 * fifth)])
-    lines = tools.taken('the first segment is lost', pcap(frames[:3] + frames[4:]), [(b'', replies)])
-    tools.want('the first segment is lost', lines[1:], [told % 0])
-    whole_calls = fifth // 44 * 44
-    lines = tools.taken('a gap', pcap(frames[:4] + frames[5:]), [(calls[:whole_calls], replies)], '--whole-records')
-    tools.want('whole records', lines[2:], ['connection 1 client: the last %d bytes are no whole record, and are dropped'
-                                            % (fifth - whole_calls)])
-    tools.taken('frames cut to 154 bytes', pcap(frames, 154), [(calls[:100], replies[:100])])
-    tools.taken('reset', pcap([*frames[:8], Talk(first=(1_001 + len(calls), 5_001)).frame(0, RST)]), [(calls, b'')])
+# Words that tell what is said of each reason from what is said of any other.
+WORDS_OF_REASONS = {
+    'BadMagic': 'begins with NFS3CAP1', 'CaptureCut': 'the file ends before', 'BadMark': 'a connection word is 0 or 1',
+    'AfterEnd': 'nothing stands after', 'TooManyConnections': '65,535', 'TooManyBytes': '1,073,741,824', 'RecordCut': 'stream ends in this',
+    'RecordTooLong': '16,777,216', 'Short': 'body ends before', 'Trailing': 'message ends before', 'BadBool': 'a bool is',
+    'BadEnum': 'is not listed', 'TooLong': 'over its maximum', 'RpcVersion': 'RPC version is 2', 'Flavor': 'RPCSEC_GSS',
+    'AuthLength': 'of the parameters', 'WrongSide': 'replies the server', 'NoCall': 'no call of the connection has',
+    'XidConflict': 'another procedure'}
 
 
 def explained(tools):
@@ -170,8 +46,9 @@ def explained(tools):
     tools.want('reasons', len(lines), 32)
     for name, (reason, line) in lines.items():
         status, out, error = tools.tool('explain', name, stdin=('first: %s\n' % line).encode())
-        told = (status, '\n%s: ' % reason in out, 'no reason of' in out, error)
-        tools.want('explain ' + line, told, (0, True, False, ''))
+        said = re.search('^%s: (.*)$' % reason, out, re.M)
+        told = [name for name, words in WORDS_OF_REASONS.items() if said and words in said[1]]
+        tools.want('explain ' + line, (status, told, error), (0, [reason], ''))
         if ' byte ' in line and reason not in ('Trailing', 'AuthLength', 'RecordCut', 'RecordTooLong'):
             tools.want('the item of ' + line, 'after the last item' in out or 'allowed: ' not in out, False)
 
@@ -190,6 +67,10 @@ def explained_as_documented(tools):
     tools.write('a', (TOP / 'examples/bad_status.nfs3cap').read_bytes())
     for place, status in (('connection 1 server record 2 byte 0', 1), ('file 9999', 1), ('nothing', 2)):
         tools.want(place, tools.tool('explain', 'a', place)[0], status)
+    tools.want('a file that is absent', tools.tool('explain', 'absent', 'file 0'), (3, '', 'explain: absent: No such file or directory\n'))
+    for name in ('knfsd_a.pcap', 'bad_bool.pcap'):
+        status, out, error = tools.tool('explain', str(TOP / 'examples' / name), 'file 0: BadMagic')
+        tools.want('a recording', (status, out, 'tools/from_pcap' in error, 'tools/where' in error), (2, '', True, True))
 
 
 def layouts_agree_with_the_listing(tools):
@@ -226,11 +107,11 @@ def lines_of_the_readme(tools, chosen):
     """Its command lines, each with what its first line of output begins with and, where it is not 0, its status."""
     for line in README.splitlines():
         command, _, wanted = line.partition('  # ')
-        if not line.startswith('    ') or not wanted or ('knfsd' in command or '/tmp/a' in command) != chosen:
+        if not line.startswith('    ') or not wanted or ('.pcap' in command or '/tmp/a' in command) != chosen:
             continue
         wanted, _, status = wanted.replace('(nothing)', '').partition(', status ')
         words = command.replace('/tmp/', tools.folder + '/').replace('./nfs3canon', tools.program)
-        words = words.replace('from_pcap', 'from_pcap --program ' + tools.program)
+        words = words.replace('tools/verdicts', 'tools/verdicts --program ' + tools.program)
         done = subprocess.run(['sh', '-c', words], cwd=TOP, stdout=subprocess.PIPE, stderr=subprocess.STDOUT, text=True)
         told = done.stdout.partition('\n')[0]
         found = told[:len(wanted) - 2] + '..' if wanted.endswith('..') else told
@@ -348,8 +229,7 @@ def rooms_stand_apart(tools):
 
 
 STRINGS = ('name', 'path', 'machinename', 'dirpath', 'hostname', 'directory')
-OF_TSHARK = [recordings_of_all_kinds, segments_in_any_order, who_is_the_client, what_is_left_out, recordings_of_the_readme]
-TESTS = [*OF_TSHARK, explained, explained_as_documented, layouts_agree_with_the_listing, commands_of_the_readme,
+TESTS = [recordings_of_the_readme, explained, explained_as_documented, layouts_agree_with_the_listing, commands_of_the_readme,
          lines_for_many_captures, examples_are_used, answers_of_the_examples, examples_are_made_alike, pages_agree, what_is_believed,
          rooms_stand_apart]
 
@@ -362,11 +242,7 @@ def tried(program, test):
 
 
 def main():
-    tests = TESTS
-    if not shutil.which('tshark'):
-        print('skipped, since tshark is not there:', *(test.__name__ for test in OF_TSHARK))
-        tests = [test for test in TESTS if test not in OF_TSHARK]
-    try_all(words_of(__doc__), [(test.__name__, tried, test) for test in tests], os.cpu_count())
+    try_all(words_of(__doc__), [(test.__name__, tried, test) for test in TESTS], os.cpu_count())
 
 
 if __name__ == '__main__':

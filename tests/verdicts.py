@@ -13,7 +13,6 @@ import re
 import shutil
 import signal
 import subprocess
-import sys
 import tempfile
 import time
 import typing
@@ -22,7 +21,7 @@ import xml.etree.ElementTree
 from recordings import ACK, NANOSECONDS, Talk, ethernet, fragments, interface, pcap, section, simple
 from running import try_all, words_of
 from scripts import ALL, CALLS, REPLIES, TOP, Tools, exchange, in_fragments, stream, taken_of, whole
-from traffic import NFS, call, messages, success
+from traffic import NFS, call, success
 from nfs3tools.places import SIDES, Place
 
 CALL, REPLY = len(stream(CALLS[:1])), len(stream(REPLIES[:1]))

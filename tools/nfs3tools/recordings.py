@@ -180,6 +180,9 @@ class Recording:
             raise Damaged('its header is cut short')
         link = struct.unpack_from(order + 'I', header, 20)[0] & 0xffff
         while self.source.peek(1):
+            yield from self.of_block(fields, scale, link)
+            if not self.source.peek(1):
+                return
             head = self.piece(16)
             if head is None:
                 return
@@ -191,6 +194,20 @@ class Recording:
                 return
             self.count += 1
             yield Frame(self.count, seconds * NANOSECONDS + fraction * scale, link, data, max(length, kept))
+
+    def of_block(self, fields: struct.Struct, scale: int, link: int) -> typing.Iterator[Frame]:
+        """Iterates over the frames that stand whole in the block that was read; this is where the time goes."""
+        block, at, number, unpack = self.source.block, self.source.begin, self.count, fields.unpack_from
+        last = len(block) - 16
+        while at <= last:
+            seconds, fraction, kept, length = unpack(block, at)
+            end = at + 16 + kept
+            if end > len(block):
+                break
+            number += 1
+            yield Frame(number, seconds * NANOSECONDS + fraction * scale, link, block[at + 16:end], length if length > kept else kept)
+            at = end
+        self.source.begin, self.count = at, number
 
     # --- pcapng ---
 

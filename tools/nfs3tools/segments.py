@@ -6,7 +6,9 @@ import typing
 from .recordings import Frame
 
 FIN, SYN, RST, ACK = 1, 2, 4, 16
+ETHERNET = 1
 IPV4, IPV6, ANY_IP = 0x0800, 0x86dd, 0
+PLAIN_IPV4 = b'\x08\0\x45'  # the kind of Ethernet, and the first byte of IPv4 without options
 VLAN_TAGS = {0x8100, 0x88a8, 0x9100}
 TCP, FRAGMENT, AUTHENTICATION = 6, 44, 51
 EXTENSIONS = {0, 43, 60, AUTHENTICATION, 135, 139, 140}  # of IPv6, each with its length in its second byte
@@ -16,13 +18,14 @@ DATAGRAM_AT_MOST = 1 << 17
 
 # Where the kind of the network layer stands (None: in the datagram itself), and where the datagram begins, by link type.
 LINKS: dict[int, tuple[int | None, int]] = {
-    1: (12, 14), 113: (14, 16), 276: (0, 20),  # Ethernet, and cooked as `tcpdump -i any` records it, in both versions
+    ETHERNET: (12, 14), 113: (14, 16), 276: (0, 20),  # Ethernet, and cooked as `tcpdump -i any` records it, in both versions
     0: (None, 4), 108: (None, 4),  # the loopback of BSD, in the byte order of the machine and of the network
     12: (None, 0), 14: (None, 0), 101: (None, 0), 228: (None, 0), 229: (None, 0)}  # raw IP
 
 IPV4_HEADER = struct.Struct('>BxHHHxB')  # version and length, total length, identification, fragment, protocol
 IPV6_HEADER = struct.Struct('>HB')  # payload length, next header
 TCP_HEADER = struct.Struct('>IIBB')  # sequence, acknowledgement, length, flags
+PLAIN = struct.Struct('>16xH2xHxB14xIIBB')  # the total length, fragment and protocol of IPv4 in Ethernet, and the same of TCP
 
 
 class Segment(typing.NamedTuple):
@@ -102,6 +105,16 @@ class Segments:
 
     def segment(self, frame: Frame) -> Segment | None:
         """Returns the segment that the frame carries, or completes as the last fragment, if there is one."""
+        data = frame.data
+        if frame.link == ETHERNET and data[12:15] == PLAIN_IPV4 and len(data) >= PLAIN.size:
+            total, fragment, protocol, sequence, acknowledged, size, flags = PLAIN.unpack_from(data)
+            begin, end = 34 + (size >> 4) * 4, 14 + total
+            if protocol == TCP and not fragment & 0x3fff and 54 <= begin <= end <= len(data):
+                return Segment(data[26:38], sequence, acknowledged, flags, data[begin:end], 0)
+        return self.of_any(frame)
+
+    def of_any(self, frame: Frame) -> Segment | None:
+        """The same of a frame of any kind; the shorter way is for those that are plain and whole, as most are."""
         data, link = frame.data, LINKS.get(frame.link)
         if link is None:
             self.links[frame.link] = self.links.get(frame.link, 0) + 1

@@ -179,6 +179,8 @@ class Stream:
         self.first: int | None = None  # the sequence number of position 0
         self.is_begin = False  # position 0 is the first byte that was sent
         self.next = 0  # the position after the last byte in order
+        self.expected: int | None = None  # its sequence number
+        self.acknowledged: int | None = None  # the sequence number that was acknowledged last
         self.runs: list[Run] = []
         self.held = Held()
         self.end: int | None = None  # the position of FIN
@@ -193,7 +195,8 @@ class Stream:
     def begins_at(self, sequence: int) -> None:
         """The sequence number of the first byte is known."""
         if self.first is None:
-            self.first, self.is_begin = sequence & 0xffffffff, True
+            self.first = self.expected = sequence & 0xffffffff
+            self.is_begin = True
 
     def shows(self, end: int, number: int) -> None:
         """A frame shows that bytes were sent up to a position. FIN is acknowledged as one more."""
@@ -209,8 +212,10 @@ class Stream:
 
     def take(self, sequence: int, payload: bytes, missing: int, number: int, time: int) -> None:
         """Takes the payload of a segment, of which some bytes at the end may be missing."""
+        if sequence == self.expected and not (missing or self.held.begins) and self.end is None:
+            return self.append(payload, number, time)
         if self.first is None:
-            self.first = sequence
+            self.first = self.expected = sequence & 0xffffffff
         position = self.position(sequence)
         if self.end is not None and position + len(payload) > self.end:
             payload = payload[:max(0, self.end - position)]
@@ -231,6 +236,7 @@ class Stream:
                 self.frames.append(self.stored.size, number, time)
             self.stored.append(payload)
             self.next += len(payload)
+            self.expected = ((self.first or 0) + self.next) & 0xffffffff
 
     def hold(self, position: int, payload: bytes, number: int, time: int) -> None:
         cost = self.held.cost
@@ -273,7 +279,7 @@ class Stream:
         begin = self.held.begins[0]
         self.runs.append(Run(self.stored.size, Gap(self.next, begin - self.next, self.held.pieces[0][1])))
         self.next = begin
-        self.drain()
+        self.drain()  # which appends bytes, so that the sequence number that is expected follows
 
     def finish(self) -> None:
         """Nothing comes after this."""
@@ -300,14 +306,14 @@ class Connection:
         self.streams = [Stream(spool, budget, Frames() if keeps_frames else None) for _ in range(2)]
 
     def is_other(self, side: int, segment: Segment) -> bool:
-        """Whether a segment begins another connection of the same ends."""
+        """Whether a segment with SYN begins another connection of the same ends."""
         first = self.streams[side].first
-        if not segment.flags & SYN or first is None:
+        if first is None:
             return False
         return first != (segment.sequence + 1) & 0xffffffff or self.is_closed and not segment.flags & ACK
 
     def take(self, side: int, segment: Segment, number: int, time: int) -> None:
-        flags, sequence = segment.flags, segment.sequence
+        _, sequence, acknowledged, flags, payload, missing = segment
         own, other = self.streams[side], self.streams[1 - side]
         if flags & RST:
             self.is_closed = True
@@ -316,21 +322,22 @@ class Connection:
             self.client = 1 - side if flags & ACK else side
             own.begins_at(sequence + 1)
             sequence += 1
-        if flags & ACK:
-            self.acknowledge(other, segment, bool(flags & SYN) or own.is_begin and sequence == own.first, number)
-        if segment.payload or segment.missing:
+        if flags & ACK and acknowledged != other.acknowledged:
+            self.acknowledge(other, acknowledged, bool(flags & SYN) or own.is_begin and sequence == own.first, number)
+        if payload or missing:
             self.first_payload = side if self.first_payload is None else self.first_payload
-            own.take(sequence, segment.payload, segment.missing, number, time)
+            own.take(sequence, payload, missing, number, time)
         if flags & FIN and own.first is not None:
             self.is_closed = True
-            own.ends_at(own.position(sequence) + len(segment.payload) + segment.missing, number)
+            own.ends_at(own.position(sequence) + len(payload) + missing, number)
 
-    def acknowledge(self, other: Stream, segment: Segment, is_first: bool, number: int) -> None:
+    def acknowledge(self, other: Stream, acknowledged: int, is_first: bool, number: int) -> None:
         """Takes what an end says that it received. The first time this tells where the other's stream begins."""
         if is_first and self.client is not None:
-            other.begins_at(segment.acknowledged)
+            other.begins_at(acknowledged)
         if other.first is not None:
-            other.shows(other.position(segment.acknowledged), number)
+            other.acknowledged = acknowledged
+            other.shows(other.position(acknowledged), number)
 
 
 class Connections:
@@ -344,7 +351,7 @@ class Connections:
     def take(self, segment: Segment, number: int, time: int, is_chosen: bool) -> None:
         """Takes a segment. One that is not chosen only counts as one of its connection."""
         found = self.sides.get(segment.key)
-        if found is None or found[0].is_other(found[1], segment):
+        if found is None or segment.flags & SYN and found[0].is_other(found[1], segment):
             found = self.begin(segment.key), 0
         if is_chosen:
             found[0].is_chosen = True

@@ -30,6 +30,7 @@ from .selection import Options, Selected, count, plural, select
 from .streams import Connection, Connections, Frames, Spool, Stored
 
 BLOCK = 1 << 16
+FRAMES_A_STEP = 1_000
 __all__ = ['FrameRef', 'NotTaken', 'Options', 'Record', 'Taken', 'TakenConnection', 'TakenStream', 'take']
 
 
@@ -280,7 +281,8 @@ def of_recording(recording: Recording, options: Options, keeps_frames: bool, cho
         segment = segments.segment(frame)
         if segment is not None:
             connections.take(segment, frame.number, frame.time, chosen is None or frame.number in chosen)
-        progress.step(frame.number)
+        if not frame.number % FRAMES_A_STEP:
+            progress.step(frame.number)
     progress.end()
     taken = Taken(connections.spool, True)
     taken.damage = recording.damage
@@ -333,7 +335,7 @@ class Progress:
         self.told, self.is_shown = time.monotonic(), is_shown and sys.stderr.isatty()
 
     def step(self, number: int) -> None:
-        if self.is_shown and not number % 1_000 and time.monotonic() > self.told + 0.2:
+        if self.is_shown and time.monotonic() > self.told + 0.2:
             self.told = time.monotonic()
             print(f'\r{number} frames', end='', file=sys.stderr, flush=True)
 
