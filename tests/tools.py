@@ -15,7 +15,6 @@ import sys
 import tempfile
 
 from captures import SMALL, capture_in, rows_of
-from recordings import pcap
 from rooms import in_the_wrong_room, long_lines, of_private_fields, of_several_meanings
 from running import try_all, words_of
 from scripts import TOP, Tools
@@ -126,56 +125,67 @@ def commands_of_the_readme(tools):
 
 def recordings_of_the_readme(tools):
     lines_of_the_readme(tools, True)
-    tools.want('lines', tools.tried, 3)
+    tools.want('lines', tools.tried, 6)
     for name in ('a', 'b'):
         answer = tools.run('check', name + '.nfs3cap')
         tools.want('check', answer, (0, 'ok connections=18 calls=276 replies=276 handles=53\n', ''))
 
 
 def lines_for_many_captures(tools):
-    """The README's lines without a comment, but `./test`, check the examples; the second where GNU parallel is there."""
+    """The README's lines without a comment, but `./test`, check the examples; the second if GNU parallel is there."""
     lines = [line.strip() for line in README.splitlines() if line.startswith('    ') and '  # ' not in line]
-    tools.want('lines', [line.split()[0] for line in lines], ['printf', 'parallel', './test'])
-    answers = [('examples/' + name, line) for name, line, _ in rows_of_the_examples()]
+    tools.want('lines', [line.split()[0] for line in lines], ['tools/verdicts', 'parallel', './test'])
     version = ['sh', '-c', 'parallel --version 2>&1 </dev/null']
-    for line, mark in zip(lines, (': ', '\t')):
-        if mark == '\t' and b'GNU' not in subprocess.run(version, stdout=subprocess.PIPE).stdout:
+    here = {'tools/verdicts': 'tools/verdicts --program ' + tools.program, 'host1,host2': ':', '/opt/nfs3canon': str(TOP),
+            'runs/': 'examples/'}
+    last = {'tools/verdicts': ['13 ok, 7 refused, 0 errors'],
+            'parallel': ['0 ok, 1 refused, 0 errors'] * 4 + ['1 ok, 1 refused, 0 errors'] + ['18 ok, 0 refused, 0 errors'] * 2}
+    for line in lines[:2]:
+        if line.startswith('parallel') and b'GNU' not in subprocess.run(version, stdout=subprocess.PIPE).stdout:
             continue
-        done = subprocess.run(['sh', '-c', line.replace('./nfs3canon', tools.program)], cwd=TOP, stdout=subprocess.PIPE,
-                              stderr=subprocess.STDOUT, text=True)
-        tools.want(line, sorted(done.stdout.splitlines()), sorted(map(mark.join, answers)))
+        for word, local in here.items():
+            line = line.replace(word, local)
+        done = subprocess.run(['sh', '-c', line], cwd=TOP, stdout=subprocess.PIPE, stderr=subprocess.DEVNULL, text=True)
+        found = sorted(told for told in done.stdout.splitlines() if told.endswith(' errors'))
+        tools.want(line, (found, done.returncode), (last[line.split()[0]], 5 if line.startswith('parallel') else 1))
 
 
 def rows_of_the_examples():
-    """Of each capture of examples/README.md its name, what `check` prints, and the status."""
-    return re.findall(r'^\| `(\w+\.nfs3cap)` \| .* \| `([^`]*)` \| (\d) \|$', (TOP / 'examples/README.md').read_text(), re.M)
+    """Of each capture and wrong recording of examples/README.md its name, what is printed of it, and the status."""
+    return re.findall(r'^\| `(\w+\.\w+)` \| .* \| `([^`]*)` \| (\d) \|$', (TOP / 'examples/README.md').read_text(), re.M)
 
 
 def examples_are_used(tools):
     """Each file of examples/ is checked by its row there, is run or imported by examples_are_made_alike, or is in a command line of
     the top README that is run."""
-    used = {name for name, _, _ in rows_of_the_examples()} | {'README.md', 'make.py', 'messages.py'}
+    used = {name for name, _, _ in rows_of_the_examples()} | {'README.md', 'make.py', 'messages.py', 'packets.py'}
     used |= {name for line in README.splitlines() if '  # ' in line for name in re.findall(r'examples/(\w+\.\w+)', line)}
     there = {path.name for path in (TOP / 'examples').iterdir()} - {'__pycache__'}
     tools.want('files', sorted(there), sorted(used))
 
 
 def answers_of_the_examples(tools):
-    """Each file of examples/ stands in its README with what `check` prints, and no other does."""
-    rows = rows_of_the_examples()
-    tools.want('files', sorted(name for name, _, _ in rows), sorted(path.name for path in (TOP / 'examples').glob('*.nfs3cap')))
+    """Each capture of examples/ stands in its README with what `check` prints, each wrong recording with the verdict on its last
+    connection, and no other file does."""
+    rows, there = rows_of_the_examples(), [*(TOP / 'examples').glob('*.nfs3cap'), *(TOP / 'examples').glob('bad_*.pcap')]
+    tools.want('files', sorted(name for name, _, _ in rows), sorted(path.name for path in there))
     for name, line, status in rows:
-        found, out, error = tools.run('check', str(TOP / 'examples' / name))
-        tools.want(name, (out + error, found), (line + '\n', int(status)))
+        path = str(TOP / 'examples' / name)
+        if name.endswith('.pcap'):
+            found, out, error = tools.tool('verdicts', '--program', tools.program, path)
+            tools.want(name, (out.splitlines()[-2].endswith(line) and error, found), ('', int(status)))
+        else:
+            found, out, error = tools.run('check', path)
+            tools.want(name, (out + error, found), (line + '\n', int(status)))
 
 
 def examples_are_made_alike(tools):
-    """examples/make.py writes the captures that are there."""
-    for name in ('make.py', 'messages.py'):
+    """examples/make.py writes the captures and the wrong recordings that are there."""
+    for name in ('make.py', 'messages.py', 'packets.py'):
         shutil.copy(TOP / 'examples' / name, tools.folder)
     done = subprocess.run([sys.executable, 'make.py'], cwd=tools.folder, stdout=subprocess.PIPE, stderr=subprocess.STDOUT)
     tools.want('make.py', (done.returncode, done.stdout), (0, b''))
-    for path in (TOP / 'examples').glob('*.nfs3cap'):
+    for path in [*(TOP / 'examples').glob('*.nfs3cap'), *(TOP / 'examples').glob('bad_*.pcap')]:
         tools.want(path.name, tools.read(path.name), path.read_bytes())
 
 
@@ -197,8 +207,19 @@ def pages_agree(tools):
         sizes = [len(bytes.fromhex(words)) for _, words in dump]
         tools.want('places of the dump', [int(at) for at, _ in dump], [sum(sizes[:at]) for at in range(len(sizes))])
     if shutil.which('man'):
-        done = subprocess.run(['man', '--warnings', '-l', 'man/nfs3canon.1'], cwd=TOP, stdout=subprocess.DEVNULL, stderr=subprocess.PIPE)
-        tools.want('warnings of man', done.stderr, b'')
+        for page in (TOP / 'man').iterdir():
+            done = subprocess.run(['man', '--warnings', '-l', page], stdout=subprocess.DEVNULL, stderr=subprocess.PIPE)
+            tools.want('warnings of ' + page.name, done.stderr, b'')
+
+
+def pages_of_the_tools(tools):
+    """Each tool for recordings has a page of the manual with all its options, and prints its help."""
+    for name in ('from_pcap', 'where', 'verdicts'):
+        page = (TOP / 'man' / (name + '.1')).read_text().replace('\\-', '-')
+        status, out, error = tools.tool(name, '--help')
+        tools.want('help of ' + name, (status, error, 'The status is 0' in out), (0, '', True))
+        options = set(re.findall(r'(?<![\w-])--?[a-z][a-z-]*', out.partition('options:')[2])) - {'-h', '--help', '-w', '-dc'}
+        tools.want('options of ' + name, sorted(option for option in options if option not in page), [])
 
 
 def what_is_believed(tools):
@@ -230,8 +251,8 @@ def rooms_stand_apart(tools):
 
 STRINGS = ('name', 'path', 'machinename', 'dirpath', 'hostname', 'directory')
 TESTS = [recordings_of_the_readme, explained, explained_as_documented, layouts_agree_with_the_listing, commands_of_the_readme,
-         lines_for_many_captures, examples_are_used, answers_of_the_examples, examples_are_made_alike, pages_agree, what_is_believed,
-         rooms_stand_apart]
+         lines_for_many_captures, examples_are_used, answers_of_the_examples, examples_are_made_alike, pages_agree, pages_of_the_tools,
+         what_is_believed, rooms_stand_apart]
 
 
 def tried(program, test):
