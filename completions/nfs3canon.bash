@@ -19,3 +19,7 @@ _nfs3canon() {
   [ "$COMP_CWORD" -gt "$last" ] || mapfile -t COMPREPLY < <(compgen -f -- "$word")
 }
 complete -o filenames -F _nfs3canon nfs3canon
+
+# The tools for recordings.
+complete -o default -W '--midstream --whole-records --filter --help' from_pcap where
+complete -o default -W '--junit --json -j --midstream --whole-records --filter --program --help' verdicts

@@ -15,3 +15,15 @@ complete -c nfs3canon -n '__fish_seen_subcommand_from help' -a 'check show canon
 complete -c nfs3canon -n '__fish_seen_subcommand_from check show; and test (__nfs3canon_words) -lt 3' -F
 complete -c nfs3canon -n '__fish_seen_subcommand_from canon same; and test (__nfs3canon_words) -lt 4' -F
 complete -c nfs3canon -n '__fish_seen_subcommand_from pack' -F
+
+# The tools for recordings.
+for tool in from_pcap where verdicts
+    complete -c $tool -l midstream -d 'Take connections whose beginning was not recorded'
+    complete -c $tool -l whole-records -d 'End each stream after its last whole record'
+    complete -c $tool -l filter -x -d 'A display filter of Wireshark'
+    complete -c $tool -l help -d 'Print help'
+end
+complete -c verdicts -l junit -r -d 'Write JUnit XML'
+complete -c verdicts -l json -r -d 'Write JSON'
+complete -c verdicts -s j -x -d 'Judge so many recordings at once'
+complete -c verdicts -l program -r -d 'nfs3canon'

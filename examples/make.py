@@ -1,7 +1,8 @@
 #!/usr/bin/env python3
-"""Writes the example captures beside this script.
+"""Writes the example captures beside this script, and recordings of those with a fault.
 
-Each is put together from its messages, part by part, so that its bytes can be read off below and in messages.py.
+Each is put together from its messages, part by part, so that its bytes can be read off below and in messages.py; what is around
+them in a recording, in packets.py.
 """
 import pathlib
 
@@ -10,7 +11,8 @@ from messages import (
     GUARDED, INVAL, IO, JUKEBOX, LNK, MAGIC, MLINK, MOUNT, MOUNT_PROCEDURES, NFS, NFSACL, NFS_PROCEDURES, NOENT, NOSPC,
     NOTEMPTY, NOT_SYNC, NOW, REG, ROFS, SET_TO_SERVER_TIME, SOCK, STALE, TOOSMALL, UNCHECKED, UNSTABLE, XDEV, array,
     auth_sys, call, capture, dirop, entries, entry, entryplus, exports, failed, fattr, fh, guard, how, hyper,
-    in_turn, interleaved, made, mountlist, nfstime, ok, opaque, post_op_attr, sattr, set_to_client_time, success, wcc, word)
+    in_turn, interleaved, made, mountlist, nfstime, ok, opaque, post_op_attr, record, sattr, set_to_client_time, success, wcc, word)
+from packets import recording
 
 HERE = pathlib.Path(__file__).parent
 
@@ -178,6 +180,21 @@ def every_procedure():
     return mount, (calls, replies), again
 
 
+# Connections with one fault each.
+FAULTS = {
+    'bad_client_record': [([call(7, NFS, 3, 1, HANDLE, mtype=2)], [])],
+    'bad_server_record': [NULL, ([call(1, NFS, 3, 0)], [success(1), success(2)])],
+    'bad_status': [(GETATTR[0], [success(7, word(3))])],
+    'bad_bool': [([LOOKUP], [success(9, failed(NOENT, word(2)))])],
+    'bad_length': [([call(7, NFS, 3, 1, fh(bytes(65)))], [])],
+}
+
+
+def recorded(connections):
+    """A recording of connections, in which each record is a packet."""
+    return recording(*([[record(body)[4:] for body in bodies] for bodies in connection] for connection in connections))
+
+
 FILES = {
     'null.nfs3cap': capture(NULL),
     'getattr.nfs3cap': capture(GETATTR),
@@ -187,12 +204,9 @@ FILES = {
     'interleaved.nfs3cap': interleaved(*(in_turn(*connection) for connection in every_procedure())),
     'bad_file_byte.nfs3cap': MAGIC + word(2),
     'bad_file_length.nfs3cap': capture(NULL)[:100],
-    'bad_client_record.nfs3cap': capture(([call(7, NFS, 3, 1, HANDLE, mtype=2)], [])),
-    'bad_server_record.nfs3cap': capture(NULL, ([call(1, NFS, 3, 0)], [success(1), success(2)])),
-    'bad_status.nfs3cap': capture((GETATTR[0], [success(7, word(3))])),
-    'bad_bool.nfs3cap': capture(([LOOKUP], [success(9, failed(NOENT, word(2)))])),
-    'bad_length.nfs3cap': capture(([call(7, NFS, 3, 1, fh(bytes(65)))], [])),
 }
+FILES.update({f'{name}.nfs3cap': capture(*connections) for name, connections in FAULTS.items()})
+FILES.update({f'{name}.pcap': recorded(connections) for name, connections in FAULTS.items()})
 
 for name, content in FILES.items():
     (HERE / name).write_bytes(content)

@@ -1,65 +1,101 @@
-"""Recordings of packets, as `tcpdump` writes them, out of segments (pcap, link type Ethernet)."""
-import ipaddress
+"""Recordings of all kinds, packet by packet, around the segments of examples/packets.py."""
+import pathlib
 import struct
+import sys
+import typing
 
-FIN, SYN, RST, ACK = 1, 2, 4, 16
-CLIENT, SERVER = '192.0.2.7', '192.0.2.1'
+sys.path.insert(0, str(pathlib.Path(__file__).resolve().parent.parent / 'examples'))
+from packets import (  # noqa: E402, F401
+    ACK, CLIENT, FIN, IPV4, IPV6, RST, SERVER, SYN, VLAN, Talk, datagram, ethernet, pcap, segment)
 
-
-def packet(source, target, ports, sequence, acknowledged, flags, payload, vlan=None):
-    """An Ethernet frame. Checksums are left out, as network cards that make them themselves leave them out."""
-    segment = struct.pack('>2H2IBB3H', *ports, sequence % (1 << 32), acknowledged % (1 << 32), 5 << 4, flags, 65_535, 0, 0) + payload
-    addresses = [ipaddress.ip_address(host) for host in (source, target)]
-    packed = b''.join(address.packed for address in addresses)
-    if addresses[0].version == 6:
-        kind, internet = 0x86dd, struct.pack('>IHBB', 6 << 28, len(segment), 6, 64) + packed
-    else:
-        kind, internet = 0x0800, struct.pack('>BBHHHBBH', 0x45, 0, 20 + len(segment), 0, 0, 64, 6, 0) + packed
-    tag = b'' if vlan is None else struct.pack('>HH', 0x8100, vlan)
-    return bytes(12) + tag + struct.pack('>H', kind) + internet + segment
+MICROSECONDS, NANOSECONDS = 0xa1b2c3d4, 0xa1b23c4d
+SECTION, INTERFACE, OBSOLETE, SIMPLE, NAMES, ENHANCED = 0x0a0d0d0a, 1, 2, 3, 4, 6
+ETHERNET = 1
 
 
-class Talk:
-    """A connection, whose segments are told one by one as frames."""
+# --- pcapng ---
 
-    def __init__(self, port=700, service=2049, hosts=(CLIENT, SERVER), first=(1_000, 5_000), vlan=None):
-        self.ports, self.hosts, self.next, self.vlan = (port, service), hosts, list(first), vlan
-
-    def frame(self, side, flags, payload=b'', ahead=0):
-        """A segment of one side, 0 the client; `ahead` is how far it stands beyond the next byte."""
-        ends = (*self.hosts, self.ports) if side == 0 else (self.hosts[1], self.hosts[0], self.ports[::-1])
-        return packet(*ends, self.next[side] + ahead, self.next[1 - side], flags, payload, self.vlan)
-
-    def sent(self, side, payload):
-        frame = self.frame(side, ACK, payload)
-        self.next[side] += len(payload)
-        return frame
-
-    def opened(self):
-        """The three segments of the handshake."""
-        frames = [self.frame(0, SYN)]
-        self.next[0] += 1
-        frames.append(self.frame(1, SYN | ACK))
-        self.next[1] += 1
-        return [*frames, self.frame(0, ACK)]
-
-    def closed(self):
-        frames = [self.frame(0, FIN | ACK)]
-        self.next[0] += 1
-        return [*frames, self.frame(1, FIN | ACK)]
+def block(kind: int, body: bytes, order: str = '<') -> bytes:
+    body += bytes(-len(body) % 4)
+    size = struct.pack(order + 'I', 12 + len(body))
+    return struct.pack(order + 'I', kind) + size + body + size
 
 
-def pcap(frames, longest=65_535):
-    """A recording that keeps the first bytes of each frame."""
-    header = struct.pack('<IHHiIII', 0xa1b2c3d4, 2, 4, 0, 0, longest, 1)
-    kept = ((frame[:longest], len(frame)) for frame in frames)
-    return header + b''.join(struct.pack('<IIII', 1, number, len(frame), length) + frame for number, (frame, length) in enumerate(kept))
+def section(order: str = '<') -> bytes:
+    return block(SECTION, struct.pack(order + 'IHHq', 0x1a2b3c4d, 1, 0, -1), order)
 
 
-def pcapng(frames):
-    """The same in blocks of pcapng: a section, an interface, and enhanced packets."""
-    def block(kind, body):
-        return struct.pack('<II', kind, 12 + len(body)) + body + struct.pack('<I', 12 + len(body))
-    packets = (block(6, struct.pack('<5I', 0, 0, number, len(frame), len(frame)) + frame + bytes(-len(frame) % 4))
-               for number, frame in enumerate(frames))
-    return block(0x0a0d0d0a, struct.pack('<IHHq', 0x1a2b3c4d, 1, 0, -1)) + block(1, struct.pack('<HHI', 1, 0, 65_535)) + b''.join(packets)
+def interface(link: int = ETHERNET, order: str = '<', kept: int = 65_535, unit: int | None = None, offset: int | None = None) -> bytes:
+    """`unit` is if_tsresol, `offset` if_tsoffset in seconds."""
+    options = b''
+    if unit is not None:
+        options += struct.pack(order + 'HHB3x', 9, 1, unit)
+    if offset is not None:
+        options += struct.pack(order + 'HHq', 14, 8, offset)
+    return block(INTERFACE, struct.pack(order + 'HHI', link, 0, kept) + options + (bytes(4) if options else b''), order)
+
+
+def enhanced(frame: bytes, number: int = 0, index: int = 0, order: str = '<', length: int | None = None) -> bytes:
+    """A frame at so many units of the interface's time."""
+    sizes = len(frame), len(frame) if length is None else length
+    return block(ENHANCED, struct.pack(order + '5I', index, number >> 32, number & 0xffffffff, *sizes) + frame, order)
+
+
+def simple(frame: bytes, order: str = '<') -> bytes:
+    return block(SIMPLE, struct.pack(order + 'I', len(frame)) + frame, order)
+
+
+def obsolete(frame: bytes, number: int = 0, index: int = 0, order: str = '<') -> bytes:
+    return block(OBSOLETE, struct.pack(order + 'HH4I', index, 0, number >> 32, number & 0xffffffff, len(frame), len(frame)) + frame, order)
+
+
+def pcapng(frames: typing.Iterable[bytes], order: str = '<') -> bytes:
+    """A section with one interface, and a block of another kind between."""
+    packets = (enhanced(frame, number, 0, order) for number, frame in enumerate(frames))
+    return section(order) + interface(order=order) + block(NAMES, bytes(4), order) + b''.join(packets)
+
+
+# --- Link layers, by link type ---
+
+def cooked(content: bytes) -> bytes:
+    """As `tcpdump -i any` records it (link type 113)."""
+    return struct.pack('>HHH8xH', 0, 1, 6, content_kind(content)) + content
+
+
+def cooked_2(content: bytes) -> bytes:
+    """Version 2 of it (276)."""
+    return struct.pack('>HHIHBB8x', content_kind(content), 0, 1, 1, 0, 6) + content
+
+
+def loopback(content: bytes, order: str = '<') -> bytes:
+    """As BSD records its loopback (0); in the byte order of the network (108)."""
+    return struct.pack(order + 'I', 2 if content[0] >> 4 == 4 else 30) + content
+
+
+def content_kind(content: bytes) -> int:
+    return IPV6 if content[0] >> 4 == 6 else IPV4
+
+
+# --- Fragments ---
+
+def fragments(content: bytes, size: int, identification: int = 77) -> list[bytes]:
+    """A datagram of IPv4 in fragments, of which each but the last carries `size` bytes, a multiple of eight."""
+    head, payload = content[:20], content[20:]
+    return [struct.pack('>BBHHH', 0x45, 0, 20 + len(payload[at:at + size]), identification,
+                        at // 8 | (0x2000 if at + size < len(payload) else 0)) + head[8:] + payload[at:at + size]
+            for at in range(0, len(payload), size)]
+
+
+def fragments_6(content: bytes, size: int, identification: int = 77) -> list[bytes]:
+    """The same of IPv6."""
+    head, payload = content[:40], content[40:]
+    return [struct.pack('>IHBB', 6 << 28, 8 + len(payload[at:at + size]), 44, 64) + head[8:]
+            + struct.pack('>BBHI', head[6], 0, at | (at + size < len(payload)), identification) + payload[at:at + size]
+            for at in range(0, len(payload), size)]
+
+
+def extended(content: bytes, headers: list[tuple[int, bytes]]) -> bytes:
+    """A datagram of IPv6 with extension headers, each its kind and its bytes, of which the first is to be the kind of the next."""
+    kinds = [kind for kind, _ in headers] + [content[6]]
+    packed = b''.join(bytes([kinds[at + 1]]) + body[1:] for at, (_, body) in enumerate(headers))
+    return content[:4] + struct.pack('>HB', len(packed) + len(content) - 40, kinds[0]) + content[7:40] + packed + content[40:]

@@ -3,11 +3,10 @@
 
     python3 tests/tools.py [PROGRAM] [--only TEXT] [-v]
 
-PROGRAM is crates/nfs3canon/out/nfs3canon where none is named. What needs tshark is skipped, with a word, where it is not
-there. The last line is 'N passed, M failed', and the status is 1 where any failed.
+PROGRAM is crates/nfs3canon/out/nfs3canon where none is named. The last line is 'N passed, M failed', and the status is 1
+where any failed.
 """
 import os
-import pathlib
 import random
 import re
 import shutil
@@ -15,147 +14,23 @@ import subprocess
 import sys
 import tempfile
 
-from captures import SMALL, Runs, capture_in, rows_of
-from recordings import ACK, CLIENT, RST, SERVER, Talk, pcap, pcapng
+from captures import SMALL, capture_in, rows_of
 from rooms import in_the_wrong_room, long_lines, of_private_fields, of_several_meanings
 from running import try_all, words_of
+from scripts import TOP, Tools
 from traffic import NFS, Names, Traffic, call, messages, success
+from layouts import Message, procedure_of
 
-sys.path.insert(0, str(pathlib.Path(__file__).resolve().parent.parent / 'tools'))
-from layouts import Message, procedure_of  # noqa: E402
-
-HERE = pathlib.Path(__file__).resolve().parent
-TOP = HERE.parent
 README = (TOP / 'README.md').read_text()
-CALLS = [call(number, NFS, 3, 0) for number in range(1, 40)]
-REPLIES = [success(number) for number in range(1, 40)]
 
-
-def stream(bodies):
-    return b''.join(messages.record(body)[4:] for body in bodies)
-
-
-def packed(*connections):
-    """What `pack` writes of connections with short streams."""
-    sides = [side for connection in connections for side in connection]
-    sides = [messages.word(len(side)) + side + messages.word(0) if side else messages.word(0) for side in sides]
-    parts = (messages.word(1) + client + server for client, server in zip(sides[::2], sides[1::2]))
-    return messages.MAGIC + b''.join(parts) + messages.word(0)
-
-
-class Tools(Runs):
-    """A folder, and runs of the scripts there."""
-
-    tried = 0  # lines of the README
-
-    def tool(self, name, *words, stdin=None):
-        kept, self.program = self.program, str(TOP / 'tools' / name)
-        try:
-            return self.run(*words, stdin=stdin)
-        finally:
-            self.program = kept
-
-    def from_pcap(self, recording, *options):
-        """What is told, line by line, of a recording that is taken to `out`."""
-        self.write('recording', recording)
-        status, out, error = self.tool('from_pcap', 'recording', 'out', '--program', self.program, *options)
-        return status, out.splitlines() + error.splitlines()
-
-    def taken(self, what, recording, wanted, *options):
-        """The recording gives just these connections."""
-        if os.path.exists(os.path.join(self.folder, 'out')):
-            os.remove(os.path.join(self.folder, 'out'))
-        status, lines = self.from_pcap(recording, *options)
-        self.want(what, (status, self.read('out')), (0, packed(*wanted)))
-        return lines
-
-
-def exchange(talk, pieces=1, calls=CALLS, replies=REPLIES):
-    """The segments of some calls and their replies, each side's stream in pieces."""
-    frames = []
-    for side, bodies in enumerate((calls, replies)):
-        content = stream(bodies)
-        size = -(-len(content) // pieces)
-        frames += [talk.sent(side, content[at:at + size]) for at in range(0, len(content), size)]
-    return frames
-
-
-def whole(**options):
-    talk = Talk(**options)
-    return [*talk.opened(), *exchange(talk, 5), *talk.closed()]
-
-
-ALL = (stream(CALLS), stream(REPLIES))
-
-
-def recordings_of_all_kinds(tools):
-    """pcap and pcapng, IPv6, VLAN tags, sequence numbers that wrap, a filter, and connections that overlap."""
-    tools.taken('pcap', pcap(whole()), [ALL])
-    tools.taken('pcapng', pcapng(whole()), [ALL])
-    tools.taken('IPv6', pcap(whole(hosts=('2001:db8::7', '2001:db8::1'))), [ALL])
-    tools.taken('VLAN', pcap(whole(vlan=7)), [ALL])
-    tools.taken('wrapping', pcap(whole(first=((1 << 32) - 50, (1 << 32) - 1))), [ALL])
-    one, two = whole(port=700), whole(port=701, service=111)
-    tools.taken('two', pcap([frame for pair in zip(one, two) for frame in pair]), [ALL, ALL])
-    tools.taken('filter', pcap(one + two), [ALL], '--filter', 'tcp.port == 111')
-    lines = tools.taken('cut in its last frame', pcap(whole())[:-10], [ALL])
-    tools.want('cut in its last frame', 'cut short' in lines[-1], True)
-    tools.taken('a port used again', pcap(whole() + whole(first=(900_000, 800_000))), [ALL, ALL])
-
-
-def segments_in_any_order(tools):
-    """Segments out of order, again, overlapping, and before the end was known."""
-    chance = random.Random(7)
-    for _ in range(5):
-        talk = Talk()
-        opened, frames = talk.opened(), exchange(talk, 9)
-        frames += chance.choices(frames, k=9)
-        chance.shuffle(frames)
-        tools.taken('shuffled', pcap(opened + frames), [ALL])
-    talk, content = Talk(), stream(CALLS)
-    frames = talk.opened() + [talk.frame(0, ACK, content[at:at + 100], at) for at in (0, 150, 60, 240, 200, 30)]
-    talk.next[0] += 340
-    frames += [talk.frame(0, ACK, b'\0', -1), talk.sent(0, content[340:]), *talk.closed()]
-    tools.taken('overlapping', pcap(frames), [(content, b'')])
-
-
-def who_is_the_client(tools):
-    def told(recording, *options):
-        return tools.taken('client', recording, [ALL], *options)[0].partition(': client ')[2]
-    client, server = CLIENT + ':700 ', SERVER + ':2049 '
-    sizes = ', %d and %d bytes' % (len(stream(CALLS)), len(stream(REPLIES)))
-    tools.want('SYN', told(pcap(whole())), client + 'by the SYN' + sizes)
-    tools.want('the answer to a SYN', told(pcap(whole()[1:])), client + 'by the SYN' + sizes)
-    tools.want('a SYN without its answer', told(pcap([whole()[0], *whole()[2:]])), client + 'by the SYN' + sizes)
-    replies_first = whole()[8:] + whole()[3:8]
-    tools.want('ports', told(pcap(replies_first), '--midstream'), client + 'by the ports' + sizes)
-    other = [*Talk(service=900).opened(), *exchange(Talk(service=900))]
-    tools.want('first payload', told(pcap(other[3:]), '--midstream'), client + 'by the first payload' + sizes)
-    swapped = whole(port=2049, service=700, hosts=(SERVER, CLIENT))
-    tools.want('SYN before ports', told(pcap(swapped)), server + 'by the SYN' + sizes)
-
-
-def what_is_left_out(tools):
-    """Connections without a SYN or without payload, and what stands after bytes that are missing."""
-    status, lines = tools.from_pcap(pcap(whole()[3:]))
-    tools.want('no SYN', (status, 'no SYN in the recording' in lines[0]), (1, True))
-    status, lines = tools.from_pcap(pcap(Talk().opened()))
-    tools.want('no payload', (status, lines[0].endswith(': no payload')), (1, True))
-    frames, calls, replies = whole(), stream(CALLS), stream(REPLIES)
-    fifth = -(-len(calls) // 5)
-    told = 'connection 1 client: bytes are missing from the recording after the first %d; the stream ends there'
-    lines = tools.taken('a gap', pcap(frames[:4] + frames[5:]), [(calls[:fifth], replies)])
-    tools.want('a gap', lines[1:], [told % fifth])
-    lines = tools.taken('the last segment is lost', pcap(frames[:7] + frames[8:]), [(calls[:4 * fifth], replies)])
-    tools.want('the last segment is lost', lines[1:], [told % (4 * fifth)])
-    lines = tools.taken('the first segment is lost', pcap(frames[:3] + frames[4:]), [(b'', replies)])
-    tools.want('the first segment is lost', lines[1:], [told % 0])
-    whole_calls = fifth // 44 * 44
-    lines = tools.taken('a gap', pcap(frames[:4] + frames[5:]), [(calls[:whole_calls], replies)], '--whole-records')
-    tools.want('whole records', lines[2:], ['connection 1 client: the last %d bytes are no whole record, and are dropped'
-                                            % (fifth - whole_calls)])
-    tools.taken('frames cut to 154 bytes', pcap(frames, 154), [(calls[:100], replies[:100])])
-    tools.taken('reset', pcap([*frames[:8], Talk(first=(1_001 + len(calls), 5_001)).frame(0, RST)]), [(calls, b'')])
+# Words that tell what is said of each reason from what is said of any other.
+WORDS_OF_REASONS = {
+    'BadMagic': 'begins with NFS3CAP1', 'CaptureCut': 'the file ends before', 'BadMark': 'a connection word is 0 or 1',
+    'AfterEnd': 'nothing stands after', 'TooManyConnections': '65,535', 'TooManyBytes': '1,073,741,824', 'RecordCut': 'stream ends in this',
+    'RecordTooLong': '16,777,216', 'Short': 'body ends before', 'Trailing': 'message ends before', 'BadBool': 'a bool is',
+    'BadEnum': 'is not listed', 'TooLong': 'over its maximum', 'RpcVersion': 'RPC version is 2', 'Flavor': 'RPCSEC_GSS',
+    'AuthLength': 'of the parameters', 'WrongSide': 'replies the server', 'NoCall': 'no call of the connection has',
+    'XidConflict': 'another procedure'}
 
 
 def explained(tools):
@@ -170,8 +45,9 @@ def explained(tools):
     tools.want('reasons', len(lines), 32)
     for name, (reason, line) in lines.items():
         status, out, error = tools.tool('explain', name, stdin=('first: %s\n' % line).encode())
-        told = (status, '\n%s: ' % reason in out, 'no reason of' in out, error)
-        tools.want('explain ' + line, told, (0, True, False, ''))
+        said = re.search('^%s: (.*)$' % reason, out, re.M)
+        told = [name for name, words in WORDS_OF_REASONS.items() if said and words in said[1]]
+        tools.want('explain ' + line, (status, told, error), (0, [reason], ''))
         if ' byte ' in line and reason not in ('Trailing', 'AuthLength', 'RecordCut', 'RecordTooLong'):
             tools.want('the item of ' + line, 'after the last item' in out or 'allowed: ' not in out, False)
 
@@ -190,6 +66,10 @@ def explained_as_documented(tools):
     tools.write('a', (TOP / 'examples/bad_status.nfs3cap').read_bytes())
     for place, status in (('connection 1 server record 2 byte 0', 1), ('file 9999', 1), ('nothing', 2)):
         tools.want(place, tools.tool('explain', 'a', place)[0], status)
+    tools.want('a file that is absent', tools.tool('explain', 'absent', 'file 0'), (3, '', 'explain: absent: No such file or directory\n'))
+    for name in ('knfsd_a.pcap', 'bad_bool.pcap'):
+        status, out, error = tools.tool('explain', str(TOP / 'examples' / name), 'file 0: BadMagic')
+        tools.want('a recording', (status, out, 'tools/from_pcap' in error, 'tools/where' in error), (2, '', True, True))
 
 
 def layouts_agree_with_the_listing(tools):
@@ -226,11 +106,11 @@ def lines_of_the_readme(tools, chosen):
     """Its command lines, each with what its first line of output begins with and, where it is not 0, its status."""
     for line in README.splitlines():
         command, _, wanted = line.partition('  # ')
-        if not line.startswith('    ') or not wanted or ('knfsd' in command or '/tmp/a' in command) != chosen:
+        if not line.startswith('    ') or not wanted or ('.pcap' in command or '/tmp/a' in command) != chosen:
             continue
         wanted, _, status = wanted.replace('(nothing)', '').partition(', status ')
         words = command.replace('/tmp/', tools.folder + '/').replace('./nfs3canon', tools.program)
-        words = words.replace('from_pcap', 'from_pcap --program ' + tools.program)
+        words = words.replace('tools/verdicts', 'tools/verdicts --program ' + tools.program)
         done = subprocess.run(['sh', '-c', words], cwd=TOP, stdout=subprocess.PIPE, stderr=subprocess.STDOUT, text=True)
         told = done.stdout.partition('\n')[0]
         found = told[:len(wanted) - 2] + '..' if wanted.endswith('..') else told
@@ -245,56 +125,67 @@ def commands_of_the_readme(tools):
 
 def recordings_of_the_readme(tools):
     lines_of_the_readme(tools, True)
-    tools.want('lines', tools.tried, 3)
+    tools.want('lines', tools.tried, 6)
     for name in ('a', 'b'):
         answer = tools.run('check', name + '.nfs3cap')
         tools.want('check', answer, (0, 'ok connections=18 calls=276 replies=276 handles=53\n', ''))
 
 
 def lines_for_many_captures(tools):
-    """The README's lines without a comment, but `./test`, check the examples; the second where GNU parallel is there."""
+    """The README's lines without a comment, but `./test`, check the examples; the second if GNU parallel is there."""
     lines = [line.strip() for line in README.splitlines() if line.startswith('    ') and '  # ' not in line]
-    tools.want('lines', [line.split()[0] for line in lines], ['printf', 'parallel', './test'])
-    answers = [('examples/' + name, line) for name, line, _ in rows_of_the_examples()]
+    tools.want('lines', [line.split()[0] for line in lines], ['tools/verdicts', 'parallel', './test'])
     version = ['sh', '-c', 'parallel --version 2>&1 </dev/null']
-    for line, mark in zip(lines, (': ', '\t')):
-        if mark == '\t' and b'GNU' not in subprocess.run(version, stdout=subprocess.PIPE).stdout:
+    here = {'tools/verdicts': 'tools/verdicts --program ' + tools.program, 'host1,host2': ':', '/opt/nfs3canon': str(TOP),
+            'runs/': 'examples/'}
+    last = {'tools/verdicts': ['13 ok, 7 refused, 0 errors'],
+            'parallel': ['0 ok, 1 refused, 0 errors'] * 4 + ['1 ok, 1 refused, 0 errors'] + ['18 ok, 0 refused, 0 errors'] * 2}
+    for line in lines[:2]:
+        if line.startswith('parallel') and b'GNU' not in subprocess.run(version, stdout=subprocess.PIPE).stdout:
             continue
-        done = subprocess.run(['sh', '-c', line.replace('./nfs3canon', tools.program)], cwd=TOP, stdout=subprocess.PIPE,
-                              stderr=subprocess.STDOUT, text=True)
-        tools.want(line, sorted(done.stdout.splitlines()), sorted(map(mark.join, answers)))
+        for word, local in here.items():
+            line = line.replace(word, local)
+        done = subprocess.run(['sh', '-c', line], cwd=TOP, stdout=subprocess.PIPE, stderr=subprocess.DEVNULL, text=True)
+        found = sorted(told for told in done.stdout.splitlines() if told.endswith(' errors'))
+        tools.want(line, (found, done.returncode), (last[line.split()[0]], 5 if line.startswith('parallel') else 1))
 
 
 def rows_of_the_examples():
-    """Of each capture of examples/README.md its name, what `check` prints, and the status."""
-    return re.findall(r'^\| `(\w+\.nfs3cap)` \| .* \| `([^`]*)` \| (\d) \|$', (TOP / 'examples/README.md').read_text(), re.M)
+    """Of each capture and wrong recording of examples/README.md its name, what is printed of it, and the status."""
+    return re.findall(r'^\| `(\w+\.\w+)` \| .* \| `([^`]*)` \| (\d) \|$', (TOP / 'examples/README.md').read_text(), re.M)
 
 
 def examples_are_used(tools):
     """Each file of examples/ is checked by its row there, is run or imported by examples_are_made_alike, or is in a command line of
     the top README that is run."""
-    used = {name for name, _, _ in rows_of_the_examples()} | {'README.md', 'make.py', 'messages.py'}
+    used = {name for name, _, _ in rows_of_the_examples()} | {'README.md', 'make.py', 'messages.py', 'packets.py'}
     used |= {name for line in README.splitlines() if '  # ' in line for name in re.findall(r'examples/(\w+\.\w+)', line)}
     there = {path.name for path in (TOP / 'examples').iterdir()} - {'__pycache__'}
     tools.want('files', sorted(there), sorted(used))
 
 
 def answers_of_the_examples(tools):
-    """Each file of examples/ stands in its README with what `check` prints, and no other does."""
-    rows = rows_of_the_examples()
-    tools.want('files', sorted(name for name, _, _ in rows), sorted(path.name for path in (TOP / 'examples').glob('*.nfs3cap')))
+    """Each capture of examples/ stands in its README with what `check` prints, each wrong recording with the verdict on its last
+    connection, and no other file does."""
+    rows, there = rows_of_the_examples(), [*(TOP / 'examples').glob('*.nfs3cap'), *(TOP / 'examples').glob('bad_*.pcap')]
+    tools.want('files', sorted(name for name, _, _ in rows), sorted(path.name for path in there))
     for name, line, status in rows:
-        found, out, error = tools.run('check', str(TOP / 'examples' / name))
-        tools.want(name, (out + error, found), (line + '\n', int(status)))
+        path = str(TOP / 'examples' / name)
+        if name.endswith('.pcap'):
+            found, out, error = tools.tool('verdicts', '--program', tools.program, path)
+            tools.want(name, (out.splitlines()[-2].endswith(line) and error, found), ('', int(status)))
+        else:
+            found, out, error = tools.run('check', path)
+            tools.want(name, (out + error, found), (line + '\n', int(status)))
 
 
 def examples_are_made_alike(tools):
-    """examples/make.py writes the captures that are there."""
-    for name in ('make.py', 'messages.py'):
+    """examples/make.py writes the captures and the wrong recordings that are there."""
+    for name in ('make.py', 'messages.py', 'packets.py'):
         shutil.copy(TOP / 'examples' / name, tools.folder)
     done = subprocess.run([sys.executable, 'make.py'], cwd=tools.folder, stdout=subprocess.PIPE, stderr=subprocess.STDOUT)
     tools.want('make.py', (done.returncode, done.stdout), (0, b''))
-    for path in (TOP / 'examples').glob('*.nfs3cap'):
+    for path in [*(TOP / 'examples').glob('*.nfs3cap'), *(TOP / 'examples').glob('bad_*.pcap')]:
         tools.want(path.name, tools.read(path.name), path.read_bytes())
 
 
@@ -316,8 +207,19 @@ def pages_agree(tools):
         sizes = [len(bytes.fromhex(words)) for _, words in dump]
         tools.want('places of the dump', [int(at) for at, _ in dump], [sum(sizes[:at]) for at in range(len(sizes))])
     if shutil.which('man'):
-        done = subprocess.run(['man', '--warnings', '-l', 'man/nfs3canon.1'], cwd=TOP, stdout=subprocess.DEVNULL, stderr=subprocess.PIPE)
-        tools.want('warnings of man', done.stderr, b'')
+        for page in (TOP / 'man').iterdir():
+            done = subprocess.run(['man', '--warnings', '-l', page], stdout=subprocess.DEVNULL, stderr=subprocess.PIPE)
+            tools.want('warnings of ' + page.name, done.stderr, b'')
+
+
+def pages_of_the_tools(tools):
+    """Each tool for recordings has a page of the manual with all its options, and prints its help."""
+    for name in ('from_pcap', 'where', 'verdicts'):
+        page = (TOP / 'man' / (name + '.1')).read_text().replace('\\-', '-')
+        status, out, error = tools.tool(name, '--help')
+        tools.want('help of ' + name, (status, error, 'The status is 0' in out), (0, '', True))
+        options = set(re.findall(r'(?<![\w-])--?[a-z][a-z-]*', out.partition('options:')[2])) - {'-h', '--help', '-w', '-dc'}
+        tools.want('options of ' + name, sorted(option for option in options if option not in page), [])
 
 
 def what_is_believed(tools):
@@ -348,10 +250,9 @@ def rooms_stand_apart(tools):
 
 
 STRINGS = ('name', 'path', 'machinename', 'dirpath', 'hostname', 'directory')
-OF_TSHARK = [recordings_of_all_kinds, segments_in_any_order, who_is_the_client, what_is_left_out, recordings_of_the_readme]
-TESTS = [*OF_TSHARK, explained, explained_as_documented, layouts_agree_with_the_listing, commands_of_the_readme,
-         lines_for_many_captures, examples_are_used, answers_of_the_examples, examples_are_made_alike, pages_agree, what_is_believed,
-         rooms_stand_apart]
+TESTS = [recordings_of_the_readme, explained, explained_as_documented, layouts_agree_with_the_listing, commands_of_the_readme,
+         lines_for_many_captures, examples_are_used, answers_of_the_examples, examples_are_made_alike, pages_agree, pages_of_the_tools,
+         what_is_believed, rooms_stand_apart]
 
 
 def tried(program, test):
@@ -362,11 +263,7 @@ def tried(program, test):
 
 
 def main():
-    tests = TESTS
-    if not shutil.which('tshark'):
-        print('skipped, since tshark is not there:', *(test.__name__ for test in OF_TSHARK))
-        tests = [test for test in TESTS if test not in OF_TSHARK]
-    try_all(words_of(__doc__), [(test.__name__, tried, test) for test in tests], os.cpu_count())
+    try_all(words_of(__doc__), [(test.__name__, tried, test) for test in TESTS], os.cpu_count())
 
 
 if __name__ == '__main__':

@@ -1,0 +1,102 @@
+"""Runs of the scripts in tools/, and what their tests make recordings of."""
+import io
+import os
+import pathlib
+import subprocess
+import sys
+import typing
+
+from captures import TIMEOUT, Runs
+from recordings import Talk
+from traffic import NFS, call, messages, success
+
+TOP = pathlib.Path(__file__).resolve().parent.parent
+sys.path.insert(0, str(TOP / 'tools'))
+from nfs3tools.captures import capture_of  # noqa: E402
+from nfs3tools.messages import lines_of  # noqa: E402
+from nfs3tools.recordings import Source  # noqa: E402
+from nfs3tools.taken import NotTaken, Options, Progress, Taken, take_from  # noqa: E402
+
+CALLS = [call(number, NFS, 3, 0) for number in range(1, 40)]
+REPLIES = [success(number) for number in range(1, 40)]
+Streams = tuple[bytes, bytes]
+
+
+def stream(bodies: typing.Iterable[bytes]) -> bytes:
+    return b''.join(messages.record(body)[4:] for body in bodies)
+
+
+def in_fragments(body: bytes, size: int) -> bytes:
+    """A record of fragments of so many bytes, and a last one."""
+    whole = range(0, len(body) - size, size)
+    return b''.join(messages.word(size) + body[at:at + size] for at in whole) + messages.record(body[len(whole) * size:])[4:]
+
+
+ALL = (stream(CALLS), stream(REPLIES))
+
+
+def packed(*connections: Streams) -> bytes:
+    """What `pack` writes of connections with short streams."""
+    sides = [side for connection in connections for side in connection]
+    sides = [messages.word(len(side)) + side + messages.word(0) if side else messages.word(0) for side in sides]
+    parts = (messages.word(1) + client + server for client, server in zip(sides[::2], sides[1::2]))
+    return messages.MAGIC + b''.join(parts) + messages.word(0)
+
+
+def exchange(talk: Talk, pieces: int = 1, calls: list[bytes] = CALLS, replies: list[bytes] = REPLIES) -> list[bytes]:
+    """The segments of some calls and their replies, each side's stream in pieces."""
+    frames = []
+    for side, bodies in enumerate((calls, replies)):
+        content = stream(bodies)
+        size = max(1, -(-len(content) // pieces))
+        frames += [talk.sent(side, content[at:at + size]) for at in range(0, len(content), size)]
+    return frames
+
+
+def whole(**options: typing.Any) -> list[bytes]:
+    """The frames of a connection from its SYN to its FIN: three, five of the calls, five of the replies, two."""
+    talk = Talk(**options)
+    return [*talk.opened(), *exchange(talk, 5), *talk.closed()]
+
+
+def taken_of(recording: bytes, **options: typing.Any) -> Taken:
+    """What is taken of a recording, as `tools/from_pcap` does it."""
+    return take_from(Source(io.BytesIO(recording)), Options(**options), True, None, Progress(False))
+
+
+class Tools(Runs):
+    """A folder, and runs of the scripts there."""
+
+    tried = 0  # lines of the README
+
+    def tool(self, name: str, *words: str, stdin: bytes | None = None, **options: typing.Any) -> tuple[int, str, str]:
+        done = subprocess.run([str(TOP / 'tools' / name), *words], cwd=self.folder, input=stdin, timeout=TIMEOUT,
+                              stdout=subprocess.PIPE, stderr=subprocess.PIPE, check=False, **options)
+        return done.returncode, done.stdout.decode(errors='replace'), done.stderr.decode()
+
+    def taken(self, what: str, recording: bytes, wanted: list[Streams], **options: typing.Any) -> list[str]:
+        """The recording gives just these connections. Returns what is told of it."""
+        try:
+            taken = taken_of(recording, **options)
+        except NotTaken as refused:
+            self.want(what, str(refused), wanted)
+            return []
+        self.want(what, b''.join(capture_of(taken.pairs())), packed(*wanted))
+        return lines_of(taken)
+
+    def told(self, what: str, recording: bytes, wanted: list[Streams], lines: list[str], **options: typing.Any) -> None:
+        """The recording gives just these connections, and this is told besides a line for each."""
+        told = self.taken(what, recording, wanted, **options)
+        self.want('told: ' + what, [line for line in told if ': client ' not in line], lines)
+
+    def refused(self, what: str, recording: bytes, message: str) -> None:
+        """The recording is refused with a message that has this text."""
+        try:
+            taken_of(recording)
+        except NotTaken as refused:
+            self.want(what, message in str(refused) or str(refused), True)
+        else:
+            self.want(what, 'taken', message)
+
+    def exists(self, name: str) -> bool:
+        return os.path.exists(os.path.join(self.folder, name))

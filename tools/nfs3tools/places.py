@@ -1,0 +1,71 @@
+"""Places of a capture, as the program prints them."""
+import re
+import typing
+
+Side = typing.Literal['client', 'server']
+SIDES: tuple[Side, Side] = ('client', 'server')
+
+
+class NoPlace(Exception):
+    """A text that names no place."""
+
+
+class Place(typing.NamedTuple):
+    """A record, or a byte of its body. Connections and records are numbered from 1, bytes from 0."""
+    connection: int
+    side: Side
+    record: int
+    byte: typing.Optional[int] = None
+
+    def __str__(self) -> str:
+        record = f'connection {self.connection} {self.side} record {self.record}'
+        return record if self.byte is None else f'{record} byte {self.byte}'
+
+
+class FilePlace(typing.NamedTuple):
+    """A byte of the capture file, numbered from 0."""
+    byte: int
+
+    def __str__(self) -> str:
+        return f'file {self.byte}'
+
+
+class Fault(typing.NamedTuple):
+    """What `check` prints of a capture that it refuses."""
+    place: Place | FilePlace
+    reason: str
+
+    def __str__(self) -> str:
+        return f'{self.place}: {self.reason}'
+
+
+PLACE = re.compile(r'(?:connection (\d+) (client|server) record (\d+)(?: byte (\d+))?|file (\d+))(?:: (\w+))?\s*$')
+LISTED = re.compile(r'(\d+) (client|server) (\d+)(?= |\s*$)')
+
+
+def parse_place(text: str) -> Place | FilePlace:
+    """Reads a place from a line of `check`, of `same`, or of `show`.
+
+    A line of `check` or `same` may have `first: `, `second: ` or `differ at ` before the place, and a reason after it. A
+    line of `show` begins with the numbers of its connection and record.
+
+    Raises `NoPlace` if there is none.
+    """
+    listed, found = LISTED.match(text), PLACE.search(text)
+    if listed:
+        return Place(int(listed[1]), side_of(listed[2]), int(listed[3]))
+    if not found:
+        raise NoPlace('no place: ' + text.strip())
+    if found[5] is not None:
+        return FilePlace(int(found[5]))
+    return Place(int(found[1]), side_of(found[2]), int(found[3]), None if found[4] is None else int(found[4]))
+
+
+def parse_fault(text: str) -> Fault | None:
+    """Reads a line of `check` that refuses a capture; returns `None` for any other line."""
+    found = PLACE.search(text)
+    return Fault(parse_place(text), found[6]) if found and found[6] else None
+
+
+def side_of(word: str) -> Side:
+    return 'client' if word == 'client' else 'server'

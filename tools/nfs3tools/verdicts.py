@@ -1,0 +1,250 @@
+"""Judges each connection of recordings and captures by itself.
+
+    tools/verdicts [--junit FILE] [--json FILE] [-j N] RECORDING|CAPTURE ..
+
+Each connection is a capture of its own, which `nfs3canon check` judges, so a fault in one hides nothing of another. Printed is
+a table with a row for each: the recording, the connection's number and ends, its calls and replies, and the verdict: `ok`, or
+the place and reason of its first fault with the frame that carries it. What is missing from a recording, and which connections
+are left out of it, is told on standard error. A recording that cannot be read has a row, too, and the others are judged still.
+
+The recordings are taken as by `tools/from_pcap` (--midstream, --whole-records, --filter); `-` is standard input. --junit writes
+the verdicts as JUnit XML, as Jenkins and GitLab take it, and --json as a list with an object for each row. N recordings are
+judged at once, as many as there are processors if it is not said.
+
+The status is 0 if all are ok, 1 if one is not, 2 if the command line is refused or the program is missing, 3 if FILE cannot be
+written.
+"""
+import concurrent.futures
+import contextlib
+import functools
+import json
+import os
+import re
+import signal
+import sys
+import time
+import typing
+import xml.etree.ElementTree
+
+from .captures import write_file
+from .messages import add_options, options_of, parser_of, words_of
+from .places import FilePlace, Place, parse_fault
+from .programs import Answer, FilterRefused, Missing, program_path, run_program
+from .taken import FrameRef, NotTaken, Options, Taken, TakenConnection, take
+
+NOT_ALL_OK = 1
+State = typing.Literal['ok', 'refused', 'error', 'skipped']
+COUNTS = re.compile(r'ok connections=1 calls=(\d+) replies=(\d+) handles=\d+\n')
+
+
+class Verdict(typing.NamedTuple):
+    """What is said of a connection, or of a recording or capture as a whole (then the connection is None).
+
+    place: where its first fault is, without the connection; reason: that of the program; message: all of it in words
+    """
+    recording: str
+    connection: int | None = None
+    tcp_stream: int | None = None
+    client: str = ''
+    server: str = ''
+    calls: int | None = None
+    replies: int | None = None
+    state: State = 'ok'
+    message: str = 'ok'
+    place: str | None = None
+    reason: str | None = None
+    frames: list[FrameRef] = []
+    notes: list[str] = []
+    seconds: float = 0.0
+
+
+class Judge(typing.NamedTuple):
+    """How recordings are judged: by which program, taken how, and how many connections at once."""
+    program: str
+    options: Options
+    at_once: int
+    shows_progress: bool
+
+    def verdicts(self, recording: str) -> list[Verdict]:
+        """The verdicts on a recording or capture. What cannot be read is an error among them."""
+        try:
+            with take(recording, self.options, shows_progress=self.shows_progress) as taken:
+                return self.of_taken(recording, taken)
+        except (NotTaken, FilterRefused, Missing) as refused:
+            return [error_of(recording, str(refused))]
+        except OSError as failed:
+            return [error_of(recording, words_of(failed))]
+        except MemoryError:
+            return [error_of(recording, 'out of memory')]
+
+    def of_taken(self, recording: str, taken: Taken) -> list[Verdict]:
+        with concurrent.futures.ThreadPoolExecutor(self.at_once) as threads:
+            verdicts = list(threads.map(functools.partial(self.of_connection, recording, taken), taken.connections))
+        verdicts += [Verdict(recording, state='skipped', message=line) for line in taken.left_out]
+        if taken.damage and not taken.is_recording:
+            verdicts += self.of_container(recording, verdicts)
+        elif taken.damage:
+            verdicts.append(error_of(recording, taken.damage))
+        elif not taken.connections and taken.is_recording:
+            verdicts.append(error_of(recording, 'no connection to judge'))
+        if verdicts and taken.is_recording:
+            verdicts[0] = verdicts[0]._replace(notes=taken.notes + verdicts[0].notes)
+        return verdicts
+
+    def of_connection(self, recording: str, taken: Taken, connection: TakenConnection) -> Verdict:
+        begin = time.monotonic()
+        answer = run_program(self.program, ['check', '/dev/stdin'], connection.capture())
+        verdict = verdict_of(recording, taken, connection, answer)
+        return verdict._replace(notes=connection.notes, seconds=time.monotonic() - begin)
+
+    def of_container(self, recording: str, others: list[Verdict]) -> list[Verdict]:
+        """The verdict on a capture that is not whole, unless it is that on one of its connections."""
+        answer = run_program(self.program, ['check', recording])
+        fault = parse_fault(answer.error)
+        if fault is None:
+            return [error_of(recording, told(answer))]
+        at = fault.place.connection if isinstance(fault.place, Place) else None
+        if at is not None and any(other.connection == at for other in others):
+            return []
+        return [Verdict(recording, at, state='refused', message=str(fault), place=str(fault.place), reason=fault.reason)]
+
+
+def verdict_of(recording: str, taken: Taken, connection: TakenConnection, answer: Answer) -> Verdict:
+    """What the program's answer on a connection's capture says."""
+    verdict = Verdict(recording, connection.number, connection.stream_number, connection.client_end, connection.server_end)
+    counts, fault = COUNTS.fullmatch(answer.out), parse_fault(answer.error)
+    if answer.status == 0 and counts:
+        return verdict._replace(calls=int(counts[1]), replies=int(counts[2]))
+    calls, replies = connection.client.count_records(), connection.server.count_records()
+    verdict = verdict._replace(calls=calls, replies=replies)
+    if answer.status != 2 or fault is None or isinstance(fault.place, FilePlace):
+        return verdict._replace(state='error', message=told(answer))
+    frames = taken.frames(fault.place._replace(connection=connection.number))
+    place = str(fault.place).removeprefix('connection 1 ')
+    message = f'{place}: {fault.reason}' + ''.join(f', frame {frame.number}' for frame in frames)
+    return verdict._replace(state='refused', message=message, place=place, reason=fault.reason, frames=frames)
+
+
+def error_of(recording: str, message: str) -> Verdict:
+    return Verdict(recording, state='error', message=message)
+
+
+def told(answer: Answer) -> str:
+    """What the program said last."""
+    return (answer.error or answer.out).strip() or f'the program ended with status {answer.status}'
+
+
+# --- The command ---
+
+def main(words: list[str]) -> int:
+    parser = parser_of(__doc__, 'verdicts')
+    parser.add_argument('recordings', metavar='RECORDING|CAPTURE', nargs='+')
+    parser.add_argument('--junit', metavar='FILE', help='writes the verdicts as JUnit XML')
+    parser.add_argument('--json', metavar='FILE', help='writes the verdicts as JSON')
+    parser.add_argument('-j', metavar='N', type=positive, default=os.cpu_count() or 1, help='judges N recordings at once')
+    parser.add_argument('--program', metavar='PROGRAM', help='nfs3canon')
+    add_options(parser)
+    chosen = parser.parse_args(words)
+    at_once = max(1, chosen.j // len(chosen.recordings))
+    judge = Judge(program_path(chosen.program), options_of(chosen), at_once, len(chosen.recordings) == 1)
+    verdicts = list(judged(judge, chosen.recordings, chosen.j))
+    print_table(verdicts)
+    if chosen.junit:
+        write_file(chosen.junit, [junit_of(verdicts)])
+    if chosen.json:
+        write_file(chosen.json, [json_of(verdicts)])
+    return 0 if all(verdict.state in ('ok', 'skipped') for verdict in verdicts) else NOT_ALL_OK
+
+
+def positive(word: str) -> int:
+    if int(word) < 1:
+        raise ValueError
+    return int(word)
+
+
+def judged(judge: Judge, recordings: list[str], at_once: int) -> typing.Iterator[Verdict]:
+    """Iterates over the verdicts in the order of the recordings, which processes of their own judge if they are several."""
+    processes, is_shown = min(at_once, len(recordings)), sys.stderr.isatty()
+    with contextlib.ExitStack() as pools:
+        map_all: typing.Callable[..., typing.Iterator[list[Verdict]]] = map
+        if processes > 1 and '-' not in recordings:
+            pool = concurrent.futures.ProcessPoolExecutor(processes, initializer=leave_interrupts)
+            pools.callback(pool.shutdown, cancel_futures=True)
+            map_all = pool.map
+        for number, verdicts in enumerate(map_all(judge.verdicts, recordings), 1):
+            if is_shown and len(recordings) > 1:
+                print(f'\r{number} of {len(recordings)} recordings', end='' if number < len(recordings) else '\r\x1b[K',
+                      file=sys.stderr, flush=True)
+            yield from verdicts
+
+
+def leave_interrupts() -> None:
+    """An interrupt from the keyboard is for the process that waits for this one."""
+    signal.signal(signal.SIGINT, signal.SIG_IGN)
+    signal.signal(signal.SIGTERM, signal.SIG_DFL)
+
+
+# --- What is printed and written ---
+
+def print_table(verdicts: list[Verdict]) -> None:
+    """Prints a row for each verdict but those on connections that are left out, which with all notes go to standard error."""
+    for verdict in verdicts:
+        named = verdict.recording if verdict.connection is None else f'{verdict.recording}: connection {verdict.connection}'
+        lines = [*verdict.notes, *([f'left out: {verdict.message}'] if verdict.state == 'skipped' else [])]
+        for line in lines:
+            print(printable(f'{named}: {line}'), file=sys.stderr)
+    heads = ('recording', 'connection', 'client', 'server', 'calls', 'replies', 'verdict')
+    rows = [heads, *(row_of(verdict) for verdict in verdicts if verdict.state != 'skipped')]
+    widths = [max(len(row[column]) for row in rows) for column in range(len(heads) - 1)]
+    for row in rows:
+        print('  '.join([*(cell.ljust(width) for cell, width in zip(row, widths)), row[-1]]))
+    states = [verdict.state for verdict in verdicts]
+    print(f'{states.count("ok")} ok, {states.count("refused")} refused, {states.count("error")} errors')
+
+
+def row_of(verdict: Verdict) -> tuple[str, ...]:
+    numbers = (verdict.connection, verdict.calls, verdict.replies)
+    connection, calls, replies = ('-' if number is None else str(number) for number in numbers)
+    return (printable(verdict.recording), connection, verdict.client or '-', verdict.server or '-', calls, replies,
+            printable(verdict.message))
+
+
+def printable(text: str) -> str:
+    """A text without control characters and without bytes that are no UTF-8, which no terminal and no XML should get."""
+    return ''.join(letter if letter.isprintable() else letter.encode('unicode_escape').decode() for letter in text)
+
+
+def junit_of(verdicts: list[Verdict]) -> bytes:
+    """The verdicts as JUnit XML: a suite with a test case for each."""
+    element = xml.etree.ElementTree.SubElement
+    suites = xml.etree.ElementTree.Element('testsuites')
+    states = [verdict.state for verdict in verdicts]
+    suite = element(suites, 'testsuite', name='nfs3canon', tests=str(len(verdicts)), failures=str(states.count('refused')),
+                    errors=str(states.count('error')), skipped=str(states.count('skipped')),
+                    time=f'{sum(verdict.seconds for verdict in verdicts):.3f}')
+    for verdict in verdicts:
+        case = element(suite, 'testcase', classname=printable(verdict.recording), name=name_of(verdict),
+                       time=f'{verdict.seconds:.3f}')
+        message = printable(verdict.message)
+        if verdict.state != 'ok':
+            element(case, {'refused': 'failure', 'error': 'error', 'skipped': 'skipped'}[verdict.state], message=message)
+        if verdict.notes:
+            element(case, 'system-out').text = '\n'.join(map(printable, verdict.notes))
+    return bytes(xml.etree.ElementTree.tostring(suites, encoding='utf-8', xml_declaration=True)) + b'\n'
+
+
+def name_of(verdict: Verdict) -> str:
+    if verdict.connection is None:
+        return printable(verdict.message) if verdict.state == 'skipped' else 'as a whole'
+    ends = f' {verdict.client} to {verdict.server}' if verdict.client else ''
+    return f'connection {verdict.connection}{ends}'
+
+
+def json_of(verdicts: list[Verdict]) -> bytes:
+    rows = []
+    for verdict in verdicts:
+        row = verdict._asdict()
+        row.update(recording=printable(verdict.recording), frames=[frame._asdict() for frame in verdict.frames],
+                   seconds=round(verdict.seconds, 3))
+        rows.append(row)
+    return json.dumps(rows, indent=1).encode() + b'\n'
