@@ -1,38 +1,45 @@
 """What is taken of a recording or of a capture: its connections, each with the streams of both sides.
 
-    taken = take('run.pcap', Options(midstream=True))
-    for connection in taken.connections:
-        print(connection.number, connection.client_end, connection.server_end, connection.client.size)
-    taken.write_capture('run.nfs3cap')
-    taken.frames(Place(1, 'server', 7, 24))     # the frames of the recording that carry this byte
+    with take('run.pcap', Options(midstream=True)) as taken:
+        for connection in taken.connections:
+            print(connection.number, connection.client_end, connection.server_end, connection.client.size)
+        taken.write_capture('run.nfs3cap')
+        taken.frames(Place(1, 'server', 7, 24))     # the frames of the recording that carry this byte
 
 `take` reads pcap and pcapng (also gzipped, and `-` for standard input) and captures (`NFS3CAP1`, `NFS3CAP2`). Places of
 `check`, `show` and `same` on the file that `write_capture` writes are places of `taken`: connections have the numbers of
 `TakenConnection.number`, and records are those of its streams.
 """
+import array
+import bisect
+import contextlib
+import itertools
+import shutil
+import sys
+import tempfile
+import time
 import typing
 
-from .places import FilePlace, Place, Side
+from .captures import MAGICS, MOST_BYTES, MOST_CONNECTIONS, BadCapture, Container, capture_of, place_in, write_file
+from .places import SIDES, FilePlace, NoPlace, Place, Side
+from .programs import chosen_frames
+from .recordings import Damaged, NoRecording, Recording, Source, opened
+from .records import Extent, Window, body_of, extents, extent_of, fragments
+from .segments import Segments
+from .selection import Options, Selected, count, plural, select
+from .streams import Connection, Connections, Frames, Spool, Stored
+
+BLOCK = 1 << 16
+__all__ = ['FrameRef', 'NotTaken', 'Options', 'Record', 'Taken', 'TakenConnection', 'TakenStream', 'take']
 
 
 class NotTaken(Exception):
-    """The file is not a recording or capture, or cannot be read; its text is the message for the user."""
-
-
-class Options(typing.NamedTuple):
-    """How a recording is taken. None of these changes what is taken of a capture.
-
-    midstream: takes connections whose beginning was not recorded, and goes on after bytes that are missing
-    whole_records: ends each stream after its last whole record
-    filter: a display filter of Wireshark that is true of whole connections, or None; needs tshark
-    """
-    midstream: bool = False
-    whole_records: bool = False
-    filter: str | None = None
+    """The file is no recording or capture; its text is the message for the user."""
 
 
 class FrameRef(typing.NamedTuple):
-    """A frame of the recording: its number, from 1 as Wireshark counts, and its time in nanoseconds since 1970 (UTC)."""
+    """A frame of the recording: its number, from 1 as Wireshark counts, and its time in nanoseconds since 1970 (UTC), 0
+    if it has none."""
     number: int
     time: int
 
@@ -44,56 +51,124 @@ class Record(typing.NamedTuple):
 
 
 class TakenStream:
-    """The bytes of one side that are taken. They stay in a temporary file, or in the capture that they were read from."""
+    """The bytes of one side that are taken. They stay in memory if they are few, else in a temporary file."""
 
-    size: int  # bytes
+    def __init__(self, stored: Stored, frames: Frames | None, ranges: list[tuple[int, int]]):
+        self.stored, self.noted, self.ranges = stored, frames, ranges
+        self.begins = list(itertools.accumulate((end - begin for begin, end in ranges), initial=0))
+        self.size = self.begins[-1]  # bytes
+        self.index: array.array[int] | None = None  # where the records begin
 
     def read(self, begin: int, size: int) -> bytes:
         """Returns the bytes from `begin` on: `size` of them, or fewer at the stream's end."""
-        raise NotImplementedError
+        end, pieces = min(begin + size, self.size), []
+        part = bisect.bisect_right(self.begins, begin) - 1
+        while begin < end:
+            piece_end = min(end, self.begins[part + 1])
+            pieces.append(self.stored.read(self.ranges[part][0] + begin - self.begins[part], piece_end - begin))
+            begin, part = piece_end, part + 1
+        return b''.join(pieces)
 
     def blocks(self) -> typing.Iterator[bytes]:
-        """Iterates over all bytes in order, in blocks of at most 65,536."""
-        raise NotImplementedError
+        """Iterates over all bytes in order, in blocks of 65,536 and a last one."""
+        for begin in range(0, self.size, BLOCK):
+            yield self.read(begin, BLOCK)
 
     def records(self) -> typing.Iterator[Record]:
         """Iterates over the records in order. The last one may be cut."""
-        raise NotImplementedError
+        window = Window(self)
+        for number, extent in enumerate(extents(window, 0, self.size), 1):
+            yield Record(number, body_of(window, extent))
+
+    def extent(self, number: int) -> Extent | None:
+        """Returns where a record stands, if there is one of this number, from 1."""
+        window = Window(self)
+        if self.index is None:
+            self.index = array.array('Q', (extent.begin for extent in extents(window, 0, self.size)))
+        return extent_of(window, self.index[number - 1], self.size) if 0 < number <= len(self.index) else None
+
+    def count_records(self) -> int:
+        """Returns the number of records, of which the last may be cut."""
+        return sum(1 for _ in extents(Window(self), 0, self.size))
+
+    def frames(self, begin: int, end: int) -> list[FrameRef]:
+        """Returns the frames that brought the bytes, in order of their numbers, each once."""
+        found = set[FrameRef]()
+        for part, (first, last) in enumerate(self.ranges):
+            low, high = max(begin, self.begins[part]), min(end, self.begins[part + 1])
+            if low < high and self.noted is not None:
+                shift = first - self.begins[part]
+                found.update(frames_between(self.noted, low + shift, high + shift))
+        return sorted(found)
 
 
-class TakenConnection:
-    """A connection that is taken."""
+def frames_between(noted: Frames, begin: int, end: int) -> typing.Iterator[FrameRef]:
+    """Iterates over the frames that brought stored bytes."""
+    at = bisect.bisect_right(noted.begins, begin) - 1
+    while at < len(noted.begins) and noted.begins[at] < end:
+        yield FrameRef(noted.numbers[at], noted.times[at])
+        at += 1
 
-    number: int        # from 1, as in places
-    stream_number: int | None  # Wireshark's tcp.stream, from 0; None if read from a capture
-    client_end: str    # as '192.0.2.7:700' or '[2001:db8::7]:700'; '' if read from a capture
+
+class TakenConnection(typing.NamedTuple):
+    """A connection that is taken.
+
+    number: from 1, as in places
+    stream_number: Wireshark's tcp.stream, from 0; None if read from a capture
+    client_end, server_end: as '192.0.2.7:700' or '[2001:db8::7]:700'; '' if read from a capture
+    why: how it is known which end is the client, as 'by the SYN'; '' if read from a capture
+    notes: what was left out of its streams, each beginning with the side, as 'client: 12 bytes are missing ..'
+    """
+    number: int
+    stream_number: int | None
+    client_end: str
     server_end: str
-    why: str           # how it is known which end is the client, as 'by the SYN'; '' if read from a capture
+    why: str
     client: TakenStream
     server: TakenStream
-    notes: list[str]   # what was left out of its streams, a sentence each
+    notes: list[str]
 
     def stream(self, side: Side) -> TakenStream:
         """Returns the stream of one side."""
         return self.client if side == 'client' else self.server
 
+    def capture(self) -> typing.Iterator[bytes]:
+        """Iterates over the bytes of a capture of this connection alone."""
+        return capture_of([(self.client, self.server)])
+
 
 class Taken:
-    """The connections of a recording or capture. A context manager, which removes the temporary files at its end."""
+    """The connections of a recording or capture. As a context manager it removes the temporary files at its end.
 
-    connections: list[TakenConnection]
-    left_out: list[str]   # a line for each connection that is not taken, with the reason
-    notes: list[str]      # what is told of the whole recording, a sentence each
-    has_frames: bool      # False if read from a capture
+    left_out: a line for each connection that is not taken, with the reason
+    notes: what is told of the whole recording or capture, a sentence each
+    damage: why what follows could not be read, or None; a recording that ends in the middle of a frame is not damaged
+    is_recording: False if read from a capture; then there are no frames
+    """
+
+    def __init__(self, spool: Spool, is_recording: bool):
+        self.spool, self.is_recording = spool, is_recording
+        self.connections: list[TakenConnection] = []
+        self.left_out: list[str] = []
+        self.notes: list[str] = []
+        self.damage: str | None = None
+
+    def pairs(self) -> list[tuple[TakenStream, TakenStream]]:
+        return [(connection.client, connection.server) for connection in self.connections]
 
     def write_capture(self, path: str) -> None:
         """Writes the connections as a capture of version 1, in chunks of 65,536 bytes.
 
         The file is written beside its name and renamed once it is whole. A device or a pipe is written as it is.
 
-        Raises `OSError`; then the file at `path` is as it was.
+        Raises `NotTaken` if they are more than a capture may have, and `OSError`; then the file is as it was.
         """
-        raise NotImplementedError
+        size = sum(stream.size for pair in self.pairs() for stream in pair)
+        if len(self.connections) > MOST_CONNECTIONS:
+            raise NotTaken(f'{len(self.connections)} connections are more than the {MOST_CONNECTIONS} of a capture')
+        if size > MOST_BYTES:
+            raise NotTaken(f'{size} bytes of streams are more than the {MOST_BYTES} of a capture')
+        write_file(path, capture_of(self.pairs()))
 
     def frames(self, place: Place | FilePlace) -> list[FrameRef]:
         """Returns the frames that carry a byte, or all frames that carry a record if the place names no byte.
@@ -103,18 +178,161 @@ class Taken:
 
         Raises `NoPlace` if there is no such record or byte.
         """
-        raise NotImplementedError
+        if isinstance(place, FilePlace):
+            found = place_in(self.pairs(), place.byte)
+            if found is None:
+                raise NoPlace(f'byte {place.byte} of the capture is not of a stream, so no frame carries it')
+            index, side, at = found
+            return self.connections[index].stream(SIDES[side]).frames(at, at + 1)
+        if not 0 < place.connection <= len(self.connections):
+            raise NoPlace(f'there is no connection {place.connection}')
+        stream = self.connections[place.connection - 1].stream(place.side)
+        extent = stream.extent(place.record)
+        if extent is None:
+            raise NoPlace(f'there is no {place._replace(byte=None)}')
+        return stream.frames(*bytes_of(stream, extent, place))
 
     def __enter__(self) -> 'Taken':
         return self
 
     def __exit__(self, *_: object) -> None:
-        pass
+        self.spool.close()
 
 
-def take(path: str, options: Options = Options(), frames: bool = True) -> Taken:
-    """Reads a recording or a capture. `frames` says whether the frames are noted, which takes 24 bytes for each.
+def bytes_of(stream: TakenStream, extent: Extent, place: Place) -> tuple[int, int]:
+    """The bytes of a stream that a place names: the whole record, or the byte of its body."""
+    if place.byte is None:
+        return extent.begin, extent.end
+    left, last = place.byte, extent.begin
+    for begin, end in fragments(Window(stream), extent):
+        if left < end - begin:
+            return begin + left, begin + left + 1
+        left, last = left - (end - begin), max(last, end - 1)
+    if left:
+        raise NoPlace(f'there is no {place}: the body is shorter')
+    return last, last + 1
 
-    Raises `NotTaken`, and `OSError` if a file cannot be read or a temporary file not be written.
+
+# --- Taking ---
+
+def take(path: str, options: Options = Options(), keeps_frames: bool = True) -> Taken:
+    """Reads a recording or a capture, `-` for standard input. `keeps_frames` says whether the frames of bytes are noted,
+    which takes 24 bytes of memory for each frame.
+
+    Raises `NotTaken`, `Missing` and `FilterRefused` (of `programs`), and `OSError` if a file cannot be read or a temporary
+    file not be written.
     """
-    raise NotImplementedError
+    with contextlib.ExitStack() as files:
+        file, chosen = files.enter_context(opened(path)), None
+        if options.filter is not None:
+            if path == '-':
+                file = files.enter_context(copied(file))
+                path = file.name
+            chosen = chosen_frames(path, options.filter)
+        taken = take_from(Source(file), options, keeps_frames, chosen)
+    return taken
+
+
+@contextlib.contextmanager
+def copied(file: typing.IO[bytes]) -> typing.Iterator[typing.IO[bytes]]:
+    """A temporary file with what is read from another."""
+    with tempfile.NamedTemporaryFile(prefix='nfs3canon') as copy:
+        shutil.copyfileobj(file, copy)
+        copy.flush()
+        copy.seek(0)
+        yield copy
+
+
+def take_from(source: Source, options: Options, keeps_frames: bool, chosen: set[int] | None) -> Taken:
+    """Takes what is read; of a recording only the frames that are chosen, if `chosen` is not None."""
+    try:
+        if source.peek(8) in MAGICS:
+            return of_capture(source)
+        return of_recording(Recording(source), options, keeps_frames, chosen)
+    except (NoRecording, Damaged) as refused:
+        raise NotTaken(str(refused)) from refused
+
+
+def of_capture(source: Source) -> Taken:
+    """The connections of a capture, up to the first that is not whole."""
+    taken = Taken(Spool(), False)
+    try:
+        for streams in Container(source, taken.spool).connections():
+            client, server = (TakenStream(stored, None, whole(stored)) for stored in streams)
+            taken.connections.append(TakenConnection(len(taken.connections) + 1, None, '', '', '', client, server, []))
+    except BadCapture:
+        taken.damage = 'the capture is not whole, or has a word that cannot stand there'
+    except Damaged as damaged:
+        taken.damage = str(damaged)
+    return taken
+
+
+def whole(stored: Stored) -> list[tuple[int, int]]:
+    return [(0, stored.size)] if stored.size else []
+
+
+def of_recording(recording: Recording, options: Options, keeps_frames: bool, chosen: set[int] | None) -> Taken:
+    segments, connections, progress = Segments(), Connections(keeps_frames), Progress()
+    for frame in recording.frames():
+        segment = segments.segment(frame)
+        if segment is not None:
+            connections.take(segment, frame.number, frame.time, chosen is None or frame.number in chosen)
+        progress.step(frame.number)
+    progress.end()
+    taken = Taken(connections.spool, True)
+    taken.damage = recording.damage
+    taken.notes = notes_of(recording, segments)
+    for connection in connections.finish():
+        add(taken, connection, select(connection, options), options)
+    return taken
+
+
+def notes_of(recording: Recording, segments: Segments) -> list[str]:
+    notes = [note for note in (recording.cut, recording.damage) if note]
+    if segments.cut:
+        notes.append(f'{count(segments.cut, "frame")} {plural(segments.cut, "was", "were")} recorded in part only (the snap '
+                     f'length, as of `tcpdump -s`); what they lack is missing')
+    if segments.lying:
+        notes.append(f'{count(segments.lying, "frame")} {plural(segments.lying, "has", "have")} headers that do not fit '
+                     f'{plural(segments.lying, "its", "their")} length, and {plural(segments.lying, "is", "are")} passed over')
+    for link, number in segments.links.items():
+        notes.append(f'{count(number, "frame")} of the link type {link} {plural(number, "is", "are")} passed over')
+    return notes
+
+
+def add(taken: Taken, connection: Connection, selected: Selected, options: Options) -> None:
+    """Takes a connection, or says why it is left out."""
+    streams = connection.streams[selected.client], connection.streams[1 - selected.client]
+    if not any(kept.ranges for kept in selected.kept):
+        taken.left_out.append('%s and %s: %s' % (*connection.ends, why_left_out(connection, options)))
+        return
+    client, server = (TakenStream(stream.stored, stream.frames, kept.ranges) for stream, kept in zip(streams, selected.kept))
+    notes = [note for kept in selected.kept for note in kept.notes]
+    taken.connections.append(TakenConnection(len(taken.connections) + 1, connection.number, connection.ends[selected.client],
+                                             connection.ends[1 - selected.client], selected.why, client, server, notes))
+
+
+def why_left_out(connection: Connection, options: Options) -> str:
+    if connection.first_payload is None and not any(stream.gap_at_end() for stream in connection.streams):
+        return 'no payload'
+    if connection.client is None and not options.midstream:
+        return 'no SYN in the recording, so its streams may begin inside a record (--midstream takes it)'
+    if options.midstream:
+        return 'no place was found from which its records follow one another'
+    return 'its first bytes are missing from the recording'
+
+
+class Progress:
+    """How many frames were read, on standard error if that is a terminal."""
+
+    def __init__(self) -> None:
+        self.told, self.is_shown = time.monotonic(), sys.stderr.isatty()
+
+    def step(self, number: int) -> None:
+        if self.is_shown and not number % 1_000 and time.monotonic() > self.told + 0.2:
+            self.told = time.monotonic()
+            print(f'\r{number} frames', end='', file=sys.stderr, flush=True)
+
+    def end(self) -> None:
+        if self.is_shown:
+            print('\r\x1b[K', end='', file=sys.stderr, flush=True)

@@ -1,0 +1,62 @@
+"""Makes a capture out of a recording of packets, as tcpdump and Wireshark write them.
+
+    tools/from_pcap [--midstream] [--whole-records] [--filter FILTER] RECORDING OUT
+
+RECORDING is a file of pcap or pcapng, which may be gzipped, or `-` for standard input:
+
+    tcpdump -w - port 2049 | tools/from_pcap - OUT
+    xz -dc RECORDING.xz | tools/from_pcap - OUT
+
+All that is told goes to standard error: a line for each TCP connection that is taken, with the reason why one of its ends is
+taken for the client (it sent the SYN; else, with --midstream, calls come from it; else the other has the port 2049, 20048 or
+111; else it sent the first payload), and a line for each that is left out, with the reason.
+
+If bytes are missing from the recording, the stream ends before them, after its last whole record. The replies to calls that
+are missing are left out. Both are told.
+
+--midstream takes connections whose beginning was not recorded: each stream begins at the first place from which record
+follows record up to the end of the stream or to missing bytes. It does the same after missing bytes, and it leaves out a
+record at the end of a connection that goes on after the recording.
+
+FILTER is a display filter of Wireshark that is true of whole connections, as `tcp.port == 2049` or `ip.addr == 192.0.2.7`;
+it alone needs tshark (Debian's package tshark).
+
+OUT is written under a short name beside its own, `.nfs3canon-` and 16 digits, and gets its name once it is whole.
+The status is 0 if OUT was written, 1 if no connection is taken, 2 if RECORDING or FILTER is refused or tshark is missing, 3
+if a file or memory failed.
+"""
+import argparse
+import os
+import sys
+
+from .messages import add_options, ended, options_of, parser_of, tell
+from .taken import NotTaken, take
+
+NOTHING_TAKEN = 1
+
+
+def main(words: list[str]) -> int:
+    parser = parser_of(__doc__, 'from_pcap')
+    parser.add_argument('recording', metavar='RECORDING')
+    parser.add_argument('out', metavar='OUT')
+    add_options(parser)
+    parser.add_argument('--program', help=argparse.SUPPRESS)  # which packed the streams once; scripts may name it still
+    chosen = parser.parse_args(words)
+    if is_same_file(chosen.recording, chosen.out):
+        raise NotTaken('OUT is the recording')
+    with take(chosen.recording, options_of(chosen), keeps_frames=False) as taken:
+        if not taken.is_recording:
+            raise NotTaken(f'{chosen.recording} is a capture already')
+        tell(taken)
+        if not taken.connections:
+            return ended('from_pcap', 'no connection to pack', NOTHING_TAKEN)
+        taken.write_capture(chosen.out)
+    return 0
+
+
+def is_same_file(recording: str, out: str) -> bool:
+    try:
+        found = os.fstat(sys.stdin.fileno()) if recording == '-' else os.stat(recording)
+        return os.path.samestat(found, os.stat(out))
+    except (OSError, ValueError):
+        return False

@@ -1,0 +1,74 @@
+"""How the tools speak and end: messages on standard error, a status, and never a traceback."""
+import argparse
+import os
+import signal
+import sys
+import typing
+
+from .places import NoPlace
+from .programs import FilterRefused, Missing
+from .taken import NotTaken, Options, Taken
+
+REFUSED, FAILED, INTERRUPTED = 2, 3, 130
+
+
+def run(name: str, main: typing.Callable[[list[str]], int]) -> int:
+    """Runs a tool with the words of its command line, and returns its status: 2 if an input is refused, 3 if a file, a
+    device or memory fails."""
+    signal.signal(signal.SIGTERM, interrupted)
+    try:
+        status = main(sys.argv[1:])
+        sys.stdout.flush()
+        return status
+    except (NotTaken, NoPlace, Missing, FilterRefused) as refused:
+        return ended(name, str(refused), REFUSED)
+    except BrokenPipeError:
+        os.dup2(os.open(os.devnull, os.O_WRONLY), sys.stdout.fileno())
+        return FAILED
+    except OSError as failed:
+        return ended(name, f'{failed.filename}: {failed.strerror}' if failed.filename else str(failed.strerror or failed), FAILED)
+    except MemoryError:
+        return ended(name, 'out of memory', FAILED)
+    except KeyboardInterrupt:
+        return INTERRUPTED
+
+
+def interrupted(*_: object) -> None:
+    raise KeyboardInterrupt
+
+
+def ended(name: str, message: str, status: int) -> int:
+    print(f'{name}: {message}', file=sys.stderr)
+    return status
+
+
+def parser_of(text: str | None, words: str) -> argparse.ArgumentParser:
+    """A parser of command lines, whose help is the text of a module."""
+    return argparse.ArgumentParser(prog=words, description=text, formatter_class=argparse.RawDescriptionHelpFormatter)
+
+
+def add_options(parser: argparse.ArgumentParser) -> None:
+    """The options of how a recording is taken."""
+    parser.add_argument('--filter', metavar='FILTER', help='takes the connections for which a display filter of Wireshark is true')
+    parser.add_argument('--midstream', action='store_true',
+                        help='takes connections whose beginning or end was not recorded, and goes on after missing bytes')
+    parser.add_argument('--whole-records', action='store_true', help='ends each stream after its last whole record')
+
+
+def options_of(chosen: argparse.Namespace) -> Options:
+    return Options(chosen.midstream, chosen.whole_records, chosen.filter)
+
+
+def tell(taken: Taken) -> None:
+    """Prints a line for each connection that is taken or left out, and for what is missing, on standard error."""
+    lines = [*taken.notes]
+    for connection in taken.connections:
+        named = f'connection {connection.number}'
+        sizes = f'{connection.client.size} and {connection.server.size} bytes'
+        if taken.is_recording:
+            lines.append(f'{named}: {connection.client_end} and {connection.server_end}: client {connection.client_end} '
+                         f'{connection.why}, {sizes}')
+        lines += [f'{named} {note}' for note in connection.notes]
+    lines += [f'left out: {line}' for line in taken.left_out]
+    for line in lines:
+        print(line, file=sys.stderr)

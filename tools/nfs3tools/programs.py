@@ -1,0 +1,70 @@
+"""Running the built program, and tshark."""
+import contextlib
+import pathlib
+import shutil
+import subprocess
+import tempfile
+import typing
+
+TOP = pathlib.Path(__file__).resolve().parent.parent.parent
+
+
+class Missing(Exception):
+    """A program is not there; its text is the message for the user."""
+
+
+class Answer(typing.NamedTuple):
+    """What a run ended with: its status, and what it printed."""
+    status: int
+    out: str
+    error: str
+
+
+def program_path(named: str | None = None) -> str:
+    """The program: the one that is named, else that of this repository, else the one on the PATH.
+
+    Raises `Missing`.
+    """
+    built = TOP / 'crates/nfs3canon/out/nfs3canon'
+    own = str(built) if built.exists() else str(TOP / 'nfs3canon')
+    found = shutil.which(named or own) or shutil.which(named or 'nfs3canon')
+    if not found:
+        raise Missing(f'{named or "nfs3canon"} is missing')
+    return found
+
+
+def run_program(program: str, words: list[str], content: typing.Iterable[bytes] = ()) -> Answer:
+    """Runs the program with the content as its standard input, which it may leave unread."""
+    with tempfile.TemporaryFile() as out, tempfile.TemporaryFile() as error:
+        with subprocess.Popen([program, *words], bufsize=0, stdin=subprocess.PIPE, stdout=out, stderr=error) as process:
+            assert process.stdin is not None
+            with contextlib.suppress(BrokenPipeError):
+                for block in content:
+                    write_whole(process.stdin, block)
+        out.seek(0)
+        error.seek(0)
+        return Answer(process.returncode, *(file.read().decode(errors='replace') for file in (out, error)))
+
+
+def write_whole(file: typing.IO[bytes], block: bytes) -> None:
+    while block:
+        block = block[file.write(block):]
+
+
+def chosen_frames(recording: str, display_filter: str) -> set[int]:
+    """The numbers of the frames for which a display filter of Wireshark is true.
+
+    Raises `Missing` if tshark is not there, and `FilterRefused`.
+    """
+    if not shutil.which('tshark'):
+        raise Missing('tshark is missing, which --filter needs')
+    words = ['tshark', '-n', '-r', recording, '-Y', f'tcp && ({display_filter})', '-T', 'fields', '-e', 'frame.number']
+    done = subprocess.run(words, stdin=subprocess.DEVNULL, stdout=subprocess.PIPE, stderr=subprocess.PIPE, text=True, check=False)
+    complaints = [line for line in done.stderr.splitlines() if line and not line.startswith('Running as user "root"')]
+    if done.returncode not in (0, 2) or done.returncode and not done.stdout:
+        raise FilterRefused('\n'.join(complaints) or f'tshark ended with status {done.returncode}')
+    return set(map(int, done.stdout.split()))
+
+
+class FilterRefused(Exception):
+    """tshark does not take the filter or the recording; its text is what tshark said."""

@@ -1,0 +1,280 @@
+"""Recordings of packets: pcap and pcapng, also gzipped, as a run of frames."""
+import contextlib
+import struct
+import sys
+import typing
+import zlib
+
+READ_AT_ONCE = 1 << 20
+LONGEST = 1 << 24  # bytes of a frame or block; a greater length is damage, and is never allocated
+NANOSECONDS = 1_000_000_000
+
+PCAP = {b'\xd4\xc3\xb2\xa1': ('<', 1_000), b'\xa1\xb2\xc3\xd4': ('>', 1_000),
+        b'\x4d\x3c\xb2\xa1': ('<', 1), b'\xa1\xb2\x3c\x4d': ('>', 1)}
+SECTION = b'\x0a\x0d\x0d\x0a'
+GZIP = b'\x1f\x8b'
+PACKED_BY = {b'\xfd7zXZ\0': 'xz', b'\x28\xb5\x2f\xfd': 'zstd', b'BZh': 'bzip2', b'\x04\x22\x4d\x18': 'lz4'}
+SECTION_HEADER, INTERFACE, OBSOLETE_PACKET, SIMPLE_PACKET, ENHANCED_PACKET = 0x0a0d0d0a, 1, 2, 3, 6
+TIME_UNIT, TIME_OFFSET = 9, 14  # options of an interface: if_tsresol, if_tsoffset
+
+
+class NoRecording(Exception):
+    """The file is neither pcap nor pcapng."""
+
+
+class Damaged(Exception):
+    """The recording cannot be read any further."""
+
+
+class Frame(typing.NamedTuple):
+    """A frame: its number, from 1; nanoseconds since 1970, 0 if it has no time; its link type; the bytes that were
+    recorded; and how many it had on the wire, which may be more."""
+    number: int
+    time: int
+    link: int
+    data: bytes
+    length: int
+
+
+class Readable(typing.Protocol):
+    """What bytes are read from."""
+
+    def read(self, size: int, /) -> bytes:
+        """Returns `size` bytes, or fewer; none at the end."""
+
+
+class Inflated:
+    """The bytes of a gzipped file, decompressed block by block. What stands before damage is read."""
+
+    def __init__(self, file: Readable, begun: bytes):
+        self.file, self.packed, self.inflate = file, begun, zlib.decompressobj(31)
+
+    def read(self, size: int, /) -> bytes:
+        while True:
+            self.packed = self.packed or self.file.read(READ_AT_ONCE)
+            if self.inflate.eof:
+                if not self.packed.startswith(GZIP):
+                    return b''
+                self.inflate = zlib.decompressobj(31)
+            if not self.packed:
+                raise Damaged('the compressed file is cut short')
+            try:
+                content = self.inflate.decompress(self.packed, size)
+            except zlib.error as error:
+                raise Damaged(f'the compressed file is damaged: {error}') from error
+            self.packed = self.inflate.unused_data if self.inflate.eof else self.inflate.unconsumed_tail
+            if content:
+                return content
+
+
+class Source:
+    """Bytes that are taken from the front, in pieces of any size. `at` counts those that were taken."""
+
+    def __init__(self, file: Readable):
+        self.file, self.block, self.begin, self.before = file, b'', 0, 0
+        magic = self.peek(6)
+        if magic.startswith(GZIP):
+            self.file, self.block, self.begin = Inflated(file, self.block), b'', 0
+
+    @property
+    def at(self) -> int:
+        return self.before + self.begin
+
+    def peek(self, size: int) -> bytes:
+        """Returns the next bytes without taking them: `size`, or fewer at the end."""
+        if self.begin + size > len(self.block):
+            self.fill(size)
+        return self.block[self.begin:self.begin + size]
+
+    def take(self, size: int) -> bytes:
+        """Takes the next bytes: `size`, or fewer at the end."""
+        end = self.begin + size
+        if end > len(self.block):
+            self.fill(size)
+            end = min(size, len(self.block))
+        piece = self.block[self.begin:end]
+        self.begin = end
+        return piece
+
+    def fill(self, size: int) -> None:
+        """Reads until `size` bytes are there, or the file ends."""
+        self.before += self.begin
+        parts, there = [self.block[self.begin:]], len(self.block) - self.begin
+        while there < size and (more := self.file.read(READ_AT_ONCE)):
+            parts.append(more)
+            there += len(more)
+        self.block, self.begin = b''.join(parts), 0
+
+
+class Interface(typing.NamedTuple):
+    """An interface of pcapng: its link type, the bytes kept of a frame (0 for all), and its unit and offset of time."""
+    link: int
+    kept: int
+    units: int
+    offset: int
+
+    def time(self, high: int, low: int) -> int:
+        return (high << 32 | low) * NANOSECONDS // self.units + self.offset
+
+
+class Recording:
+    """The frames of a recording. After they were iterated over, `cut` or `damage` says how it ended, if not as a whole."""
+
+    def __init__(self, source: Source):
+        self.source = source
+        self.cut: str | None = None
+        self.damage: str | None = None
+        self.count = 0
+        self.magic = self.source.peek(6)
+        if self.magic[:4] not in PCAP and self.magic[:4] != SECTION:
+            raise NoRecording(named(self.magic))
+
+    def frames(self) -> typing.Iterator[Frame]:
+        """Iterates over the frames, up to the end or to the first damage."""
+        try:
+            yield from self.of_pcap() if self.magic[:4] in PCAP else self.of_pcapng()
+        except Damaged as damaged:
+            self.damage = f'the recording is damaged after frame {self.count}: {damaged}'
+
+    def piece(self, size: int) -> bytes | None:
+        """Takes exactly so many bytes, or notes that the recording is cut short."""
+        piece = self.source.take(size)
+        if len(piece) < size:
+            self.cut = f'the recording is cut short in the middle of frame {self.count + 1}'
+            return None
+        return piece
+
+    # --- pcap ---
+
+    def of_pcap(self) -> typing.Iterator[Frame]:
+        order, scale = PCAP[self.magic[:4]]
+        header, fields = self.source.take(24), struct.Struct(order + '4I')
+        if len(header) < 24:
+            raise Damaged('its header is cut short')
+        link = struct.unpack_from(order + 'I', header, 20)[0] & 0xffff
+        while self.source.peek(1):
+            head = self.piece(16)
+            if head is None:
+                return
+            seconds, fraction, kept, length = fields.unpack(head)
+            if kept > LONGEST:
+                raise Damaged(f'frame {self.count + 1} claims {kept} bytes')
+            data = self.piece(kept)
+            if data is None:
+                return
+            self.count += 1
+            yield Frame(self.count, seconds * NANOSECONDS + fraction * scale, link, data, max(length, kept))
+
+    # --- pcapng ---
+
+    def of_pcapng(self) -> typing.Iterator[Frame]:
+        order, interfaces = '<', list[Interface]()
+        while head := self.source.peek(12):
+            if head.startswith(SECTION):
+                order, interfaces = order_of(head), []
+            body = self.block(order, head)
+            if body is None:
+                return
+            kind = struct.unpack_from(order + 'I', head)[0]
+            if kind == INTERFACE:
+                interfaces.append(interface_of(order, body))
+            elif kind in PACKETS:
+                frame = PACKETS[kind](order, body, interfaces, self.count + 1)
+                self.count += 1
+                yield frame
+
+    def block(self, order: str, head: bytes) -> bytes | None:
+        """Takes a block, and gives its body, or None if the recording is cut short in it."""
+        if len(head) < 12:
+            return self.piece(12)
+        kind, size = struct.unpack_from(order + '2I', head)
+        if size % 4 or size < (28 if kind == SECTION_HEADER else 12) or size > LONGEST + 4_096:
+            raise Damaged(f'a block claims {size} bytes, at byte {self.source.at}')
+        block = self.piece(size)
+        if block and struct.unpack_from(order + 'I', block, size - 4)[0] != size:
+            raise Damaged(f'the two lengths of a block differ, at byte {self.source.at - size}')
+        return block and block[8:-4]
+
+
+def named(magic: bytes) -> str:
+    """What is said of a file that is no recording."""
+    for begin, packer in PACKED_BY.items():
+        if magic.startswith(begin):
+            return f'it is compressed by {packer}: decompress it first, as in `{packer} -dc FILE | tools/from_pcap - OUT`'
+    return 'it is neither pcap nor pcapng' if magic else 'it is empty'
+
+
+def order_of(head: bytes) -> str:
+    """The byte order of a section."""
+    orders = {b'\x4d\x3c\x2b\x1a': '<', b'\x1a\x2b\x3c\x4d': '>'}
+    if len(head) == 12 and head[8:] not in orders:
+        raise Damaged('the byte order of a section is not told')
+    return orders.get(head[8:], '<')
+
+
+def fields_of(order: str, layout: str, body: bytes) -> tuple[int, ...]:
+    if len(body) < struct.calcsize(order + layout):
+        raise Damaged('a block is too short')
+    return struct.unpack_from(order + layout, body)
+
+
+def interface_of(order: str, body: bytes) -> Interface:
+    link, _, kept = fields_of(order, 'HHI', body)
+    units, offset, at = 1_000_000, 0, 8
+    while at + 4 <= len(body):
+        code, size = struct.unpack_from(order + 'HH', body, at)
+        value = body[at + 4:at + 4 + size]
+        if code == 0:
+            break
+        if code == TIME_UNIT and len(value) == 1:
+            units = 1 << (value[0] & 0x7f) if value[0] & 0x80 else 10 ** value[0]
+        if code == TIME_OFFSET and len(value) == 8:
+            offset = struct.unpack(order + 'q', value)[0] * NANOSECONDS
+        at += 4 + size + -size % 4
+    return Interface(link, kept, units, offset)
+
+
+def interface_at(interfaces: list[Interface], index: int) -> Interface:
+    if index >= len(interfaces):
+        raise Damaged(f'a frame of interface {index}, of which nothing is told')
+    return interfaces[index]
+
+
+def packet(number: int, time: int, link: int, content: bytes, kept: int, length: int) -> Frame:
+    if kept > len(content):
+        raise Damaged(f'frame {number} claims {kept} bytes, which its block does not have')
+    return Frame(number, time, link, content[:kept], max(length, kept))
+
+
+def enhanced(order: str, body: bytes, interfaces: list[Interface], number: int) -> Frame:
+    index, high, low, kept, length = fields_of(order, '5I', body)
+    interface = interface_at(interfaces, index)
+    return packet(number, interface.time(high, low), interface.link, body[20:], kept, length)
+
+
+def obsolete(order: str, body: bytes, interfaces: list[Interface], number: int) -> Frame:
+    index, _, high, low, kept, length = fields_of(order, 'HH4I', body)
+    interface = interface_at(interfaces, index)
+    return packet(number, interface.time(high, low), interface.link, body[20:], kept, length)
+
+
+def simple(order: str, body: bytes, interfaces: list[Interface], number: int) -> Frame:
+    """A frame of the first interface, without a time. What was kept of it is not told but by the interface."""
+    length, = fields_of(order, 'I', body)
+    interface = interface_at(interfaces, 0)
+    kept = min(length, interface.kept or length, len(body) - 4)
+    return packet(number, 0, interface.link, body[4:], kept, length)
+
+
+Packet = typing.Callable[[str, bytes, list[Interface], int], Frame]
+PACKETS: dict[int, Packet] = {ENHANCED_PACKET: enhanced, OBSOLETE_PACKET: obsolete, SIMPLE_PACKET: simple}
+
+
+@contextlib.contextmanager
+def opened(path: str) -> typing.Iterator[typing.IO[bytes]]:
+    """Opens a file to read, or standard input for `-`."""
+    if path == '-':
+        yield sys.stdin.buffer
+        return
+    with open(path, 'rb', buffering=0) as file:
+        yield file

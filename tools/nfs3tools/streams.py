@@ -1,0 +1,364 @@
+"""Streams of TCP, put together from segments."""
+import array
+import bisect
+import os
+import tempfile
+import typing
+
+from .segments import ACK, FIN, RST, SYN, Segment, ends_of, turned
+
+WRITTEN_AT_ONCE = 1 << 16
+UNWRITTEN_AT_MOST = 16 << 20  # bytes of all streams together that are not in the temporary file yet
+HELD_AT_MOST = 8 << 20  # bytes of a stream behind a gap; then the bytes of the gap count as lost
+HELD_BY_ALL = 64 << 20  # the same of all streams together
+COST_OF_PIECE = 128  # bytes that a piece held back takes besides its own
+
+
+class Spool:
+    """The temporary file in which streams stand. It is made when the first bytes are written."""
+
+    def __init__(self) -> None:
+        self.file: typing.IO[bytes] | None = None
+        self.size = self.unwritten = 0
+        self.stored: list['Stored'] = []
+
+    def append(self, piece: bytes | bytearray) -> int:
+        """Writes a piece, and gives where it stands."""
+        if self.file is None:
+            self.file = tempfile.TemporaryFile(prefix='nfs3canon', buffering=0)
+        begin, done = self.size, 0
+        self.size += len(piece)
+        while done < len(piece):
+            done += self.file.write(piece[done:] if done else piece)
+        return begin
+
+    def read(self, begin: int, size: int) -> bytes:
+        return os.pread(self.file.fileno(), size, begin) if self.file else b''
+
+    def spare(self) -> None:
+        """Writes what all streams hold in memory, if it is much."""
+        if self.unwritten > UNWRITTEN_AT_MOST:
+            for stored in self.stored:
+                stored.write()
+
+    def close(self) -> None:
+        if self.file:
+            self.file.close()
+
+
+class Stored:
+    """Bytes to which more are appended: short ones stay in memory, the others go to the spool."""
+
+    def __init__(self, spool: Spool):
+        self.spool, self.size = spool, 0
+        self.written = 0
+        self.begins, self.places = array.array('Q'), array.array('Q')  # of each part that was written
+        self.unwritten = bytearray()
+        spool.stored.append(self)
+
+    def append(self, piece: bytes) -> None:
+        self.unwritten += piece
+        self.size += len(piece)
+        self.spool.unwritten += len(piece)
+        if len(self.unwritten) >= WRITTEN_AT_ONCE:
+            self.write()
+        elif self.spool.unwritten > UNWRITTEN_AT_MOST:
+            self.spool.spare()
+
+    def write(self) -> None:
+        """Moves the bytes that are in memory to the spool."""
+        if self.unwritten:
+            self.begins.append(self.written)
+            self.places.append(self.spool.append(self.unwritten))
+            self.written = self.size
+            self.spool.unwritten -= len(self.unwritten)
+            self.unwritten = bytearray()
+
+    def read(self, begin: int, size: int) -> bytes:
+        """Returns the bytes from `begin` on: `size` of them, or fewer at the end."""
+        end, pieces = min(begin + size, self.size), []
+        part = bisect.bisect_right(self.begins, begin) - 1
+        while begin < min(end, self.written):
+            part_end = self.begins[part + 1] if part + 1 < len(self.begins) else self.written
+            piece = self.spool.read(self.places[part] + begin - self.begins[part], min(end, part_end) - begin)
+            if not piece:
+                raise OSError('the temporary file is shorter than it was')
+            pieces.append(piece)
+            begin += len(piece)
+            part += begin == part_end
+        if begin < end:
+            pieces.append(bytes(self.unwritten[begin - self.written:end - self.written]))
+        return pieces[0] if len(pieces) == 1 else b''.join(pieces)
+
+
+class Budget:
+    """The bytes that all streams together hold back."""
+
+    def __init__(self) -> None:
+        self.held = 0
+
+
+class Gap(typing.NamedTuple):
+    """Bytes that are missing: after how many bytes of the stream, how many, and the frame that shows it."""
+    position: int
+    size: int
+    frame: int
+
+
+class Run(typing.NamedTuple):
+    """Bytes without a gap, up to the next run: where they begin among the stored bytes, and the gap before them."""
+    begin: int
+    gap: Gap | None
+
+
+class Frames:
+    """Which frame brought which of the stored bytes."""
+
+    def __init__(self) -> None:
+        self.begins, self.numbers, self.times = array.array('Q'), array.array('Q'), array.array('q')
+
+    def append(self, begin: int, number: int, time: int) -> None:
+        self.begins.append(begin)
+        self.numbers.append(number)
+        self.times.append(time)
+
+
+class Held:
+    """Pieces behind a gap, in order, none of which overlap. Of bytes that came twice the first are held."""
+
+    def __init__(self) -> None:
+        self.begins: list[int] = []
+        self.pieces: list[tuple[bytes, int, int]] = []  # with the number and the time of the frame
+        self.cost = 0
+
+    def add(self, begin: int, piece: bytes, number: int, time: int) -> bool:
+        """Holds what is new of a piece. False if it differs from what is held."""
+        agrees, at = True, max(0, bisect.bisect_right(self.begins, begin) - 1)
+        end = begin + len(piece)
+        while begin < end:
+            there_begin = self.begins[at] if at < len(self.begins) else end
+            there = self.pieces[at][0] if at < len(self.begins) else b''
+            there_end = there_begin + len(there)
+            if there_begin > begin:
+                fresh = piece[len(piece) - (end - begin):len(piece) - (end - min(end, there_begin))]
+                self.insert(at, begin, fresh, number, time)
+                begin += len(fresh)
+            elif there_end > begin:
+                shared = min(end, there_end)
+                old = there[begin - there_begin:shared - there_begin]
+                agrees &= old == piece[len(piece) - (end - begin):len(piece) - (end - shared)]
+                begin = shared
+            at += 1
+        return agrees
+
+    def insert(self, at: int, begin: int, piece: bytes, number: int, time: int) -> None:
+        self.begins.insert(at, begin)
+        self.pieces.insert(at, (piece, number, time))
+        self.cost += len(piece) + COST_OF_PIECE
+
+    def pop_up_to(self, position: int) -> list[tuple[int, bytes, int, int]]:
+        """Takes the pieces that follow one another from the position on, or begin before it."""
+        count = 0
+        while count < len(self.begins) and self.begins[count] <= position:
+            position = max(position, self.begins[count] + len(self.pieces[count][0]))
+            count += 1
+        taken = [(begin, *piece) for begin, piece in zip(self.begins[:count], self.pieces[:count])]
+        del self.begins[:count], self.pieces[:count]
+        self.cost -= sum(len(piece) + COST_OF_PIECE for _, piece, _, _ in taken)
+        return taken
+
+
+class Stream:
+    """The bytes that one end sends, in order. Positions count the bytes from the first one on."""
+
+    def __init__(self, spool: Spool, budget: Budget, frames: Frames | None):
+        self.stored, self.budget, self.frames = Stored(spool), budget, frames
+        self.first: int | None = None  # the sequence number of position 0
+        self.is_begin = False  # position 0 is the first byte that was sent
+        self.next = 0  # the position after the last byte in order
+        self.runs: list[Run] = []
+        self.held = Held()
+        self.end: int | None = None  # the position of FIN
+        self.known_end, self.known_by = 0, 0  # bytes were sent up to there, which a frame shows
+        self.conflicts, self.conflict = 0, 0  # frames that repeat bytes with other content, and the first of them
+
+    def position(self, sequence: int) -> int:
+        """The position of a sequence number, which wraps."""
+        beyond = (sequence - (self.first or 0) - self.next) & 0xffffffff
+        return self.next + beyond - (beyond >> 31 << 32)
+
+    def begins_at(self, sequence: int) -> None:
+        """The sequence number of the first byte is known."""
+        if self.first is None:
+            self.first, self.is_begin = sequence & 0xffffffff, True
+
+    def shows(self, end: int, number: int) -> None:
+        """A frame shows that bytes were sent up to a position."""
+        if end > self.known_end:
+            self.known_end, self.known_by = end, number
+
+    def ends_at(self, end: int, number: int) -> None:
+        """The position of the end is known, unless bytes beyond it were sent."""
+        self.shows(end, number)
+        if self.end is None and end >= self.next:
+            self.end = end
+
+    def take(self, sequence: int, payload: bytes, missing: int, number: int, time: int) -> None:
+        """Takes the payload of a segment, of which some bytes at the end may be missing."""
+        if self.first is None:
+            self.first = sequence
+        position = self.position(sequence)
+        if self.end is not None and position + len(payload) > self.end:
+            payload = payload[:max(0, self.end - position)]
+        if missing:
+            self.shows(position + len(payload) + missing, number)
+        if position == self.next and not self.held.begins:
+            self.append(payload, number, time)
+        elif position > self.next:
+            self.hold(position, payload, number, time)
+        elif payload:
+            self.take_late(position, payload, number, time)
+
+    def append(self, payload: bytes, number: int, time: int) -> None:
+        if payload:
+            if not self.runs:
+                self.runs.append(Run(0, None))
+            if self.frames is not None:
+                self.frames.append(self.stored.size, number, time)
+            self.stored.append(payload)
+            self.next += len(payload)
+
+    def hold(self, position: int, payload: bytes, number: int, time: int) -> None:
+        cost = self.held.cost
+        if payload and not self.held.add(position, payload, number, time):
+            self.differs(number)
+        self.budget.held += self.held.cost - cost
+        if self.held.cost > HELD_AT_MOST or self.budget.held > HELD_BY_ALL and self.held.begins:
+            self.give_up_gap()
+
+    def take_late(self, position: int, payload: bytes, number: int, time: int) -> None:
+        """Takes what is new of a segment that begins before the next position or at it."""
+        old = payload[:self.next - position]
+        is_keep_alive = len(payload) == 1 and position == self.next - 1
+        if old and not is_keep_alive and position >= 0 and self.bytes_at(position, len(old)) not in (None, old):
+            self.differs(number)
+        if len(payload) > len(old):
+            begin, cost = self.next, self.held.cost
+            if not self.held.add(begin, payload[len(old):], number, time):
+                self.differs(number)
+            self.budget.held += self.held.cost - cost
+            self.drain()
+
+    def bytes_at(self, position: int, size: int) -> bytes | None:
+        """The bytes of positions that were taken, unless a gap is before them."""
+        return self.stored.read(position, size) if len(self.runs) == 1 and not self.runs[0].gap else None
+
+    def differs(self, number: int) -> None:
+        self.conflict = self.conflict or number
+        self.conflicts += 1
+
+    def drain(self) -> None:
+        """Appends the pieces held back whose turn it is."""
+        cost = self.held.cost
+        for _, piece, number, time in self.held.pop_up_to(self.next):
+            self.append(piece, number, time)
+        self.budget.held += self.held.cost - cost
+
+    def give_up_gap(self) -> None:
+        """Goes on after the bytes that are missing."""
+        begin = self.held.begins[0]
+        self.runs.append(Run(self.stored.size, Gap(self.next, begin - self.next, self.held.pieces[0][1])))
+        self.next = begin
+        self.drain()
+
+    def finish(self) -> None:
+        """Nothing comes after this."""
+        while self.held.begins:
+            self.give_up_gap()
+        if self.end is not None:
+            self.known_end = min(self.known_end, self.end)
+
+    def gap_at_end(self) -> Gap | None:
+        """The bytes that are missing after the last one."""
+        is_end_acknowledged = self.end is None and self.known_end == self.next + 1
+        if self.known_end <= self.next or is_end_acknowledged:
+            return None
+        return Gap(self.next, self.known_end - self.next, self.known_by)
+
+
+class Connection:
+    """Two ends, 0 the one that sent the first segment, each with its stream."""
+
+    def __init__(self, number: int, key: bytes, spool: Spool, budget: Budget, keeps_frames: bool):
+        self.number = number  # as Wireshark counts tcp.stream, from 0
+        self.ends = ends_of(key)
+        self.client: int | None = None  # the end that sent SYN
+        self.first_payload: int | None = None  # the end that sent payload first
+        self.is_closed = self.is_chosen = False
+        self.streams = [Stream(spool, budget, Frames() if keeps_frames else None) for _ in range(2)]
+
+    def is_other(self, side: int, segment: Segment) -> bool:
+        """Whether a segment begins another connection of the same ends."""
+        first = self.streams[side].first
+        if not segment.flags & SYN or first is None:
+            return False
+        return first != (segment.sequence + 1) & 0xffffffff or self.is_closed and not segment.flags & ACK
+
+    def take(self, side: int, segment: Segment, number: int, time: int) -> None:
+        flags, sequence = segment.flags, segment.sequence
+        own, other = self.streams[side], self.streams[1 - side]
+        if flags & RST:
+            self.is_closed = True
+            return
+        if flags & SYN:
+            self.client = 1 - side if flags & ACK else side
+            own.begins_at(sequence + 1)
+            sequence += 1
+        if flags & ACK:
+            self.acknowledge(other, segment, bool(flags & SYN) or own.is_begin and sequence == own.first, number)
+        if segment.payload or segment.missing:
+            self.first_payload = side if self.first_payload is None else self.first_payload
+            own.take(sequence, segment.payload, segment.missing, number, time)
+        if flags & FIN and own.first is not None:
+            self.is_closed = True
+            own.ends_at(own.position(sequence) + len(segment.payload) + segment.missing, number)
+
+    def acknowledge(self, other: Stream, segment: Segment, is_first: bool, number: int) -> None:
+        """Takes what an end says that it received. The first time this tells where the other's stream begins."""
+        if is_first and self.client is not None:
+            other.begins_at(segment.acknowledged)
+        if other.first is not None:
+            other.shows(other.position(segment.acknowledged), number)
+
+
+class Connections:
+    """The connections of a recording, in the order of their first segments."""
+
+    def __init__(self, keeps_frames: bool):
+        self.spool, self.budget, self.keeps_frames = Spool(), Budget(), keeps_frames
+        self.all: list[Connection] = []
+        self.sides: dict[bytes, tuple[Connection, int]] = {}
+
+    def take(self, segment: Segment, number: int, time: int, is_chosen: bool) -> None:
+        """Takes a segment. One that is not chosen only counts as one of its connection."""
+        found = self.sides.get(segment.key)
+        if found is None or found[0].is_other(found[1], segment):
+            found = self.begin(segment.key), 0
+        if is_chosen:
+            found[0].is_chosen = True
+            found[0].take(found[1], segment, number, time)
+
+    def begin(self, key: bytes) -> Connection:
+        connection = Connection(len(self.all), key, self.spool, self.budget, self.keeps_frames)
+        self.all.append(connection)
+        self.sides[turned(key)] = connection, 1
+        self.sides[key] = connection, 0
+        return connection
+
+    def finish(self) -> list[Connection]:
+        """The connections of which a segment was chosen. Nothing is taken after this."""
+        chosen = [connection for connection in self.all if connection.is_chosen]
+        for connection in chosen:
+            connection.streams[0].finish()
+            connection.streams[1].finish()
+        return chosen
