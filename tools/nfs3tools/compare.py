@@ -23,16 +23,17 @@ from .classes import CLASSES, Mask, default_mask, mask_of, told
 from .comparing import Compared, Run, compare
 from .listings import Message
 from .masking import Bodies, masked
+from .messages import FAILED, REFUSED, add_options, options_of, parser_of, tell
 from .places import Place, parse_fault
-from .taken import NotTaken, Options, Taken, take
+from .programs import program_path, run_program
+from .taken import Taken, take
 
-BUILT = Path(__file__).resolve().parents[2] / 'crates/nfs3canon/out/nfs3canon'
-SAME, DIFFERENT, REFUSED, FAILED = range(4)
+SAME, DIFFERENT = range(2)
 FINDINGS_AT_MOST = 20
 
 
 class Ended(Exception):
-    """The comparison cannot go on: the status, and what to print."""
+    """The comparison cannot go on; its text is the message for the user."""
 
     def __init__(self, status: int, text: str) -> None:
         super().__init__(text)
@@ -40,43 +41,33 @@ class Ended(Exception):
 
 
 def classes_told() -> str:
+    """The classes of values, those masked by default with a star."""
     rows = [f'  {one.name + ("*" if one.is_default else ""):<13} {one.way.value:<7} {one.meaning}' for one in CLASSES]
     return '\n'.join(['classes of values:', *rows])
 
 
 def words_of(words: list[str]) -> argparse.Namespace:
-    parser = argparse.ArgumentParser(prog='compare', description=__doc__, epilog=classes_told(),
-                                     formatter_class=argparse.RawDescriptionHelpFormatter)
-    parser.add_argument('--mask', type=mask_of, default=default_mask(), metavar='CLASS,..')
-    parser.add_argument('--all', action='store_true', help=f'print all findings, not the first {FINDINGS_AT_MOST}')
-    parser.add_argument('--html', metavar='FILE', help='write a page with both runs side by side')
-    parser.add_argument('--midstream', action='store_true', help='as of from_pcap')
-    parser.add_argument('--whole-records', action='store_true', help='as of from_pcap')
-    parser.add_argument('--filter', help='as of from_pcap')
-    parser.add_argument('--program', default=str(BUILT), help='the program, if it is not the one that was built here')
+    parser = parser_of(__doc__, 'compare')
+    parser.epilog = classes_told()
+    parser.add_argument('--mask', type=mask_of, default=default_mask(), metavar='CLASS,..', help='the classes of values to mask')
+    parser.add_argument('--all', action='store_true', help=f'prints all findings, not the first {FINDINGS_AT_MOST}')
+    parser.add_argument('--html', metavar='FILE', help='writes a page with both runs side by side')
+    add_options(parser)
+    parser.add_argument('--program', help='the program, if it is not the one of this folder')
     parser.add_argument('first', metavar='A')
     parser.add_argument('second', metavar='B')
     return parser.parse_args(words)
 
 
-def ran(program: str, *words: str) -> subprocess.CompletedProcess[str]:
-    try:
-        return subprocess.run([program, *words], stdout=subprocess.PIPE, stderr=subprocess.PIPE, text=True)
-    except OSError as error:
-        raise Ended(FAILED, f'{program}: {error.strerror}') from error
-
-
 def checked(program: str, taken: Taken, capture: str, name: str) -> None:
     """Ends with the fault, and its frame, if the capture is refused."""
-    done = ran(program, 'check', capture)
-    if done.returncode == 0:
+    answer = run_program(program, ['check', capture])
+    if answer.status == 0:
         return
-    line = done.stderr.strip()
+    line = answer.error.strip()
     fault = parse_fault(line)
-    frames = ''
-    if fault and isinstance(fault.place, Place) and taken.has_frames:
-        frames = ''.join(f' (frame {frame.number})' for frame in taken.frames(fault.place)[:1])
-    raise Ended(REFUSED if done.returncode == 2 else FAILED, f'{name}: {line}{frames}')
+    frames = taken.frames(fault.place)[:1] if fault and isinstance(fault.place, Place) else []
+    raise Ended(REFUSED if answer.status == 2 else FAILED, f'{name}: {line}' + ''.join(f' (frame {frame.number})' for frame in frames))
 
 
 def bodies_of(taken: Taken) -> Iterator[Bodies]:
@@ -85,7 +76,7 @@ def bodies_of(taken: Taken) -> Iterator[Bodies]:
 
 
 def verdict_of(program: str, folder: Path, runs: list[Taken], mask: Mask) -> str:
-    """What `same` says of the masked captures."""
+    """Returns what `same` says of the masked captures."""
     names = []
     for number, taken in enumerate(runs):
         path = folder / f'masked{number}'
@@ -93,10 +84,10 @@ def verdict_of(program: str, folder: Path, runs: list[Taken], mask: Mask) -> str
             for piece in masked(bodies_of(taken), mask):
                 file.write(piece)
         names.append(str(path))
-    done = ran(program, 'same', *names)
-    if done.returncode > 1:
-        raise Ended(FAILED, f'same: {done.stderr.strip()}')
-    return done.stdout.strip()
+    answer = run_program(program, ['same', *names])
+    if answer.status > DIFFERENT:
+        raise Ended(FAILED, f'same: {answer.error.strip()}')
+    return answer.out.strip()
 
 
 def listing_of(program: str, capture: str) -> Iterator[str]:
@@ -107,8 +98,6 @@ def listing_of(program: str, capture: str) -> Iterator[str]:
 
 def run_of(program: str, taken: Taken, capture: str, name: str) -> Run:
     def frames(message: Message) -> list[int]:
-        if not taken.has_frames:
-            return []
         place = Place(message.connection, 'client' if message.is_call else 'server', message.record)
         return [frame.number for frame in taken.frames(place)]
     return Run(name, listing_of(program, capture), frames)
@@ -121,22 +110,22 @@ def write_page(path: str, compared: Compared, first: Run, second: Run, verdict: 
 
 
 def compared_runs(words: argparse.Namespace, stack: ExitStack) -> int:
-    options = Options(words.midstream, words.whole_records, words.filter)
+    program = program_path(words.program)
     folder = Path(stack.enter_context(tempfile.TemporaryDirectory(prefix='nfs3canon')))
     names = [words.first, words.second]
-    runs = [stack.enter_context(take(name, options)) for name in names]
+    runs = [stack.enter_context(take(name, options_of(words))) for name in names]
     captures = [str(folder / letter) for letter in 'ab']
     for taken, capture, name in zip(runs, captures, names):
         taken.write_capture(capture)
-        for note in [*taken.notes, *taken.left_out]:
-            print(f'{name}: {note}', file=sys.stderr)
-        checked(words.program, taken, capture, name)
+        if taken.left_out or taken.notes or any(connection.notes for connection in taken.connections):
+            tell(taken)
+        checked(program, taken, capture, name)
     print(f'masked: {told(words.mask)}', flush=True)
-    verdict = verdict_of(words.program, folder, runs, words.mask)
+    verdict = verdict_of(program, folder, runs, words.mask)
     print(verdict, flush=True)
     if verdict == 'same' and not words.html:
         return SAME
-    first, second = (run_of(words.program, taken, capture, name) for taken, capture, name in zip(runs, captures, names))
+    first, second = (run_of(program, taken, capture, name) for taken, capture, name in zip(runs, captures, names))
     compared = compare(first, second, words.mask)
     if words.html:
         write_page(words.html, compared, first, second, verdict, told(words.mask))
@@ -154,9 +143,3 @@ def main(words: list[str]) -> int:
         except Ended as end:
             print(end, file=sys.stderr)
             return end.status
-        except NotTaken as error:
-            print(error, file=sys.stderr)
-            return REFUSED
-        except OSError as error:
-            print(f'{error.filename or "compare"}: {error.strerror}', file=sys.stderr)
-            return FAILED

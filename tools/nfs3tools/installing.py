@@ -12,7 +12,6 @@ Under the prefix there are
 import argparse
 import hashlib
 import shutil
-import sys
 import tarfile
 import tempfile
 from collections.abc import Iterator
@@ -100,27 +99,16 @@ def words_of(words: list[str], name: str, what: str, target: str, default: str) 
     return parser.parse_args(words)
 
 
-def failed(error: OSError) -> int:
-    print(f'{error.filename or "failed"}: {error.strerror}', file=sys.stderr)
-    return 3
-
-
 def main_of_install(words: list[str]) -> int:
-    """tools/install [PREFIX]"""
-    asked = words_of(words, 'install', 'Installs nfs3canon and its tools.', 'PREFIX', str(Path.home() / '.local'))
-    try:
-        install(asked.target, asked.program)
-    except OSError as error:
-        return failed(error)
+    asked = words_of(words, 'install', 'Puts the program, the tools, manual pages and completions under PREFIX.', 'PREFIX',
+                     str(Path.home() / '.local'))
+    install(asked.target, asked.program)
     print(f'installed nfs3canon {version()} under {asked.target}')
     return 0
 
 
 def main_of_release(words: list[str]) -> int:
-    """tools/release [FOLDER]"""
-    asked = words_of(words, 'release', 'Makes the tar file of a release: unpack it under a prefix.', 'FOLDER', '.')
-    try:
-        print(release(asked.target, asked.program))
-    except OSError as error:
-        return failed(error)
+    asked = words_of(words, 'release', 'Makes the tar file of a release, and its checksum, in FOLDER. Unpack it, and copy what '
+                     'is in it under a prefix.', 'FOLDER', '.')
+    print(release(asked.target, asked.program))
     return 0
