@@ -1,0 +1,334 @@
+#!/usr/bin/env python3
+"""Tests of tools/compare: on the example recordings, and on made runs of which it is known how they differ.
+
+    python3 tests/compare.py [PROGRAM] [--only TEXT] [-v]
+
+PROGRAM is crates/nfs3canon/out/nfs3canon if none is named. The last line is 'N passed, M failed', and the status is 1 if any
+failed.
+"""
+import os
+import pathlib
+import random
+import re
+import sys
+import tempfile
+from collections.abc import Callable
+from html.parser import HTMLParser
+
+from captures import Runs
+from running import try_all, words_of
+from traffic import NFS, NFSACL, Names, Traffic, auth_sys, call, dirop, fattr, fh, hyper, messages, ok, post_op_attr, success, wcc, word
+
+TOP = pathlib.Path(__file__).resolve().parent.parent
+sys.path.insert(0, str(TOP / 'tools'))
+from nfs3tools.classes import CLASSES, Way, default_mask, mask_of, told  # noqa: E402
+from nfs3tools.matching import aligned, increasing, matched  # noqa: E402
+
+Conversation = tuple[list[bytes], list[bytes]]
+
+
+class Comparisons(Runs):
+    """A folder, and runs of tools/compare there."""
+
+    def compare(self, *words: str) -> tuple[int, list[str], str]:
+        kept, self.program = self.program, str(TOP / 'tools/compare')
+        try:
+            status, out, error = self.run('--program', kept, *words)
+        finally:
+            self.program = kept
+        return status, out.splitlines(), error
+
+    def put(self, name: str, *connections: Conversation) -> None:
+        self.write(name, messages.capture(*connections))
+
+    def wants(self, what: str, status: int, lines: list[str], *words: str) -> None:
+        """Two captures, `a` and `b`, are compared with this status, and these lines are printed after the first two."""
+        found, out, error = self.compare(*words, 'a', 'b')
+        self.want(what, (found, out[2:], error), (status, lines, ''))
+
+
+# --- Matching ---
+
+def sequences_brought_together(place: Comparisons) -> None:
+    """Pairs are equal, increase on both sides, and are all that a longest common part has if every element is there once."""
+    chance = random.Random(5)
+    for _ in range(300):
+        first = [chance.randrange(6) for _ in range(chance.randrange(30))]
+        second = [chance.randrange(6) for _ in range(chance.randrange(30))]
+        pairs = aligned(first, second)
+        place.want('equal', [first[at] == second[to] for at, to in pairs], [True] * len(pairs))
+        place.want('in order', pairs, sorted(set(pairs)))
+        place.want('each once', len({to for _, to in pairs}), len(pairs))
+        place.want('seconds in order', [to for _, to in pairs], sorted(to for _, to in pairs))
+    some = list(range(40))
+    chance.shuffle(some)
+    place.want('all of equal ones', aligned(some, some), [(at, at) for at in range(40)])
+    place.want('one more', aligned(some, some[:20] + [99] + some[20:]), [(at, at + (at >= 20)) for at in range(40)])
+    place.want('increasing', increasing(list(enumerate([3, 1, 2, 5, 4]))), [(1, 1), (2, 2), (4, 4)])
+
+
+def elements_that_differ(place: Comparisons) -> None:
+    """Equal ones first, then those of one coarser key, then those that have changed their turn."""
+    def keys(*words: str) -> list[tuple[str, str]]:
+        return [(word, word[0]) for word in words]
+    found = matched(keys('a1', 'b1', 'c1', 'd1'), keys('a1', 'b2', 'd1', 'e1', 'c1'))
+    place.want('matched', (found.equal, found.changed, found.moved, found.only_first, found.only_second),
+               ([(0, 0), (3, 2)], [(1, 1)], [(2, 4)], [], [3]))
+    found = matched(keys('a1'), keys())
+    place.want('nothing there', (found.equal, found.only_first, found.only_second), ([], [0], []))
+
+
+# --- Masks ---
+
+def words_of_masks(place: Comparisons) -> None:
+    place.want('default', mask_of('+times'), {**default_mask(), 'times': Way.ZERO})
+    place.want('none', mask_of('none'), {})
+    place.want('some', mask_of('times,ids'), {'times': Way.ZERO, 'ids': Way.NUMBER})
+    place.want('one less', 'times' in mask_of('-times'), False)
+    place.want('one more', mask_of('+owners')['owners'], Way.NUMBER)
+    place.want('another way', mask_of('ids=zero'), {'ids': Way.ZERO})
+    place.want('told', mask_of(told(default_mask())), default_mask())
+    for bad in ('nothing', 'times=half'):
+        status, out, error = place.compare('--mask', bad, 'a', 'b')
+        place.want(bad, (status, out, 'error' in error), (2, [], True))
+
+
+# --- Made runs ---
+
+FILES = (b'/', b'x', b'y')
+
+
+class Made:
+    """One run of a fixed script. What each run has its own of comes out of a seed, and the same in every run out of the script."""
+
+    def __init__(self, seed: int) -> None:
+        chance = random.Random(seed)
+        self.handles = [chance.randbytes(chance.choice((16, 28, 32))) for _ in FILES]
+        self.ids = chance.sample(range(2, 1 << 40), len(FILES))
+        self.fsid, self.time, self.space = chance.randrange(1 << 60), chance.randrange(1 << 31), chance.randrange(1 << 40)
+        self.stamp, self.verifier, self.cookies = chance.randrange(1 << 32), chance.randbytes(8), chance.sample(range(1, 1 << 50), 3)
+        self.cookieverf, self.createverf = chance.randbytes(8), chance.randbytes(8)
+        self.machine = b'host%d' % chance.randrange(10 ** chance.randrange(1, 9))
+        self.xids = chance.sample(range(1 << 32), 20)
+        self.sizes = {0: 4096, 1: 10, 2: 20}
+
+    def attributes(self, file: int) -> bytes:
+        plain = fattr(2 if file == 0 else 1, self.ids[file], self.sizes[file], fsid=self.fsid)
+        times = b''.join(word((self.time + number) % (1 << 32)) for number in range(6))
+        used = hyper(self.space % 4096)
+        return plain[:28] + used + plain[36:60] + times
+
+    def asked(self, number: int, procedure: int, arguments: bytes) -> bytes:
+        return call(self.xids[number], NFS, 3, procedure, arguments, credential=auth_sys(self.stamp, self.machine, 0, 0, [0, 5]))
+
+    def script(self) -> list[tuple[int, bytes, bytes]]:
+        """Procedures, arguments and results."""
+        root, x, y = map(fh, self.handles)
+        space = b''.join(hyper(self.space + number) for number in range(6)) + word(self.time & 0xff)
+        entries = messages.entries(self.attributes(0), self.cookieverf, [
+            messages.entryplus(self.ids[file], FILES[file], self.cookies[file], self.attributes(file), self.handles[file])
+            for file in (1, 2)], 1)
+        return [
+            (1, root, ok(self.attributes(0))),
+            (3, root + messages.opaque(b'x'), ok(x, post_op_attr(self.attributes(1)), post_op_attr())),
+            (4, x + word(31), ok(post_op_attr(self.attributes(1)), word(31))),
+            (17, root + hyper(0) + bytes(8) + word(512) + word(4096), ok(entries)),
+            (17, root + hyper(self.cookies[1]) + self.cookieverf + word(512) + word(4096), ok(entries)),
+            (8, dirop(self.handles[0], b'new') + messages.how(2, self.createverf), ok(messages.made(None, None, wcc()))),
+            (7, y + hyper(0) + word(2) + word(0) + messages.opaque(b'hi'),
+             ok(wcc(20, self.attributes(2)), word(2), word(0), self.verifier)),
+            (21, y + hyper(0) + word(0), ok(wcc(None, self.attributes(2)), self.verifier)),
+            (18, root, ok(post_op_attr(self.attributes(0)), space))]
+
+    def conversation(self, script: list[tuple[int, bytes, bytes]] | None = None) -> Conversation:
+        steps = script or self.script()
+        calls = [self.asked(number, procedure, arguments) for number, (procedure, arguments, _) in enumerate(steps)]
+        return calls, [success(self.xids[number], results) for number, (_, _, results) in enumerate(steps)]
+
+
+def ordinary_runs(place: Comparisons) -> None:
+    """Runs that share nothing but what they do are the same, and each class of values is the reason for that."""
+    for seed in range(8):
+        place.put('a', Made(seed).conversation())
+        place.put('b', Made(seed + 100).conversation())
+        place.wants('seed %d' % seed, 0, [])
+        place.want('masked is told', place.compare('a', 'b')[1][0], 'masked: ' + told(default_mask()))
+    status, out, _ = place.compare('--mask', 'none', 'a', 'b')
+    place.want('without a mask', (status, out[0], out[1].startswith('differ at ')), (1, 'masked: none', True))
+    for one in CLASSES:
+        if one.is_default:
+            status, out, _ = place.compare('--mask=-' + one.name, 'a', 'b')
+            names = set(re.findall(r'^  [-+] (\w+)=', '\n'.join(out), re.M))
+            place.want('without ' + one.name, (status, bool(names & one.items), names <= one.items | {'cred_length'}), (1, True, True))
+
+
+def changed_fields(place: Comparisons) -> None:
+    """A field that differs is named, with both values, and nothing else is."""
+    first, second = Made(1), Made(2)
+    place.put('a', first.conversation())
+    second.sizes[1] = 11
+    place.put('b', second.conversation())
+    lines = place.compare('a', 'b')[1][2:]
+    fields = [line for line in lines if line.startswith('  ')]
+    place.want('size', fields, ['  - size=10', '  + size=11'] * 4)
+    place.want('summary', lines[-1], 'fields that differ, and how often: size of NFSPROC3_READDIRPLUS 2, size of NFSPROC3_LOOKUP 1, '
+               'size of NFSPROC3_ACCESS 1')
+    place.want('heading', lines[0], 'NFSPROC3_LOOKUP reply: connection 1 server record 2 | connection 1 server record 2')
+
+
+def statuses_that_differ(place: Comparisons) -> None:
+    """After another status the rest has another layout, and is not compared."""
+    first, second = Made(1), Made(2)
+    script = second.script()
+    script[2] = (script[2][0], script[2][1], messages.failed(13, post_op_attr()))
+    place.put('a', first.conversation())
+    place.put('b', second.conversation(script))
+    lines = place.compare('a', 'b')[1][2:]
+    place.want('status', lines[1:3], ['  - status=0', '  + status=13'])
+    place.want('one finding', len(lines), 4)
+
+
+def one_call_more(place: Comparisons) -> None:
+    """The calls after it are not different."""
+    first, second = Made(3), Made(4)
+    script = second.script()
+    script.insert(2, script[0])
+    place.put('a', first.conversation())
+    place.put('b', second.conversation(script))
+    lines = place.compare('a', 'b')[1][2:]
+    place.want('one more', lines, ['only in the second run: NFSPROC3_GETATTR: connection 1 client record 3'])
+
+
+def other_orders(place: Comparisons) -> None:
+    """A call that has changed its turn, and replies in another order."""
+    first, second = Made(5), Made(6)
+    script = second.script()
+    place.put('a', first.conversation())
+    place.put('b', second.conversation([*script[:2], *script[3:6], script[2], *script[6:]]))
+    lines = place.compare('a', 'b')[1][2:]
+    place.want('turn', [line for line in lines if 'turn' in line], ['  the call has changed its turn'])
+    calls, replies = second.conversation()
+    place.put('b', (calls, [replies[1], replies[0], *replies[2:]]))
+    lines = place.compare('a', 'b')[1][2:]
+    place.want('order', lines[:2], ['connection 1', '  1 of 9 replies of the connection come in another order'])
+
+
+def bound_values(place: Comparisons) -> None:
+    """Two files where the other run has one are told, though each run names its files as it likes."""
+    first, second = Made(7), Made(8)
+    place.put('a', first.conversation())
+    second.handles[2] = second.handles[1]
+    place.put('b', second.conversation())
+    status, lines, _ = place.compare('a', 'b')
+    place.want('bound', (status, any(line.startswith('  + fh=') and ' # ' in line for line in lines)), (1, True))
+
+
+def raw_messages(place: Comparisons) -> None:
+    """Handles inside raw messages are those of the other run."""
+    def with_acl(made: Made, rest: bytes) -> Conversation:
+        calls, replies = made.conversation()
+        acl = call(made.xids[15], NFSACL, 3, 1, fh(made.handles[1]) + rest)
+        return [*calls, acl], [*replies, success(made.xids[15], word(0))]
+    first, second = Made(9), Made(10)
+    place.put('a', with_acl(first, word(1)))
+    place.put('b', with_acl(second, word(2)))
+    lines = place.compare('a', 'b')[1][2:]
+    place.want('raw', [line[:9] for line in lines[1:3]], ['  - rest=', '  + rest='])
+    place.put('b', with_acl(second, word(1)))
+    lines = place.compare('a', 'b')[1][2:]
+    place.want('handles', [line for line in lines if 'rest' in line], [])
+
+
+def connections_of_one_run(place: Comparisons) -> None:
+    first, second = Made(1), Made(2)
+    null = ([call(1, NFS, 3, 0)], [success(1)])
+    place.put('a', null, first.conversation())
+    place.put('b', second.conversation())
+    lines = place.compare('a', 'b')[1][2:]
+    place.want('connection', lines[:2], ['only in the first run: connection 1',
+                                         '  a connection of 1 calls that the other run does not have'])
+
+
+def random_traffic(place: Comparisons) -> None:
+    """The same random traffic under other names is the same, and with one handle or verifier for two it mostly is not."""
+    for seed in range(25):
+        chance = random.Random(seed)
+        names = Names.drawn(chance)
+        place.put('a', *Traffic(seed, names).connections)
+        place.put('b', *Traffic(seed, Names.drawn(chance)).connections)
+        status, out, error = place.compare('a', 'b')
+        place.want('seed %d' % seed, (status, out[1], error), (0, 'same', ''))
+
+
+# --- Recordings ---
+
+EXAMPLES = TOP / 'examples'
+FIRST, SECOND, CHANGED = (str(EXAMPLES / ('ganesha_%s.pcap' % name)) for name in ('a', 'b', 'changed'))
+
+
+def example_recordings(place: Comparisons) -> None:
+    """Two ordinary runs against one server are the same; with another limit of its transfers just these fields differ."""
+    status, out, error = place.compare(FIRST, SECOND)
+    place.want('ordinary', (status, out[1:], error), (0, ['same'], ''))
+    place.want('without a mask', place.compare('--mask', 'none', FIRST, SECOND)[0], 1)
+    status, out, error = place.compare('--all', FIRST, CHANGED)
+    fields = sorted(set(re.findall(r'^  [-+] (\w+)=', '\n'.join(out), re.M)))
+    place.want('changed', (status, error, fields), (1, '', ['rtmax', 'rtpref', 'wtmax', 'wtpref']))
+    place.want('frames', re.findall(r'\(frame \d+\)', out[2])[1:], re.findall(r'\(frame \d+\)', out[2])[:1])
+
+
+class Page(HTMLParser):
+    """Counts what a page has."""
+
+    def __init__(self) -> None:
+        super().__init__()
+        self.tags: dict[str, int] = {}
+        self.links: list[str] = []
+
+    def handle_starttag(self, tag: str, attrs: list[tuple[str, str | None]]) -> None:
+        self.tags[tag] = self.tags.get(tag, 0) + 1
+        self.links += [value or '' for name, value in attrs if name in ('src', 'href')]
+
+
+def pages(place: Comparisons) -> None:
+    """A page stands alone, and marks the fields that differ."""
+    place.want('status', place.compare('--html', 'page.html', FIRST, CHANGED)[0], 1)
+    page = Page()
+    page.feed((place.read('page.html') or b'').decode())
+    place.want('marks', (page.tags['del'], page.tags['ins'], page.links), (4, 4, []))
+    place.want('status', place.compare('--html', 'page.html', FIRST, SECOND)[0], 0)
+    page = Page()
+    page.feed((place.read('page.html') or b'').decode())
+    place.want('no marks', (page.tags.get('del'), page.tags['tr'] > 100), (None, True))
+
+
+def refused_runs(place: Comparisons) -> None:
+    place.write('a', (EXAMPLES / 'bad_status.nfs3cap').read_bytes())
+    place.write('b', (EXAMPLES / 'null.nfs3cap').read_bytes())
+    for words in (('a', 'b'), ('b', 'a')):
+        place.want('refused', place.compare(*words), (2, [], 'a: connection 1 server record 1 byte 24: BadEnum\n'))
+    status, out, error = place.compare('absent', 'b')
+    place.want('absent', (status, out, 'absent' in error, 'Traceback' in error), (3, [], True, False))
+    place.write('text', b'no recording')
+    status, out, error = place.compare('text', 'b')
+    place.want('no recording', (status, out, 'Traceback' in error), (2, [], False))
+
+
+TESTS: list[Callable[[Comparisons], None]] = [
+    sequences_brought_together, elements_that_differ, words_of_masks, ordinary_runs, changed_fields, statuses_that_differ, one_call_more,
+    other_orders, bound_values, raw_messages, connections_of_one_run, random_traffic, example_recordings, pages, refused_runs]
+
+
+def tried(program: str, test: Callable[[Comparisons], None]) -> list[str]:
+    with tempfile.TemporaryDirectory(prefix='nfs3canon') as folder:
+        place = Comparisons(program, folder)
+        test(place)
+        return place.wrong
+
+
+def main() -> None:
+    try_all(words_of(__doc__), [(test.__name__, tried, test) for test in TESTS], os.cpu_count())
+
+
+if __name__ == '__main__':
+    main()

@@ -1,0 +1,83 @@
+"""Classes of values that two ordinary runs never share, and how each is masked."""
+import argparse
+import enum
+from dataclasses import dataclass
+
+
+class Way(enum.Enum):
+    """How the values of a class are masked: all become zero, or each becomes its number by first appearance."""
+    ZERO = 'zero'
+    NUMBER = 'number'
+
+
+@dataclass(frozen=True)
+class ValueClass:
+    """A class of values: the names of its items in a listing, how it is masked, and whether it is by default."""
+    name: str
+    items: frozenset[str]
+    way: Way
+    is_default: bool
+    meaning: str
+    # Whether a zero has a meaning of its own (RFC 1813, section 3.3.16), and so stays zero.
+    keeps_zero: bool = False
+    # Whether its items count in calls only: a name may mean something else in a reply.
+    only_in_calls: frozenset[str] = frozenset()
+
+    def has(self, name: str, is_call: bool) -> bool:
+        """Returns whether an item of this name in a call, or in a reply, is one of the class."""
+        return name in self.items and (is_call or name not in self.only_in_calls)
+
+
+def value_class(name: str, items: str, way: Way, is_default: bool, meaning: str, **more: bool | frozenset[str]) -> ValueClass:
+    return ValueClass(name, frozenset(items.split()), way, is_default, meaning, **more)  # type: ignore[arg-type]
+
+
+CLASSES = (
+    value_class('times', 'atime_sec atime_nsec mtime_sec mtime_nsec ctime_sec ctime_nsec', Way.ZERO, True,
+                'times of files, in attributes, guards and settings'),
+    value_class('stamps', 'stamp', Way.ZERO, True, 'stamps of AUTH_SYS credentials'),
+    value_class('machines', 'machinename', Way.ZERO, True, 'names of machines in AUTH_SYS credentials'),
+    value_class('space', 'tbytes fbytes abytes tfiles ffiles afiles invarsec used', Way.ZERO, True,
+                'counts of free space, and the space that a file uses'),
+    value_class('ids', 'fileid', Way.NUMBER, True, 'file ids'),
+    value_class('fsids', 'fsid', Way.NUMBER, True, 'file system ids'),
+    value_class('cookies', 'cookie', Way.NUMBER, True, 'cookies of directories', keeps_zero=True),
+    value_class('cookieverfs', 'cookieverf', Way.NUMBER, True, 'cookie verifiers', keeps_zero=True),
+    value_class('createverfs', 'createverf', Way.NUMBER, True, 'verifiers of exclusive creates'),
+    value_class('owners', 'uid gid group', Way.NUMBER, False, 'users and groups, in credentials and attributes',
+                only_in_calls=frozenset({'group'})),
+)
+BY_NAME = {one.name: one for one in CLASSES}
+
+Mask = dict[str, Way]
+
+
+def default_mask() -> Mask:
+    """Returns how each class is masked that is masked by default."""
+    return {one.name: one.way for one in CLASSES if one.is_default}
+
+
+def changed(mask: Mask, word: str) -> Mask:
+    """Returns a mask with one class added (`+NAME`), removed (`-NAME`) or masked in the way that is named (`NAME=zero`)."""
+    name, _, way = word.lstrip('+-').partition('=')
+    if name not in BY_NAME:
+        raise argparse.ArgumentTypeError(f'no class of values: {name} (there are {", ".join(BY_NAME)})')
+    if way and way not in ('zero', 'number'):
+        raise argparse.ArgumentTypeError(f'{name} is masked as zero or number, not as {way}')
+    if word.startswith('-'):
+        return {kept: how for kept, how in mask.items() if kept != name}
+    return {**mask, name: Way(way) if way else BY_NAME[name].way}
+
+
+def mask_of(text: str) -> Mask:
+    """Reads the word of `--mask`. Words that begin with `+` or `-` change the default mask; any others are the whole mask."""
+    words = [word for word in text.split(',') if word and word != 'none']
+    mask = default_mask() if words and all(word[0] in '+-' for word in words) else {}
+    for word in words:
+        mask = changed(mask, word)
+    return mask
+
+
+def told(mask: Mask) -> str:
+    """Returns the mask as `--mask` takes it."""
+    return ','.join(f'{name}={way.value}' for name, way in mask.items()) or 'none'

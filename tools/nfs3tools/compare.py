@@ -1,0 +1,145 @@
+"""Compares two ordinary runs: are they the same but for what two runs never share, and if not, what differs.
+
+    tools/compare [--mask CLASS,..] [--all] [--html FILE] [--midstream] [--whole-records] A B
+
+A and B are recordings (pcap, pcapng) or captures. Values that each run has its own of are masked first: of the classes below,
+those marked with a star by default. What is masked is always printed. Then `nfs3canon same` compares the masked captures, up to a
+renaming of xids, file handles and write verifiers: `same` is its word. If they differ, calls are brought together by connection,
+procedure and arguments, and each difference is printed as `diff` would: which call, which field, both values, and the frames.
+
+--mask times,ids masks these classes alone, --mask +owners one more, --mask -times one less, --mask none nothing; NAME=zero and
+NAME=number say how.
+"""
+import argparse
+import subprocess
+import sys
+import tempfile
+from collections.abc import Iterator
+from contextlib import ExitStack
+from pathlib import Path
+
+from . import pages, telling
+from .classes import CLASSES, Mask, default_mask, mask_of, told
+from .comparing import Compared, Run, compare
+from .listings import Message
+from .masking import Bodies, masked
+from .messages import FAILED, REFUSED, add_options, options_of, parser_of, tell
+from .places import Place, parse_fault
+from .programs import program_path, run_program
+from .taken import Taken, take
+
+SAME, DIFFERENT = range(2)
+FINDINGS_AT_MOST = 20
+
+
+class Ended(Exception):
+    """The comparison cannot go on; its text is the message for the user."""
+
+    def __init__(self, status: int, text: str) -> None:
+        super().__init__(text)
+        self.status = status
+
+
+def classes_told() -> str:
+    """The classes of values, those masked by default with a star."""
+    rows = [f'  {one.name + ("*" if one.is_default else ""):<13} {one.way.value:<7} {one.meaning}' for one in CLASSES]
+    return '\n'.join(['classes of values:', *rows])
+
+
+def words_of(words: list[str]) -> argparse.Namespace:
+    parser = parser_of(__doc__, 'compare')
+    parser.epilog = classes_told()
+    parser.add_argument('--mask', type=mask_of, default=default_mask(), metavar='CLASS,..', help='the classes of values to mask')
+    parser.add_argument('--all', action='store_true', help=f'prints all findings, not the first {FINDINGS_AT_MOST}')
+    parser.add_argument('--html', metavar='FILE', help='writes a page with both runs side by side')
+    add_options(parser)
+    parser.add_argument('--program', help='the program, if it is not the one of this folder')
+    parser.add_argument('first', metavar='A')
+    parser.add_argument('second', metavar='B')
+    return parser.parse_args(words)
+
+
+def checked(program: str, taken: Taken, capture: str, name: str) -> None:
+    """Ends with the fault, and its frame, if the capture is refused."""
+    answer = run_program(program, ['check', capture])
+    if answer.status == 0:
+        return
+    line = answer.error.strip()
+    fault = parse_fault(line)
+    frames = taken.frames(fault.place)[:1] if fault and isinstance(fault.place, Place) else []
+    raise Ended(REFUSED if answer.status == 2 else FAILED, f'{name}: {line}' + ''.join(f' (frame {frame.number})' for frame in frames))
+
+
+def bodies_of(taken: Taken) -> Iterator[Bodies]:
+    for connection in taken.connections:
+        yield ([record.body for record in connection.client.records()], [record.body for record in connection.server.records()])
+
+
+def verdict_of(program: str, folder: Path, runs: list[Taken], mask: Mask) -> str:
+    """Returns what `same` says of the masked captures."""
+    names = []
+    for number, taken in enumerate(runs):
+        path = folder / f'masked{number}'
+        with open(path, 'wb') as file:
+            for piece in masked(bodies_of(taken), mask):
+                file.write(piece)
+        names.append(str(path))
+    answer = run_program(program, ['same', *names])
+    if answer.status > DIFFERENT:
+        raise Ended(FAILED, f'same: {answer.error.strip()}')
+    return answer.out.strip()
+
+
+def listing_of(program: str, capture: str) -> Iterator[str]:
+    with subprocess.Popen([program, 'show', capture], stdout=subprocess.PIPE, text=True, encoding='latin-1') as process:
+        assert process.stdout
+        yield from process.stdout
+
+
+def run_of(program: str, taken: Taken, capture: str, name: str) -> Run:
+    def frames(message: Message) -> list[int]:
+        place = Place(message.connection, 'client' if message.is_call else 'server', message.record)
+        return [frame.number for frame in taken.frames(place)]
+    return Run(name, listing_of(program, capture), frames)
+
+
+def write_page(path: str, compared: Compared, first: Run, second: Run, verdict: str, mask: str) -> None:
+    with open(path, 'w', encoding='utf-8', errors='backslashreplace') as file:
+        for piece in pages.page(compared, first, second, verdict, mask):
+            file.write(piece)
+
+
+def compared_runs(words: argparse.Namespace, stack: ExitStack) -> int:
+    program = program_path(words.program)
+    folder = Path(stack.enter_context(tempfile.TemporaryDirectory(prefix='nfs3canon')))
+    names = [words.first, words.second]
+    runs = [stack.enter_context(take(name, options_of(words))) for name in names]
+    captures = [str(folder / letter) for letter in 'ab']
+    for taken, capture, name in zip(runs, captures, names):
+        taken.write_capture(capture)
+        if taken.left_out or taken.notes or any(connection.notes for connection in taken.connections):
+            tell(taken)
+        checked(program, taken, capture, name)
+    print(f'masked: {told(words.mask)}', flush=True)
+    verdict = verdict_of(program, folder, runs, words.mask)
+    print(verdict, flush=True)
+    if verdict == 'same' and not words.html:
+        return SAME
+    first, second = (run_of(program, taken, capture, name) for taken, capture, name in zip(runs, captures, names))
+    compared = compare(first, second, words.mask)
+    if words.html:
+        write_page(words.html, compared, first, second, verdict, told(words.mask))
+    if verdict == 'same':
+        return SAME
+    for line in telling.of_compared(compared, first.frames, second.frames, None if words.all else FINDINGS_AT_MOST):
+        print(line)
+    return DIFFERENT
+
+
+def main(words: list[str]) -> int:
+    with ExitStack() as stack:
+        try:
+            return compared_runs(words_of(words), stack)
+        except Ended as end:
+            print(end, file=sys.stderr)
+            return end.status

@@ -1,0 +1,129 @@
+"""Sequences brought together: which elements of one run belong to which of the other."""
+import difflib
+from bisect import bisect_left
+from collections import Counter, defaultdict
+from collections.abc import Hashable, Sequence
+from dataclasses import dataclass, field
+
+# Up to so many pairs of elements that have no anchor are compared each with each.
+COMPARED_AT_MOST = 1_000_000
+
+Pair = tuple[int, int]
+
+
+def increasing(pairs: Sequence[Pair]) -> list[Pair]:
+    """Returns a longest selection of pairs, given in the order of their firsts, whose seconds increase."""
+    tails: list[int] = []
+    at: list[int] = []
+    before: list[int] = []
+    for number, (_, second) in enumerate(pairs):
+        place = bisect_left(tails, second)
+        before.append(at[place - 1] if place else -1)
+        tails[place:place + 1] = [second]
+        at[place:place + 1] = [number]
+    chosen, number = [], at[-1] if at else -1
+    while number >= 0:
+        chosen.append(pairs[number])
+        number = before[number]
+    return chosen[::-1]
+
+
+def anchors(first: Sequence[Hashable], second: Sequence[Hashable]) -> list[Pair]:
+    """Returns the elements that each side has just once, as far as they are in the same order."""
+    counts, others = Counter(first), Counter(second)
+    places = {key: at for at, key in enumerate(second) if others[key] == 1}
+    return increasing([(at, places[key]) for at, key in enumerate(first) if counts[key] == 1 and key in places])
+
+
+def by_turn(first: Sequence[Hashable], second: Sequence[Hashable]) -> list[Pair]:
+    """Returns the n-th element of a key with the n-th of the other side, as far as they are in the same order."""
+    places: dict[Hashable, list[int]] = defaultdict(list)
+    for at in range(len(second) - 1, -1, -1):
+        places[second[at]].append(at)
+    return increasing([(at, places[key].pop()) for at, key in enumerate(first) if places.get(key)])
+
+
+def without_anchor(first: Sequence[Hashable], second: Sequence[Hashable]) -> list[Pair]:
+    if len(first) * len(second) > COMPARED_AT_MOST:
+        return by_turn(first, second)
+    matcher = difflib.SequenceMatcher(None, first, second, autojunk=False)
+    return [(block.a + at, block.b + at) for block in matcher.get_matching_blocks() for at in range(block.size)]
+
+
+def aligned(first: Sequence[Hashable], second: Sequence[Hashable]) -> list[Pair]:
+    """Returns pairs of equal elements whose places increase on both sides. Equal ends and elements that are there just once come
+    first, so the cost is about that of reading them if little differs."""
+    pairs: list[Pair] = []
+    windows = [(0, len(first), 0, len(second))]
+    while windows:
+        low, high, other_low, other_high = windows.pop()
+        while low < high and other_low < other_high and first[low] == second[other_low]:
+            pairs.append((low, other_low))
+            low, other_low = low + 1, other_low + 1
+        while low < high and other_low < other_high and first[high - 1] == second[other_high - 1]:
+            high, other_high = high - 1, other_high - 1
+            pairs.append((high, other_high))
+        if low == high or other_low == other_high:
+            continue
+        part, other = first[low:high], second[other_low:other_high]
+        found = anchors(part, other)
+        if not found:
+            pairs += [(low + at, other_low + to) for at, to in without_anchor(part, other)]
+            continue
+        ends = [(low + at, other_low + to) for at, to in found]
+        pairs += ends
+        edges = [(low - 1, other_low - 1), *ends, (high, other_high)]
+        windows += [(at + 1, end, to + 1, other_end) for (at, to), (end, other_end) in zip(edges, edges[1:])]
+    return sorted(pairs)
+
+
+@dataclass
+class Matched:
+    """Which elements belong together: those that are equal and in order, those in order that differ, those that are equal and have
+    changed their turn, and those of one side alone."""
+    equal: list[Pair] = field(default_factory=list)
+    changed: list[Pair] = field(default_factory=list)
+    moved: list[Pair] = field(default_factory=list)
+    only_first: list[int] = field(default_factory=list)
+    only_second: list[int] = field(default_factory=list)
+
+
+def gaps(pairs: Sequence[Pair], size: int, other_size: int) -> list[tuple[range, range]]:
+    """Returns the elements between each pair and the next, before the first and after the last."""
+    edges = [(-1, -1), *pairs, (size, other_size)]
+    return [(range(at + 1, end), range(to + 1, other_end)) for (at, to), (end, other_end) in zip(edges, edges[1:])]
+
+
+def filled(pairs: Sequence[Pair], first: Sequence[Hashable], second: Sequence[Hashable]) -> list[Pair]:
+    """Returns further pairs between these: elements that are equal by a coarser key."""
+    more: list[Pair] = []
+    for here, there in gaps(pairs, len(first), len(second)):
+        if here and there:
+            found = aligned([first[at] for at in here], [second[at] for at in there])
+            more += [(here[at], there[to]) for at, to in found]
+    return more
+
+
+def matched(first: Sequence[Sequence[Hashable]], second: Sequence[Sequence[Hashable]]) -> Matched:
+    """Brings two sequences together. Each element is given by its keys, the finest first."""
+    result = Matched(equal=aligned([keys[0] for keys in first], [keys[0] for keys in second]))
+    pairs = list(result.equal)
+    for level in range(1, len(first[0]) if first else 0):
+        more = filled(pairs, [keys[level] for keys in first], [keys[level] for keys in second])
+        result.changed += more
+        pairs = sorted(pairs + more)
+    taken, others = {at for at, _ in pairs}, {to for _, to in pairs}
+    result.changed.sort()
+    left = [at for at in range(len(first)) if at not in taken]
+    right = [to for to in range(len(second)) if to not in others]
+    waiting: dict[Hashable, list[int]] = defaultdict(list)
+    for to in reversed(right):
+        waiting[second[to][0]].append(to)
+    for at in left:
+        if waiting[first[at][0]]:
+            result.moved.append((at, waiting[first[at][0]].pop()))
+        else:
+            result.only_first.append(at)
+    found = {to for _, to in result.moved}
+    result.only_second = [to for to in right if to not in found]
+    return result
