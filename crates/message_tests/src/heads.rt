@@ -4,7 +4,7 @@ ghost use Rattle.std.specs.Prelude.{◌≤◌, IfOk, length};
 ghost use Rattle.xdr3.specs.Visit.{AreWithinLimit, body_limit};
 
 use rpc_head::{
-    Accept, CallHead, Cred, Deny, MessageStart, ProcId, ReplyHead, Verf, scan_call_head,
+    Accept, CallHead, Cred, Deny, ProcId, ReplyHead, Start, Verf, scan_call_head,
     scan_reply_head, start,
 };
 use std::alloc::{AllocError, Global};
@@ -69,7 +69,7 @@ fn starts(rt: HostRuntime) -> Result<(), Fail> {
         let mut input = Input::new(body.as_slice());
         assert_eq!(rt;
             start(&mut input),
-            Ok(MessageStart {
+            Ok(Start {
                 xid: 0xdead_beef,
                 is_reply
             })

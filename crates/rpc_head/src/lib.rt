@@ -11,6 +11,6 @@ mod word;
 
 pub use call::{CallHead, ProcId};
 pub use credential::{AuthSys, Cred, Gids, Verf};
-pub use message_start::{MessageStart, start};
+pub use message_start::{MessageStart as Start, start};
 pub use reply::{Accept, Deny, ReplyHead};
 pub use scan::{scan_call_head, scan_reply_head};

@@ -12,7 +12,7 @@ ghost use Rattle.capture3.specs.machinery.Messages.{IsTableOf, results_after};
 use crate::message::calls::{KnownCalls, NumberedCall};
 use crate::message::stop;
 use procs3::{scan_arguments, scan_results};
-use rpc_head::{MessageStart, ProcId, scan_call_head, scan_reply_head, start};
+use rpc_head::{ProcId, Start, scan_call_head, scan_reply_head, start};
 use std::alloc::AllocError;
 use xdr3::{GetError, Input, Reason, Visit};
 
@@ -70,7 +70,7 @@ pub(crate) fn scan_reply<C: KnownCalls, V: Visit>(
 /// Tells the xid and the mtype.
 #[inline]
 #[tactic(auto, using(xdr3::proofs::Walks::adds_joined), unfolding(rpc_head::specs::Names::head_names))]
-fn tell_start<V: Visit>(start: MessageStart, visitor: &mut V) -> Result<(), AllocError>
+fn tell_start<V: Visit>(start: Start, visitor: &mut V) -> Result<(), AllocError>
     ensures { OnOk result (Adds V.stands visitor.old visitor.new (start_items start)) }
 {
     visitor.word("xid", start.xid)?;
