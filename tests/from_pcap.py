@@ -676,7 +676,7 @@ class Conversation(typing.NamedTuple):
 
 def conversations() -> list[Conversation]:
     """The real recordings of the examples, and random traffic in segments of any size."""
-    recordings = [(TOP / 'examples' / name).read_bytes() for name in ('knfsd_a.pcap', 'knfsd_b.pcap')]
+    recordings = [(TOP / 'examples' / name).read_bytes() for name in ('ganesha_a.pcap', 'ganesha_b.pcap')]
     for seed in range(4):
         recordings.append(random_recording(seed))
     return [Conversation(content[:24], frames_of(content), taken_of(content)) for content in recordings]

@@ -67,7 +67,7 @@ def explained_as_documented(tools):
     for place, status in (('connection 1 server record 2 byte 0', 1), ('file 9999', 1), ('nothing', 2)):
         tools.want(place, tools.tool('explain', 'a', place)[0], status)
     tools.want('a file that is absent', tools.tool('explain', 'absent', 'file 0'), (3, '', 'explain: absent: No such file or directory\n'))
-    for name in ('knfsd_a.pcap', 'bad_bool.pcap'):
+    for name in ('ganesha_a.pcap', 'bad_bool.pcap'):
         status, out, error = tools.tool('explain', str(TOP / 'examples' / name), 'file 0: BadMagic')
         tools.want('a recording', (status, out, 'tools/from_pcap' in error, 'tools/where' in error), (2, '', True, True))
 
@@ -102,33 +102,40 @@ def listed(piece, item):
     return item.value
 
 
-def lines_of_the_readme(tools, chosen):
-    """Its command lines, each with what its first line of output begins with and, where it is not 0, its status."""
-    for line in README.splitlines():
-        command, _, wanted = line.partition('  # ')
-        if not line.startswith('    ') or not wanted or ('.pcap' in command or '/tmp/a' in command) != chosen:
-            continue
-        wanted, _, status = wanted.replace('(nothing)', '').partition(', status ')
-        words = command.replace('/tmp/', tools.folder + '/').replace('./nfs3canon', tools.program)
-        words = words.replace('tools/verdicts', 'tools/verdicts --program ' + tools.program)
-        done = subprocess.run(['sh', '-c', words], cwd=TOP, stdout=subprocess.PIPE, stderr=subprocess.STDOUT, text=True)
-        told = done.stdout.partition('\n')[0]
-        found = told[:len(wanted) - 2] + '..' if wanted.endswith('..') else told
-        tools.want(command.strip(), (found, done.returncode), (wanted, int(status or 0)))
-        tools.tried += 1
+def console_of(text):
+    """The commands in the console blocks of a page, each with the lines that it prints."""
+    found = []
+    for block in re.findall(r'^```console\n(.*?)^```$', text, re.M | re.S):
+        for line in block.splitlines():
+            if line.startswith('$ '):
+                found.append((line[2:], []))
+            else:
+                found[-1][1].append(line)
+    return found
+
+
+def is_printed(wanted, printed):
+    """Whether these lines are printed. A line `..` stands for any lines, and `..` at the end of a line for any rest of it."""
+    if not wanted:
+        return not printed
+    if wanted[0] == '..':
+        return any(is_printed(wanted[1:], printed[at:]) for at in range(len(printed) + 1))
+    if not printed:
+        return False
+    is_line = printed[0].startswith(wanted[0][:-2]) if wanted[0].endswith('..') else printed[0] == wanted[0]
+    return is_line and is_printed(wanted[1:], printed[1:])
 
 
 def commands_of_the_readme(tools):
-    lines_of_the_readme(tools, False)
-    tools.want('lines', tools.tried, 7)
-
-
-def recordings_of_the_readme(tools):
-    lines_of_the_readme(tools, True)
-    tools.want('lines', tools.tried, 6)
-    for name in ('a', 'b'):
-        answer = tools.run('check', name + '.nfs3cap')
-        tools.want('check', answer, (0, 'ok connections=18 calls=276 replies=276 handles=53\n', ''))
+    """Each is run, in order, and prints what stands below it. The status is told by what is printed."""
+    commands = console_of(README)
+    tools.want('commands', len(commands), 13)
+    for command, wanted in commands:
+        words = command.replace('/tmp/', tools.folder + '/').replace('./nfs3canon', tools.program)
+        words = re.sub(r'^tools/(verdicts|compare) ', r'tools/\1 --program %s ' % tools.program, words)
+        done = subprocess.run(['sh', '-c', words], cwd=TOP, stdout=subprocess.PIPE, stderr=subprocess.STDOUT, text=True)
+        printed = done.stdout.splitlines()
+        tools.want(command, 'as written' if is_printed(wanted, printed) else printed, 'as written')
 
 
 def lines_for_many_captures(tools):
@@ -139,7 +146,7 @@ def lines_for_many_captures(tools):
     here = {'tools/verdicts': 'tools/verdicts --program ' + tools.program, 'host1,host2': ':', '/opt/nfs3canon': str(TOP),
             'runs/': 'examples/'}
     last = {'tools/verdicts': ['13 ok, 7 refused, 0 errors'],
-            'parallel': ['0 ok, 1 refused, 0 errors'] * 4 + ['1 ok, 1 refused, 0 errors'] + ['18 ok, 0 refused, 0 errors'] * 2}
+            'parallel': ['0 ok, 1 refused, 0 errors'] * 4 + ['1 ok, 1 refused, 0 errors'] + ['3 ok, 0 refused, 0 errors'] * 3}
     for line in lines[:2]:
         if line.startswith('parallel') and b'GNU' not in subprocess.run(version, stdout=subprocess.PIPE).stdout:
             continue
@@ -159,7 +166,7 @@ def examples_are_used(tools):
     """Each file of examples/ is checked by its row there, is run or imported by examples_are_made_alike, or is in a command line of
     the top README that is run."""
     used = {name for name, _, _ in rows_of_the_examples()} | {'README.md', 'make.py', 'messages.py', 'packets.py'}
-    used |= {name for line in README.splitlines() if '  # ' in line for name in re.findall(r'examples/(\w+\.\w+)', line)}
+    used |= {name for command, _ in console_of(README) for name in re.findall(r'examples/(\w+\.\w+)', command)}
     there = {path.name for path in (TOP / 'examples').iterdir()} - {'__pycache__'}
     tools.want('files', sorted(there), sorted(used))
 
@@ -250,7 +257,7 @@ def rooms_stand_apart(tools):
 
 
 STRINGS = ('name', 'path', 'machinename', 'dirpath', 'hostname', 'directory')
-TESTS = [recordings_of_the_readme, explained, explained_as_documented, layouts_agree_with_the_listing, commands_of_the_readme,
+TESTS = [explained, explained_as_documented, layouts_agree_with_the_listing, commands_of_the_readme,
          lines_for_many_captures, examples_are_used, answers_of_the_examples, examples_are_made_alike, pages_agree, pages_of_the_tools,
          what_is_believed, rooms_stand_apart]
 

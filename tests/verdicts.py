@@ -109,7 +109,7 @@ def places_at_the_frames_of_tshark(tools: Tools) -> None:
     opened, frames = talk.opened(), exchange(talk, 30)
     frames += chance.choices(frames, k=20)
     chance.shuffle(frames)
-    recordings = [(TOP / 'examples/knfsd_a.pcap').read_bytes(), pcap(opened + frames), pcap(whole() + whole(first=(9_000, 9_000)))]
+    recordings = [(TOP / 'examples/ganesha_a.pcap').read_bytes(), pcap(opened + frames), pcap(whole() + whole(first=(9_000, 9_000)))]
     for recording in recordings:
         tools.write('a.pcap', recording)
         words = ['tshark', '-n', '-r', 'a.pcap', '-Y', 'tcp.len > 0', '-T', 'fields', '-o', 'tcp.desegment_tcp_streams:FALSE']
@@ -255,7 +255,7 @@ def interrupted(tools: Tools) -> None:
         process.send_signal(signal.SIGINT)
         out, error = process.communicate(timeout=20)
     tools.want('interrupted', (process.returncode, out, error), (130, b'', b''))
-    listed = subprocess.Popen([str(TOP / 'tools/verdicts'), '--program', tools.program, str(TOP / 'examples/knfsd_a.pcap')],
+    listed = subprocess.Popen([str(TOP / 'tools/verdicts'), '--program', tools.program, str(TOP / 'examples/ganesha_a.pcap')],
                               stdout=subprocess.PIPE, stderr=subprocess.PIPE)
     assert listed.stdout and listed.stderr
     listed.stdout.close()

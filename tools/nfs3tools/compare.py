@@ -23,7 +23,7 @@ from .classes import CLASSES, Mask, default_mask, mask_of, told
 from .comparing import Compared, Run, compare
 from .listings import Message
 from .masking import Bodies, masked
-from .messages import FAILED, REFUSED, add_options, options_of, parser_of, tell
+from .messages import FAILED, REFUSED, add_options, options_of, parser_of
 from .places import Place, parse_fault
 from .programs import program_path, run_program
 from .taken import Taken, take
@@ -57,6 +57,14 @@ def words_of(words: list[str]) -> argparse.Namespace:
     parser.add_argument('first', metavar='A')
     parser.add_argument('second', metavar='B')
     return parser.parse_args(words)
+
+
+def tell(name: str, taken: Taken) -> None:
+    """Prints what is missing from a recording, and what is left out of it."""
+    lines = [*taken.notes, *(f'connection {connection.number} {note}' for connection in taken.connections for note in connection.notes),
+             *(f'left out: {line}' for line in taken.left_out)]
+    for line in lines:
+        print(f'{name}: {line}', file=sys.stderr)
 
 
 def checked(program: str, taken: Taken, capture: str, name: str) -> None:
@@ -117,8 +125,7 @@ def compared_runs(words: argparse.Namespace, stack: ExitStack) -> int:
     captures = [str(folder / letter) for letter in 'ab']
     for taken, capture, name in zip(runs, captures, names):
         taken.write_capture(capture)
-        if taken.left_out or taken.notes or any(connection.notes for connection in taken.connections):
-            tell(taken)
+        tell(name, taken)
         checked(program, taken, capture, name)
     print(f'masked: {told(words.mask)}', flush=True)
     verdict = verdict_of(program, folder, runs, words.mask)

@@ -17,6 +17,7 @@ import tempfile
 from collections.abc import Iterator
 from pathlib import Path
 
+from .messages import parser_of
 from .version import TOP, version
 
 PROGRAM = TOP / 'crates/nfs3canon/out/nfs3canon'
@@ -92,9 +93,8 @@ def release(folder: Path, program: Path) -> Path:
 
 
 def words_of(words: list[str], name: str, what: str, target: str, default: str) -> argparse.Namespace:
-    parser = argparse.ArgumentParser(prog=name, description=what)
+    parser = parser_of(what, name)
     parser.add_argument('--program', type=Path, default=PROGRAM, help='the built program')
-    parser.add_argument('--version', action='version', version=version())
     parser.add_argument('target', nargs='?', type=Path, default=Path(default), metavar=target)
     return parser.parse_args(words)
 

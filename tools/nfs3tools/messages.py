@@ -8,6 +8,7 @@ import typing
 from .places import NoPlace
 from .programs import FilterRefused, Missing
 from .taken import NotTaken, Options, Taken
+from .version import version
 
 REFUSED, FAILED, INTERRUPTED = 2, 3, 130
 
@@ -50,7 +51,9 @@ def ended(name: str, message: str, status: int) -> int:
 
 def parser_of(text: str | None, words: str) -> argparse.ArgumentParser:
     """A parser of command lines, whose help is the text of a module."""
-    return argparse.ArgumentParser(prog=words, description=text, formatter_class=argparse.RawDescriptionHelpFormatter)
+    parser = argparse.ArgumentParser(prog=words, description=text, formatter_class=argparse.RawDescriptionHelpFormatter)
+    parser.add_argument('--version', action='version', version=f'{words} {version()}')
+    return parser
 
 
 def add_options(parser: argparse.ArgumentParser) -> None:

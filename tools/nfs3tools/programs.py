@@ -21,16 +21,17 @@ class Answer(typing.NamedTuple):
 
 
 def program_path(named: str | None = None) -> str:
-    """The program: the one that is named, else that of this repository, else the one on the PATH.
+    """The program: the one that is named, else the one built here, else the launcher that builds it, else the one beside which
+    the tools are installed, else the one on the PATH.
 
     Raises `Missing`.
     """
-    built = TOP / 'crates/nfs3canon/out/nfs3canon'
-    own = str(built) if built.exists() else str(TOP / 'nfs3canon')
-    found = shutil.which(named or own) or shutil.which(named or 'nfs3canon')
-    if not found:
-        raise Missing(f'{named or "nfs3canon"} is missing')
-    return found
+    here = [TOP / 'crates/nfs3canon/out/nfs3canon', TOP / 'nfs3canon', TOP.parent.parent / 'bin/nfs3canon']
+    for name in [named] if named else [*map(str, here), 'nfs3canon']:
+        found = shutil.which(name)
+        if found:
+            return found
+    raise Missing(f'{named or "nfs3canon"} is missing')
 
 
 def run_program(program: str, words: list[str], content: typing.Iterable[bytes] = ()) -> Answer:

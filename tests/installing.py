@@ -1,0 +1,107 @@
+#!/usr/bin/env python3
+"""Tests of tools/install and tools/release.
+
+    python3 tests/installing.py [PROGRAM] [--only TEXT] [-v]
+
+PROGRAM is crates/nfs3canon/out/nfs3canon if none is named. What is installed is run from a folder elsewhere. The last line is
+'N passed, M failed', and the status is 1 if any failed.
+"""
+import os
+import pathlib
+import re
+import subprocess
+import tarfile
+import tempfile
+from collections.abc import Callable
+
+from captures import Runs
+from running import try_all, words_of
+
+TOP = pathlib.Path(__file__).resolve().parent.parent
+TOOLS = ('from-pcap', 'where', 'verdicts', 'compare', 'explain')
+
+
+class Place(Runs):
+    """A folder, and runs of commands there."""
+
+    def command(self, *words: str) -> tuple[int, str, str]:
+        done = subprocess.run(words, cwd=self.folder, stdout=subprocess.PIPE, stderr=subprocess.PIPE, text=True)
+        return done.returncode, done.stdout, done.stderr
+
+    def tool(self, name: str, *words: str) -> tuple[int, str, str]:
+        return self.command(str(TOP / 'tools' / name), '--program', self.program, *words)
+
+
+def version() -> str:
+    found = re.search(r'^## (\S+)', (TOP / 'CHANGELOG.md').read_text(), re.MULTILINE)
+    assert found
+    return found[1]
+
+
+def works(place: Place, prefix: pathlib.Path) -> None:
+    """What is under a prefix is all that is needed to compare the examples."""
+    place.want('the program', place.command(str(prefix / 'bin/nfs3canon'), 'check', str(TOP / 'examples/null.nfs3cap'))[0], 0)
+    for tool in TOOLS:
+        own = str(prefix / 'bin' / ('nfs3-' + tool))
+        place.want('version of ' + tool, place.command(own, '--version')[1].split()[1:], [version()])
+        page = prefix / 'share/man/man1' / ('nfs3-%s.1' % tool)
+        place.want('page of ' + tool, page.is_file(), True)
+    runs = [str(TOP / ('examples/ganesha_%s.pcap' % name)) for name in 'ab']
+    place.want('compare', place.command(str(prefix / 'bin/nfs3-compare'), *runs)[1].splitlines()[-1], 'same')
+    place.want('verdicts', place.command(str(prefix / 'bin/nfs3-verdicts'), runs[0])[1].splitlines()[-1], '3 ok, 0 refused, 0 errors')
+    for path in ('bash-completion/completions/nfs3canon', 'zsh/site-functions/_nfs3canon', 'fish/vendor_completions.d/nfs3canon.fish',
+                 'nfs3canon/LICENSE-MIT', 'nfs3canon/LICENSE-APACHE', 'man/man1/nfs3canon.1'):
+        place.want(path, (prefix / 'share' / path).is_file(), True)
+
+
+def under_a_prefix(place: Place) -> None:
+    """Twice, since an older version is replaced."""
+    for _ in range(2):
+        status, out, error = place.tool('install', 'prefix')
+        place.want('install', (status, out, error), (0, 'installed nfs3canon %s under prefix\n' % version(), ''))
+    works(place, pathlib.Path(place.folder, 'prefix'))
+
+
+def where_nothing_can_be_written(place: Place) -> None:
+    place.write('file', b'')
+    status, out, error = place.tool('install', 'file')
+    place.want('install', (status, out, 'Traceback' in error, error.count('\n')), (3, '', False, 1))
+
+
+def as_a_release(place: Place) -> None:
+    """The tar file has the layout of a prefix below one folder, its checksum is right, and it is the same when it is made again."""
+    name = 'nfs3canon-%s-linux-x86_64' % version()
+    archive = pathlib.Path(place.folder, name + '.tar.xz')
+    contents = []
+    for _ in range(2):
+        status, out, _ = place.tool('release', '.')
+        place.want('release', (status, out), (0, name + '.tar.xz\n'))
+        contents.append(archive.read_bytes())
+    place.want('made again', contents[0] == contents[1], True)
+    place.want('checksum', place.command('sha256sum', '-c', archive.name + '.sha256')[0], 0)
+    with tarfile.open(archive) as tar:
+        place.want('owners', {(member.uid, member.gid, member.mtime) for member in tar.getmembers()}, {(0, 0, 0)})
+        tar.extractall(place.folder, filter='data')
+    works(place, pathlib.Path(place.folder, name))
+
+
+def version_of_the_launcher(place: Place) -> None:
+    place.want('version', place.command(str(TOP / 'nfs3canon'), '--version'), (0, 'nfs3canon %s\n' % version(), ''))
+
+
+TESTS: list[Callable[[Place], None]] = [under_a_prefix, where_nothing_can_be_written, as_a_release, version_of_the_launcher]
+
+
+def tried(program: str, test: Callable[[Place], None]) -> list[str]:
+    with tempfile.TemporaryDirectory(prefix='nfs3canon') as folder:
+        place = Place(program, folder)
+        test(place)
+        return place.wrong
+
+
+def main() -> None:
+    try_all(words_of(__doc__), [(test.__name__, tried, test) for test in TESTS], os.cpu_count())
+
+
+if __name__ == '__main__':
+    main()
