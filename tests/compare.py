@@ -223,13 +223,77 @@ def bound_values(place: Comparisons) -> None:
     place.want('bound', (status, any(line.startswith('  + fh=') and ' # ' in line for line in lines)), (1, True))
 
 
+def zero_cookies(place: Comparisons) -> None:
+    """The cookie 0 is the beginning of a directory, and no other cookie is."""
+    first, second = Made(11), Made(12)
+    script = second.script()
+    script[3] = (17, script[3][1].replace(hyper(0) + bytes(8), hyper(5) + bytes(8)), script[3][2])
+    place.put('a', first.conversation())
+    place.put('b', second.conversation(script))
+    status, lines, _ = place.compare('a', 'b')
+    place.want('cookie', (status, '  - cookie=0' in lines, '  + cookie=5' in lines), (1, True, True))
+
+
+def equal_numbers_of_two_classes(place: Comparisons) -> None:
+    """A file id that is an fsid, too, in one run alone."""
+    first, second = Made(13), Made(14)
+    first.fsid = first.ids[0]
+    place.put('a', first.conversation())
+    place.put('b', second.conversation())
+    place.wants('two classes', 0, [])
+
+
+def directories(place: Comparisons) -> None:
+    """Entries in another order are one difference, and so is an entry that is missing."""
+    def listing(made: Made, *files: int) -> list[tuple[int, bytes, bytes]]:
+        entries = [messages.entryplus(made.ids[file], FILES[file], made.cookies[file], made.attributes(file), made.handles[file])
+                   for file in files]
+        results = ok(messages.entries(made.attributes(0), made.cookieverf, entries, 1))
+        return [(17, fh(made.handles[0]) + hyper(0) + bytes(8) + word(512) + word(4096), results)]
+    first, second = Made(15), Made(16)
+    place.put('a', first.conversation(listing(first, 1, 2)))
+    place.put('b', second.conversation(listing(second, 2, 1)))
+    lines = place.compare('a', 'b')[1][2:]
+    place.want('order', lines[1:3], ['  - entry="x"', '  + entry="y"    # the entries come in another order'])
+    for names, wanted in (((1,), '  - name="y"'), ((1, 2), None)):
+        place.put('b', second.conversation(listing(second, *names)))
+        found = [line for line in place.compare('a', 'b')[1] if ' name=' in line]
+        place.want('entries', found, [wanted] if wanted else [])
+    place.put('a', first.conversation(listing(first, 1)))
+    found = [line for line in place.compare('a', 'b')[1] if ' name=' in line]
+    place.want('more entries', found, ['  + name="y"'])
+
+
+def replies_of_one_call(place: Comparisons) -> None:
+    first, second = Made(17), Made(18)
+    place.put('a', first.conversation())
+    calls, replies = second.conversation()
+    place.put('b', (calls, [*replies, replies[-1]]))
+    lines = place.compare('a', 'b')[1][2:]
+    place.want('replies', lines[1], '  1 replies in the first run, 2 in the second')
+
+
+def files_by_their_paths(place: Comparisons) -> None:
+    """Of calls that are equal but for the file, those of one path belong together."""
+    def asked(made: Made, *files: int) -> list[tuple[int, bytes, bytes]]:
+        found = [(3, fh(made.handles[0]) + messages.opaque(FILES[file]), ok(fh(made.handles[file]), post_op_attr(), post_op_attr()))
+                 for file in (1, 2)]
+        return found + [(1, fh(made.handles[file]), ok(made.attributes(file))) for file in files]
+    first, second = Made(19), Made(20)
+    place.put('a', first.conversation(asked(first, 1)))
+    place.put('b', second.conversation(asked(second, 2, 1)))
+    lines = place.compare('a', 'b')[1][2:]
+    place.want('the other file', lines, ['only in the second run: NFSPROC3_GETATTR ?/y: connection 1 client record 3'])
+
+
 def raw_messages(place: Comparisons) -> None:
-    """Handles inside raw messages are those of the other run."""
+    """Handles inside raw messages are those of the other run, also of a length that is no multiple of four."""
     def with_acl(made: Made, rest: bytes) -> Conversation:
         calls, replies = made.conversation()
         acl = call(made.xids[15], NFSACL, 3, 1, fh(made.handles[1]) + rest)
         return [*calls, acl], [*replies, success(made.xids[15], word(0))]
     first, second = Made(9), Made(10)
+    second.handles[1] = second.handles[1][:5]
     place.put('a', with_acl(first, word(1)))
     place.put('b', with_acl(second, word(2)))
     lines = place.compare('a', 'b')[1][2:]
@@ -316,7 +380,8 @@ def refused_runs(place: Comparisons) -> None:
 
 TESTS: list[Callable[[Comparisons], None]] = [
     sequences_brought_together, elements_that_differ, words_of_masks, ordinary_runs, changed_fields, statuses_that_differ, one_call_more,
-    other_orders, bound_values, raw_messages, connections_of_one_run, random_traffic, example_recordings, pages, refused_runs]
+    other_orders, bound_values, zero_cookies, equal_numbers_of_two_classes, directories, replies_of_one_call, files_by_their_paths,
+    raw_messages, connections_of_one_run, random_traffic, example_recordings, pages, refused_runs]
 
 
 def tried(program: str, test: Callable[[Comparisons], None]) -> list[str]:

@@ -32,10 +32,8 @@ class Paths:
             self.paths.setdefault(handle, path)
 
     def take(self, exchange: Exchange) -> None:
-        """Learns from what an exchange says of handles."""
+        """Learns from what an exchange says of handles. A reply that failed has none."""
         for reply in exchange.replies:
-            if reply.value_of('status') != '0':
-                continue
             if exchange.procedure == 'MOUNTPROC3_MNT':
                 path = exchange.call.value_of('dirpath')
                 self.learn(reply.value_of('fh'), path and path.strip('"'))
