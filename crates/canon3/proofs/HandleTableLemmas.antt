@@ -1,8 +1,8 @@
 -- Tables that gather the handles of items.
-use Rattle.std.proofs.Common.{◌≡◌, ◌≢◌, ℕ, ◌+◌, Bool, true, false, List, [], ◌∷◌, ◌++◌, drop, length, map, refl, sym, ap, ◌∙◌, append-nil, ◌≤◌, arith}
+use Rattle.std.proofs.Common.{◌≡◌, ◌≢◌, ℕ, ◌+◌, Bool, true, false, List, [], ◌∷◌, ◌++◌, drop, get_or, length, map, refl, sym, ap, ◌∙◌, append_assoc, append-nil, ◌≤◌, ◌<◌, arith}
 use Rattle.std.specs.Prelude.{bytes_eq, if◌then◌else◌, ◌||◌}
 use Rattle.std.specs.List.{list_any}
-use Rattle.std.proofs.lemmas.List.{length-map, map-append}
+use Rattle.std.proofs.lemmas.List.{drop_all, drop_more, length-map, map-append}
 use Rattle.std.proofs.lemmas.Grind.{flat_map-append}
 use Rattle.xdr3.specs.declared.plain.PlainField.{PlainField}
 use Rattle.xdr3.specs.declared.plain.PlainField.TheVariants as fields
@@ -17,6 +17,8 @@ use Rattle.capture3.specs.Entry.{Entry, items_of}
 use Rattle.canon3.specs.HandleTable.{Gathers, same_handle}
 use Rattle.canon3.specs.Rank.{before, distinct, rank, with_key, with_keys, HoldsDistinct}
 use Rattle.canon3.specs.machinery.Summary.{all_items}
+use Rattle.canon3.specs.machinery.WaitingHandles.{GathersAll}
+use Rattle.canon3.specs.declared.waiting_handles.WaitingHandles.{WaitingHandles}
 use Rattle.canon3.specs.Values.{handle_in, handles, handles_in}
 
 -- ---- distinct ones by what they hold
@@ -56,9 +58,21 @@ module _ {K L : Type 0} (same : L → L → Bool) (f : K → L) where
 
 -- ---- along items
 
+-- items without handles add none
+none_more : (items more : List Item) → handles_in more ≡ [] → handles_in items ≡ handles_in (items ++ more)
+none_more items more none = sym (flat_map-append handle_in items more ∙ ap (λ (l : List (List ℕ)). handles_in items ++ l) none ∙ append-nil (handles_in items))
+
+-- one handle more
+one_more : (given : List handles.Handle) (handle : handles.Handle) (name bytes : List ℕ) (items : List Item) → handle_bytes handle ≡ bytes → bytes ≢ [] → map handle_bytes given ≡ handles_in items
+    → map handle_bytes (given ++ handle ∷ []) ≡ handles_in (items ++ Opaque Handle name bytes ∷ [])
+one_more given handle name [] items is some are = absurd (some refl)
+one_more given handle name (b ∷ bs) items is some are =
+    map-append handle_bytes given (handle ∷ []) ∙ ap (λ (l : List (List ℕ)). l ++ handle_bytes handle ∷ []) are ∙ ap (λ (x : List ℕ). handles_in items ++ x ∷ []) is
+    ∙ sym (flat_map-append handle_in items (Opaque Handle name (b ∷ bs) ∷ []))
+
 pub gathers_none : (table : List handles.Handle) (items more : List Item) → handles_in more ≡ [] → Gathers table items → Gathers table (items ++ more)
 gathers_none table items more none (given, stands, are) =
-    (given, stands, are ∙ sym (flat_map-append handle_in items more ∙ ap (λ (l : List (List ℕ)). handles_in items ++ l) none ∙ append-nil (handles_in items)))
+    (given, stands, are ∙ none_more items more none)
 
 -- plain fields hold no handle
 pub none_in_run : (all : List PlainField) (run : List ℕ) → handles_in (run_items all run) ≡ []
@@ -69,13 +83,29 @@ none_in_run (fields.Hyper name ∷ all) run = none_in_run all (drop 8 run)
 pub gathers_one : (old new : List handles.Handle) (handle : handles.Handle) (name bytes : List ℕ) (items : List Item) → handle_bytes handle ≡ bytes → bytes ≢ []
     → ((given : List handles.Handle) → HoldsDistinct same_handle old given → HoldsDistinct same_handle new (given ++ handle ∷ []))
     → Gathers old items → Gathers new (items ++ Opaque Handle name bytes ∷ [])
-gathers_one old new handle name [] items is some step g = absurd (some refl)
-gathers_one old new handle name (b ∷ bs) items is some step (given, stands, are) = (
-  given ++ handle ∷ [],
-  step given stands,
-  map-append handle_bytes given (handle ∷ []) ∙ ap (λ (l : List (List ℕ)). l ++ handle_bytes handle ∷ []) are ∙ ap (λ (x : List ℕ). handles_in items ++ x ∷ []) is
-      ∙ sym (flat_map-append handle_in items (Opaque Handle name (b ∷ bs) ∷ [])),
-)
+gathers_one old new handle name bytes items is some step (given, stands, are) = (given ++ handle ∷ [], step given stands, one_more given handle name bytes items is some are)
+
+-- ---- of handles that wait
+
+pub waits_none : {S H : Type 0} (gathering : WaitingHandles S H) (items more : List Item) → handles_in more ≡ [] → GathersAll gathering items → GathersAll gathering (items ++ more)
+waits_none gathering items more none (given, stands, are) = (given, stands, are ∙ none_more items more none)
+
+-- one of them is looked up
+pub waits_looked_up : (given waiting : List handles.Handle) (i : ℕ) (d : handles.Handle) (hs : List (List ℕ)) → i < length waiting → map handle_bytes (given ++ drop i waiting) ≡ hs
+    → map handle_bytes ((given ++ get_or waiting i d ∷ []) ++ drop (i + 1) waiting) ≡ hs
+waits_looked_up given waiting i d hs within are =
+    ap (map handle_bytes) (append_assoc given (get_or waiting i d ∷ []) (drop (i + 1) waiting) ∙ ap (λ (l : List handles.Handle). given ++ l) (sym (drop_more waiting i d within))) ∙ are
+
+-- all of them were
+pub waits_no_more : (given waiting : List handles.Handle) (i : ℕ) (hs : List (List ℕ)) → length waiting ≤ i → map handle_bytes (given ++ drop i waiting) ≡ hs → map handle_bytes given ≡ hs
+waits_no_more given waiting i hs past are =
+    ap (map handle_bytes) (sym (append-nil given) ∙ ap (λ (l : List handles.Handle). given ++ l) (sym (drop_all i waiting past))) ∙ are
+
+-- one more waits
+pub waits_one : (given waiting : List handles.Handle) (handle : handles.Handle) (name bytes : List ℕ) (items : List Item) → handle_bytes handle ≡ bytes → bytes ≢ [] → map handle_bytes (given ++ waiting) ≡ handles_in items
+    → map handle_bytes (given ++ (waiting ++ handle ∷ [])) ≡ handles_in (items ++ Opaque Handle name bytes ∷ [])
+waits_one given waiting handle name bytes items is some are =
+    ap (map handle_bytes) (sym (append_assoc given waiting (handle ∷ []))) ∙ one_more (given ++ waiting) handle name bytes items is some are
 
 -- as many handles as bytes of them
 pub distinct_held : {hs : List (List ℕ)} (given : List handles.Handle) → map handle_bytes given ≡ hs → length (distinct same_handle given) ≡ length (distinct bytes_eq hs)

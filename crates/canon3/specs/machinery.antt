@@ -10,3 +10,4 @@ pub mod SinkWrites
 pub mod Spelling
 pub mod Summary
 pub mod Tally
+pub mod WaitingHandles

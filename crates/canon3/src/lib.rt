@@ -17,6 +17,7 @@ mod sink;
 mod spelling;
 mod summary;
 mod verdict;
+mod waiting_handles;
 mod whole_writes;
 
 pub use canonical_form::canon;

@@ -11,10 +11,10 @@ ghost use Rattle.canon3.specs.Summary.{ConcludesGiven, IsSummary};
 ghost use Rattle.canon3.specs.machinery.Summary.{Sums};
 ghost use Rattle.canon3.specs.machinery.Tally.{TalliesOn, TalliesToTheEnd, IsTallying, Tallies};
 
-use crate::handles::HandleTable;
 use crate::passed::Passed;
+use crate::waiting_handles::WaitingHandles;
 use capture3::{Entries, Error, Hashers, Source, new_block};
-use std::alloc::Global;
+use std::alloc::{AllocError, Global};
 use std::hash::BuildHasher;
 
 /// What a capture has of each kind.
@@ -71,14 +71,14 @@ fn summed<R: Source, S: BuildHasher + Drop>(
 {
     let mut tally = Tally::new(alloc, hasher);
     tally.add_all(entries)?;
-    Ok(tally.summary())
+    Ok(tally.summary()?)
 }
 
 /// What was met so far.
 #[derive(Drop)]
 struct Tally<S: BuildHasher + Drop> {
     passed: Passed,
-    handles: HandleTable<S>,
+    handles: WaitingHandles<S>,
 }
 
 impl<S: BuildHasher + Drop> Tally<S> {
@@ -88,7 +88,7 @@ impl<S: BuildHasher + Drop> Tally<S> {
     {
         Tally {
             passed: Passed::new(),
-            handles: HandleTable::new(alloc, hasher),
+            handles: WaitingHandles::new(alloc, hasher),
         }
     }
 
@@ -130,9 +130,11 @@ impl<S: BuildHasher + Drop> Tally<S> {
         }
     }
 
-    fn summary(&self) -> Summary
-        ensures { (entries : List spec.Entry) → Tallies self.now entries → Sums result entries }
+    fn summary(&mut self) -> Result<Summary, AllocError>
+        ensures { (entries : List spec.Entry) → Tallies self.old entries
+            → IfOk result (λ summary. Sums summary entries) }
     {
-        self.passed.summary(self.handles.len())
+        let handles = self.handles.count()?;
+        Ok(self.passed.summary(handles))
     }
 }
