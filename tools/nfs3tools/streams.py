@@ -11,6 +11,7 @@ WRITTEN_AT_ONCE = 1 << 16
 UNWRITTEN_AT_MOST = 16 << 20  # bytes of all streams together that are not in the temporary file yet
 HELD_AT_MOST = 8 << 20  # bytes of a stream behind a gap; then the bytes of the gap count as lost
 HELD_BY_ALL = 64 << 20  # the same of all streams together
+LIKELY_AT_MOST = 64 << 20  # bytes that were sent beyond the last that is known
 COST_OF_PIECE = 128  # bytes that a piece held back takes besides its own
 
 
@@ -201,12 +202,16 @@ class Stream:
     def shows(self, end: int, number: int) -> None:
         """A frame shows that bytes were sent up to a position. FIN is acknowledged as one more."""
         end = end if self.end is None else min(end, self.end)
-        if end > self.known_end:
+        if end > self.known_end and self.is_likely(end):
             self.known_end, self.known_by = end, number
+
+    def is_likely(self, position: int) -> bool:
+        """Whether an end of the bytes that were sent is not far beyond all that is known, as that of an older connection."""
+        return position <= max(self.next, self.known_end) + LIKELY_AT_MOST
 
     def ends_at(self, end: int, number: int) -> None:
         """The position of the end is known, unless bytes beyond it were sent."""
-        if self.end is None and end >= self.next:
+        if self.end is None and end >= self.next and self.is_likely(end):
             self.shows(end, number)
             self.end, self.known_end = end, min(end, self.known_end)
 
