@@ -44,7 +44,7 @@ def main(words: list[str]) -> int:
     chosen = parser.parse_args(words)
     if is_same_file(chosen.recording, chosen.out):
         raise NotTaken('OUT is the recording')
-    with take(chosen.recording, options_of(chosen), keeps_frames=False) as taken:
+    with take(chosen.recording, options_of(chosen), frames=False) as taken:
         if not taken.is_recording:
             raise NotTaken(f'{chosen.recording} is a capture already')
         for line in lines_of(taken):
