@@ -69,7 +69,9 @@ def times(tools: Tools) -> None:
     frames, second = whole(), 1_000_000_000
     for what, recording, time in (
             ('microseconds', pcap(frames), second + 3_000), ('nanoseconds', pcap(frames, magic=NANOSECONDS), second + 3),
-            ('pcapng', pcapng(frames), 3_000),
+            ('microseconds, big-endian', pcap(frames, order='>'), second + 3_000),
+            ('nanoseconds, big-endian', pcap(frames, order='>', magic=NANOSECONDS), second + 3),
+            ('pcapng', pcapng(frames), 3_000), ('pcapng, big-endian', pcapng(frames, '>'), 3_000),
             ('milliseconds', section() + interface(unit=3) + b''.join(enhanced(frame, 7 << 30) for frame in frames), (7 << 30) * 1_000_000),
             ('a power of two', section() + interface(unit=0x80 | 10) + b''.join(enhanced(frame, 1_536) for frame in frames), second * 3 // 2),
             ('an offset', section() + interface(unit=9, offset=5) + b''.join(enhanced(frame, 1) for frame in frames), 5 * second + 1)):

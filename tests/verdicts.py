@@ -247,7 +247,7 @@ def interrupted(tools: Tools) -> None:
     """An interrupt ends it without a traceback, and nothing is left behind."""
     os.mkfifo(os.path.join(tools.folder, 'fifo'))
     words = [str(TOP / 'tools/verdicts'), '--program', tools.program, 'fifo']
-    process = subprocess.Popen(words, cwd=tools.folder, stdout=subprocess.PIPE, stderr=subprocess.PIPE)
+    process = subprocess.Popen(words, cwd=tools.folder, stdout=subprocess.PIPE, stderr=subprocess.PIPE, preexec_fn=take_interrupts)
     with open(os.path.join(tools.folder, 'fifo'), 'wb') as fifo:
         fifo.write(pcap(whole()))
         fifo.flush()
@@ -260,6 +260,11 @@ def interrupted(tools: Tools) -> None:
     assert listed.stdout and listed.stderr
     listed.stdout.close()
     tools.want('a reader that is gone', (listed.stderr.read(), listed.wait()), (b'', 3))
+
+
+def take_interrupts() -> None:
+    """What runs behind a shell may have them ignored."""
+    signal.signal(signal.SIGINT, signal.SIG_DFL)
 
 
 def tried(program: str, test: typing.Callable[[Tools], None]) -> list[str]:
