@@ -310,8 +310,8 @@ def dropped(side: str, size: int) -> str:
 
 
 def replies_left_out(number: int) -> str:
-    verb = 'reply, whose calls are not in the recording, is' if number == 1 else 'replies, whose calls are not in the recording, are'
-    return f'connection 1 server: {number} {verb} left out'
+    told = 'reply to a call that is not in the recording is' if number == 1 else 'replies to calls that are not in the recording are'
+    return f'connection 1 server: {number} {told} left out'
 
 
 def what_is_left_out(tools: Tools) -> None:

@@ -53,6 +53,7 @@ class Record(typing.NamedTuple):
 
 class TakenStream:
     """The bytes of one side that are taken. They stay in memory if they are few, else in a temporary file."""
+    __slots__ = 'stored', 'noted', 'ranges', 'begins', 'size', 'index'
 
     def __init__(self, stored: Stored, frames: Frames | None, ranges: list[tuple[int, int]]):
         self.stored, self.noted, self.ranges = stored, frames, ranges
@@ -94,12 +95,12 @@ class TakenStream:
 
     def frames(self, begin: int, end: int) -> list[FrameRef]:
         """Returns the frames that brought the bytes, in order of their numbers, each once."""
-        found = set[FrameRef]()
-        for part, (first, last) in enumerate(self.ranges):
-            low, high = max(begin, self.begins[part]), min(end, self.begins[part + 1])
-            if low < high and self.noted is not None:
-                shift = first - self.begins[part]
-                found.update(frames_between(self.noted, low + shift, high + shift))
+        found, part = set[FrameRef](), bisect.bisect_right(self.begins, begin) - 1
+        while self.noted is not None and begin < min(end, self.size):
+            part_end = min(end, self.begins[part + 1])
+            shift = self.ranges[part][0] - self.begins[part]
+            found.update(frames_between(self.noted, begin + shift, part_end + shift))
+            begin, part = part_end, part + 1
         return sorted(found)
 
 
