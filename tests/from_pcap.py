@@ -23,7 +23,7 @@ from recordings import (
     fragments, fragments_6, interface, loopback, obsolete, pcap, pcapng, section, simple)
 from running import try_all, words_of
 from scripts import (
-    ALL, CALLS, REPLIES, TOP, Streams, Taken, Tools, exchange, in_fragments, packed, stream, taken_of, whole)
+    ALL, CALLS, REPLIES, TOP, Streams, Taken, Tools, exchange, in_fragments, lines_of, packed, stream, taken_of, whole)
 from traffic import NFS, Names, Traffic, call, messages, success
 from nfs3tools import captures, streams
 from nfs3tools.captures import capture_of
@@ -182,7 +182,7 @@ def datagrams_in_fragments(tools: Tools) -> None:
         at = in_order.index(pieces[4][1])
         lines = tools.taken('a fragment is lost', pcap(in_order[:at] + in_order[at + 1:]), [(ALL[0][:FIFTH // CALL * CALL], ALL[1][:FIFTH // CALL * REPLY])])
         tools.want('a fragment is lost', '%d bytes are missing' % FIFTH in lines[1], True)
-    lone = [ethernet(piece) for number in range(3_000) for piece in fragments(datagram(CLIENT, SERVER, bytes(4_000)), 2_000, number)[:1]]
+    lone = [ethernet(piece) for number in range(99) for piece in fragments(datagram(CLIENT, SERVER, bytes(4_000)), 2_000, number)[:1]]
     tools.taken('fragments that stay alone', pcap(lone + whole()), [ALL])
 
 
@@ -565,6 +565,10 @@ def memory(tools: Tools) -> None:
         kilobytes, told = streamed(tools, 3_200, lost)
         tools.want(what + ': taken', told[:2], ['connection', '1:'])
         tools.want(what + ': memory below 80 MB', kilobytes < 80_000 or kilobytes, True)
+    pending = Segments()
+    for number in range(40_000):
+        pending.segment(Frame(1, 0, 1, ethernet(fragments(datagram(CLIENT, SERVER, bytes(2_000)), 1_000, number)[0]), 1_034))
+    tools.want('fragments that stay alone', (pending.held < 5 << 20, len(pending.pending) < 5_000), (True, True))
 
 
 def streamed(tools: Tools, count: int, lost: int) -> tuple[int, list[str]]:
@@ -733,10 +737,25 @@ def checked(tools: Tools, what: str, conversation: Conversation, present: list[i
     tools.write('a', b''.join(capture_of(taken.pairs())))
     status, out, error = tools.run('check', 'a')
     tools.want(what, (status, error), (0, ''))
-    kept = sum(connection.stream(side).count_records() for connection in taken.connections for side in SIDES)
+    kept = messages_in(taken)
     tools.want(what + ', kept', kept >= share * whole_messages(conversation, set(present)), True)
-    if len(present) < len(conversation.frames):
-        tools.want(what + ', told', not midstream or bool(taken.left_out or kept), True)
+    told = [line for line in lines_of(taken) if ': client ' not in line]
+    tools.want(what + ', told', bool(told) or not is_shown(conversation, set(present)), True)
+
+
+def messages_in(taken: Taken) -> int:
+    return sum(connection.stream(side).count_records() for connection in taken.connections for side in SIDES)
+
+
+def is_shown(conversation: Conversation, present: set[int]) -> bool:
+    """Whether a frame that is absent brought bytes, and one before and one after it in its stream are there."""
+    for connection in conversation.taken.connections:
+        for side in SIDES:
+            numbers = [frame.number for frame in connection.stream(side).frames(0, connection.stream(side).size)]
+            there = sorted(present & set(numbers))
+            if there and any(there[0] < number < there[-1] for number in numbers if number not in present):
+                return True
+    return False
 
 
 def cuts(tools: Tools) -> None:
