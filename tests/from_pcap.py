@@ -268,6 +268,11 @@ def beginnings_and_ends(tools: Tools) -> None:
     frames = [*talk.opened(), *exchange(talk), talk.frame(0, RST, b'a reason in words'), talk.frame(1, RST | ACK)]
     tools.told('RST', pcap(frames), [ALL], [])
     talk = Talk()
+    frames = [*talk.opened(), *exchange(talk)]
+    talk.next[0] += 1 << 30
+    tools.told('an acknowledgement of an older connection', pcap([*frames, talk.frame(1, ACK)]), [ALL], [])
+    tools.told('FIN of an older connection', pcap([*frames, talk.frame(0, FIN | ACK)]), [ALL], [])
+    talk = Talk()
     frames = [*talk.opened(), talk.sent(0, ALL[0]), talk.frame(0, RST), talk.sent(1, ALL[1])]
     tools.told('what is on its way as RST comes', pcap(frames), [ALL], [])
 
@@ -422,6 +427,10 @@ def midstream(tools: Tools) -> None:
     frames = [*talk.opened(), talk.sent(0, calls[:-3]), talk.sent(1, replies[:-REPLY]), *talk.closed()]
     tools.told('a record that FIN cuts', pcap(frames), [(calls[:-3], replies[:-REPLY])], [], midstream=True)
     tools.told('a whole recording', pcap(whole()), [ALL], [], midstream=True)
+    talk = Talk()
+    writing = stream([call(77, NFS, 3, 7, messages.fh(b'abcde') + messages.hyper(0) + messages.word(99) + messages.opaque(bytes(99)))])
+    frames = [talk.sent(0, writing[:90]), *talk.closed()]
+    tools.taken('no record is whole', pcap(frames), [], midstream=True)
 
 
 def midstream_after_gaps(tools: Tools) -> None:
@@ -537,6 +546,27 @@ def files(tools: Tools) -> None:
         done = subprocess.run([*limited, name, 'out'], cwd=tools.folder, stderr=subprocess.PIPE, check=False)
         tools.want('a full disk', (done.returncode, done.stderr.decode().splitlines()[-1], tools.read('out')), (3, message, b'old'))
     tools.want('what is left', [name for name in os.listdir(tools.folder) if name.startswith('.')], [])
+
+
+def long_streams(tools: Tools) -> None:
+    """Streams of more than a chunk, and of more than stays in memory, are as `pack` writes them."""
+    for size in (65_535, 65_536, 65_537, 131_072, 700_001):
+        sides = [random.Random(size + side).randbytes(size - side * 7) for side in range(2)]
+        talk, frames = Talk(), list[bytes]()
+        for at in range(0, size, 1_448):
+            frames += [talk.sent(side, content[at:at + 1_448]) for side, content in enumerate(sides)]
+        tools.write('a.pcap', pcap([*Talk().opened(), *(moved(frame) for frame in frames)]))
+        for name, content in zip('cs', sides):
+            tools.write(name, content)
+        tools.run('pack', 'wanted', 'c', 's')
+        status = tools.tool('from_pcap', 'a.pcap', 'out')[0]
+        tools.want(f'{size} bytes', (status, tools.read('out') == tools.read('wanted')), (0, True))
+
+
+def moved(frame: bytes) -> bytes:
+    """A segment of a talk that was not opened, after the SYN of one that was."""
+    sequence, acknowledged = struct.unpack_from('>2I', frame, 38)
+    return frame[:38] + struct.pack('>2I', sequence + 1, acknowledged + 1) + frame[46:]
 
 
 def limits(tools: Tools) -> None:
@@ -809,7 +839,7 @@ OF_TSHARK = [filters]
 TESTS = [mutated, short_way, cuts, losses, memory, recordings_of_all_kinds, times, recordings_that_end_early, link_layers, internet_layers,
          datagrams_in_fragments, segments_in_any_order, bytes_that_came_first, beginnings_and_ends, who_is_the_client, what_is_left_out,
          bytes_are_missing, frames_that_are_cut, whole_records, midstream, midstream_after_gaps, faults_stay, embedded, search_is_linear,
-         files, limits, filters]
+         files, long_streams, limits, filters]
 
 
 def main() -> None:
