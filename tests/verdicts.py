@@ -13,14 +13,12 @@ import re
 import shutil
 import signal
 import subprocess
-import tempfile
 import time
-import typing
 import xml.etree.ElementTree
 
 from recordings import ACK, NANOSECONDS, Talk, ethernet, fragments, interface, pcap, section, simple
 from running import try_all, words_of
-from scripts import ALL, CALLS, REPLIES, TOP, Tools, exchange, in_fragments, stream, taken_of, whole
+from scripts import ALL, CALLS, REPLIES, TOP, Tools, exchange, in_fragments, stream, taken_of, tried, whole
 from traffic import NFS, call, success
 from nfs3tools.places import SIDES, Place
 
@@ -265,13 +263,6 @@ def interrupted(tools: Tools) -> None:
 def take_interrupts() -> None:
     """What runs behind a shell may have them ignored."""
     signal.signal(signal.SIGINT, signal.SIG_DFL)
-
-
-def tried(program: str, test: typing.Callable[[Tools], None]) -> list[str]:
-    with tempfile.TemporaryDirectory(prefix='nfs3canon') as folder:
-        tools = Tools(program, folder)
-        test(tools)
-        return tools.wrong
 
 
 OF_TSHARK = [places_at_the_frames_of_tshark]
