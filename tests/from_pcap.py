@@ -15,7 +15,6 @@ import shutil
 import struct
 import subprocess
 import sys
-import tempfile
 import typing
 
 from recordings import (
@@ -23,14 +22,13 @@ from recordings import (
     fragments, fragments_6, interface, loopback, obsolete, pcap, pcapng, section, simple)
 from running import try_all, words_of
 from scripts import (
-    ALL, CALLS, REPLIES, TOP, Streams, Taken, Tools, exchange, in_fragments, packed, stream, taken_of, whole)
-from traffic import NFS, Names, Traffic, call, messages, success
+    ALL, CALLS, REPLIES, TOP, Tools, exchange, in_fragments, packed, stream, taken_of, tried, whole)
+from traffic import NFS, call, messages, success
 from nfs3tools import captures, streams
 from nfs3tools.captures import capture_of
-from nfs3tools.places import SIDES
 from nfs3tools.recordings import Frame
 from nfs3tools.segments import Segments
-from nfs3tools.taken import NotTaken
+from nfs3tools.taken import NotTaken, TakenStream
 
 SIZES = ', %d and %d bytes' % (len(ALL[0]), len(ALL[1]))
 CALL, REPLY = len(stream(CALLS[:1])), len(stream(REPLIES[:1]))
@@ -69,7 +67,9 @@ def times(tools: Tools) -> None:
     frames, second = whole(), 1_000_000_000
     for what, recording, time in (
             ('microseconds', pcap(frames), second + 3_000), ('nanoseconds', pcap(frames, magic=NANOSECONDS), second + 3),
-            ('pcapng', pcapng(frames), 3_000),
+            ('microseconds, big-endian', pcap(frames, order='>'), second + 3_000),
+            ('nanoseconds, big-endian', pcap(frames, order='>', magic=NANOSECONDS), second + 3),
+            ('pcapng', pcapng(frames), 3_000), ('pcapng, big-endian', pcapng(frames, '>'), 3_000),
             ('milliseconds', section() + interface(unit=3) + b''.join(enhanced(frame, 7 << 30) for frame in frames), (7 << 30) * 1_000_000),
             ('a power of two', section() + interface(unit=0x80 | 10) + b''.join(enhanced(frame, 1_536) for frame in frames), second * 3 // 2),
             ('an offset', section() + interface(unit=9, offset=5) + b''.join(enhanced(frame, 1) for frame in frames), 5 * second + 1)):
@@ -142,8 +142,8 @@ def link_layers(tools: Tools) -> None:
 def internet_layers(tools: Tools) -> None:
     """Options and extension headers, fragments in any order, lengths of 0, and those that lie."""
     talk = Talk()
-    v4 = [ethernet(content[:1].replace(b'\x45', b'\x46') + content[1:2] + struct.pack('>H', len(content) + 4) + content[4:20] + b'\1\1\1\0'
-                   + content[20:]) for content in (frame[14:] for frame in whole())]
+    v4 = [ethernet(b'\x46' + content[1:2] + struct.pack('>H', len(content) + 4) + content[4:20] + b'\1\1\1\0' + content[20:])
+          for content in (frame[14:] for frame in whole())]
     tools.taken('options of IPv4', pcap(v4), [ALL])
     talk = Talk()
     with_options = [ethernet(talk.datagram(0, SYN, options=b'\2\4\5\xb4')), *whole()[1:3]]
@@ -178,9 +178,10 @@ def datagrams_in_fragments(tools: Tools) -> None:
         changed = pieces[3][1][:-8] + b'\xee' * 8
         tools.taken('the first fragment counts', pcap(in_order[:5] + [changed] + in_order[5:]), [ALL])
         at = in_order.index(pieces[4][1])
-        lines = tools.taken('a fragment is lost', pcap(in_order[:at] + in_order[at + 1:]), [(ALL[0][:FIFTH // CALL * CALL], ALL[1][:FIFTH // CALL * REPLY])])
+        kept = ALL[0][:FIFTH // CALL * CALL], ALL[1][:FIFTH // CALL * REPLY]
+        lines = tools.taken('a fragment is lost', pcap(in_order[:at] + in_order[at + 1:]), [kept])
         tools.want('a fragment is lost', '%d bytes are missing' % FIFTH in lines[1], True)
-    lone = [ethernet(piece) for number in range(3_000) for piece in fragments(datagram(CLIENT, SERVER, bytes(4_000)), 2_000, number)[:1]]
+    lone = [ethernet(piece) for number in range(99) for piece in fragments(datagram(CLIENT, SERVER, bytes(4_000)), 2_000, number)[:1]]
     tools.taken('fragments that stay alone', pcap(lone + whole()), [ALL])
 
 
@@ -266,6 +267,11 @@ def beginnings_and_ends(tools: Tools) -> None:
     frames = [*talk.opened(), *exchange(talk), talk.frame(0, RST, b'a reason in words'), talk.frame(1, RST | ACK)]
     tools.told('RST', pcap(frames), [ALL], [])
     talk = Talk()
+    frames = [*talk.opened(), *exchange(talk)]
+    talk.next[0] += 1 << 30
+    tools.told('an acknowledgement of an older connection', pcap([*frames, talk.frame(1, ACK)]), [ALL], [])
+    tools.told('FIN of an older connection', pcap([*frames, talk.frame(0, FIN | ACK)]), [ALL], [])
+    talk = Talk()
     frames = [*talk.opened(), talk.sent(0, ALL[0]), talk.frame(0, RST), talk.sent(1, ALL[1])]
     tools.told('what is on its way as RST comes', pcap(frames), [ALL], [])
 
@@ -308,8 +314,8 @@ def dropped(side: str, size: int) -> str:
 
 
 def replies_left_out(number: int) -> str:
-    verb = 'reply, whose calls are not in the recording, is' if number == 1 else 'replies, whose calls are not in the recording, are'
-    return f'connection 1 server: {number} {verb} left out'
+    told = 'reply to a call that is not in the recording is' if number == 1 else 'replies to calls that are not in the recording are'
+    return f'connection 1 server: {number} {told} left out'
 
 
 def what_is_left_out(tools: Tools) -> None:
@@ -420,6 +426,12 @@ def midstream(tools: Tools) -> None:
     frames = [*talk.opened(), talk.sent(0, calls[:-3]), talk.sent(1, replies[:-REPLY]), *talk.closed()]
     tools.told('a record that FIN cuts', pcap(frames), [(calls[:-3], replies[:-REPLY])], [], midstream=True)
     tools.told('a whole recording', pcap(whole()), [ALL], [], midstream=True)
+    talk = Talk()
+    writing = stream([call(77, NFS, 3, 7, messages.fh(b'abcde') + messages.hyper(0) + messages.word(99) + messages.opaque(bytes(99)))])
+    two = stream(CALLS[:2])
+    for content in (writing[:90], two + b'\x80\0\0\x99' + b'x' * 28, two + b'x' * 99, two + bytes(3) + two + b'x' * 99):
+        tools.taken('no run of records', pcap([Talk().sent(0, content), *Talk(first=(1_000 + len(content), 5_000)).closed()]), [],
+                    midstream=True)
 
 
 def midstream_after_gaps(tools: Tools) -> None:
@@ -431,10 +443,9 @@ def midstream_after_gaps(tools: Tools) -> None:
     tools.told('a gap', pcap(frames[:4] + frames[5:]), [kept],
                [told_of_gap('client', FIFTH, FIFTH, 5) + f'; {torn} bytes of torn records are left out', replies_left_out(after - before)],
                midstream=True)
-    lines = tools.taken('two gaps', pcap(frames[:4] + frames[5:6] + frames[7:]), [
-        tuple(b''.join(content[size * at:size * at + size] for at in range(39)
-                       if at < before or 2 * FIFTH <= at * CALL and at * CALL + CALL <= 3 * FIFTH or at * CALL >= 4 * FIFTH)
-              for content, size in ((calls, CALL), (replies, REPLY)))], midstream=True)
+    present = [at for at in range(39) if at < before or 2 * FIFTH <= at * CALL and at * CALL + CALL <= 3 * FIFTH or at * CALL >= 4 * FIFTH]
+    left = [b''.join(content[size * at:size * at + size] for at in present) for content, size in ((calls, CALL), (replies, REPLY))]
+    lines = tools.taken('two gaps', pcap(frames[:4] + frames[5:6] + frames[7:]), [(left[0], left[1])], midstream=True)
     tools.want('two gaps', f'before frame 5, and {FIFTH} more in 1 place; ' in lines[1] or lines, True)
     lost = whole()
     tools.told('the last reply', pcap(lost[:12] + lost[-1:]), [(calls, replies[:4 * FIFTH_OF_REPLIES // REPLY * REPLY])],
@@ -475,6 +486,12 @@ def embedded(tools: Tools) -> None:
         frames = [talk.sent(0, writing[cut:] + ALL[0]), talk.sent(1, ALL[1])]
         tools.told('a capture written over NFS', pcap(frames), [ALL], [left_out_before('client', len(writing) - cut)], midstream=True)
     inner = messages.capture(([], REPLIES))
+    many = messages.capture(([call(number, NFS, 3, 0) for number in range(3_000)], []))
+    data = messages.fh(b'abcde') + messages.hyper(0) + messages.word(len(many)) + messages.word(0) + messages.opaque(many)
+    cut = stream([call(77, NFS, 3, 7, data)])[99:]
+    pieces, talk = cut + ALL[0], Talk()
+    frames = [talk.sent(0, pieces[at:at + 60_000]) for at in range(0, len(pieces), 60_000)] + [talk.sent(1, ALL[1])]
+    tools.told('a long capture written over NFS', pcap(frames), [ALL], [left_out_before('client', len(cut))], midstream=True)
     answer = stream([success(3, messages.ok(messages.post_op_attr(None), messages.word(len(inner)), messages.word(1), messages.opaque(inner)))])
     reading = stream([call(3, NFS, 3, 6, messages.fh(b'a') + messages.hyper(0) + messages.word(9_999))])
     rest = [success(number) for number in range(40, 50)]
@@ -537,6 +554,27 @@ def files(tools: Tools) -> None:
     tools.want('what is left', [name for name in os.listdir(tools.folder) if name.startswith('.')], [])
 
 
+def long_streams(tools: Tools) -> None:
+    """Streams of more than a chunk, and of more than stays in memory, are as `pack` writes them."""
+    for size in (65_535, 65_536, 65_537, 131_072, 700_001):
+        sides = [random.Random(size + side).randbytes(size - side * 7) for side in range(2)]
+        talk, frames = Talk(), list[bytes]()
+        for at in range(0, size, 1_448):
+            frames += [talk.sent(side, content[at:at + 1_448]) for side, content in enumerate(sides)]
+        tools.write('a.pcap', pcap([*Talk().opened(), *(moved(frame) for frame in frames)]))
+        for name, content in zip('cs', sides):
+            tools.write(name, content)
+        tools.run('pack', 'wanted', 'c', 's')
+        status = tools.tool('from_pcap', 'a.pcap', 'out')[0]
+        tools.want(f'{size} bytes', (status, tools.read('out') == tools.read('wanted')), (0, True))
+
+
+def moved(frame: bytes) -> bytes:
+    """A segment of a talk that was not opened, after the SYN of one that was."""
+    sequence, acknowledged = struct.unpack_from('>2I', frame, 38)
+    return frame[:38] + struct.pack('>2I', sequence + 1, acknowledged + 1) + frame[46:]
+
+
 def limits(tools: Tools) -> None:
     """More than a capture may have is refused before anything is written."""
     taken = taken_of(pcap(whole()))
@@ -552,9 +590,11 @@ def limits(tools: Tools) -> None:
         tools.want(what, tools.exists('out'), False)
 
 
-class Endless:
+class Endless(TakenStream):
     """A stream that is longer than a capture may be."""
-    size = captures.MOST_BYTES + 1
+
+    def __init__(self) -> None:
+        self.size = captures.MOST_BYTES + 1
 
 
 def memory(tools: Tools) -> None:
@@ -563,6 +603,10 @@ def memory(tools: Tools) -> None:
         kilobytes, told = streamed(tools, 3_200, lost)
         tools.want(what + ': taken', told[:2], ['connection', '1:'])
         tools.want(what + ': memory below 80 MB', kilobytes < 80_000 or kilobytes, True)
+    pending = Segments()
+    for number in range(40_000):
+        pending.segment(Frame(1, 0, 1, ethernet(fragments(datagram(CLIENT, SERVER, bytes(2_000)), 1_000, number)[0]), 1_034))
+    tools.want('fragments that stay alone', (pending.held < 5 << 20, len(pending.pending) < 5_000), (True, True))
 
 
 def streamed(tools: Tools, count: int, lost: int) -> tuple[int, list[str]]:
@@ -585,178 +629,6 @@ def streamed(tools: Tools, count: int, lost: int) -> tuple[int, list[str]]:
     return usage.ru_maxrss, error.read().decode().split()
 
 
-# --- Laws ---
-
-def frames_of(recording: bytes) -> list[bytes]:
-    """The records of a recording as pcap has them, little-endian."""
-    at, frames = 24, []
-    while at + 16 <= len(recording):
-        end = at + 16 + int.from_bytes(recording[at + 8:at + 12], 'little')
-        frames.append(recording[at:end])
-        at = end
-    return frames
-
-
-def mutated(tools: Tools) -> None:
-    """Random mutations of recordings: no traceback, and no byte in a capture that its frame does not have."""
-    chance = random.Random(11)
-    v6 = whole(hosts=('2001:db8::7', '2001:db8::1'), vlan=3)
-    bases = [pcap(whole()), pcapng(whole()), pcap(v6), pcap(whole() + whole(port=701, first=(7, 9))), pcap(whole()[4:]), pcap(whole(), 154),
-             gzip.compress(pcap(whole())),
-             pcap(ethernet(piece) for number, frame in enumerate(whole()) for piece in fragments(frame[14:], 64, number))]
-    for number in range(4_000):
-        base, recording = bases[number % len(bases)], b''
-        recording = mutation(chance, base)
-        try:
-            taken = taken_of(recording, midstream=number % 3 == 0, whole_records=number % 5 == 0)
-        except NotTaken:
-            continue
-        except Exception as wrong:  # what is wanted is that there is none
-            tools.want(f'mutation {number}', repr(wrong), 'none')
-            continue
-        if recording[:4] == base[:4] == b'\xd4\xc3\xb2\xa1' and base is not bases[-1]:
-            tools.want(f'bytes of mutation {number}', bytes_not_on_the_wire(taken, frames_of(recording)), [])
-
-
-def short_way(tools: Tools) -> None:
-    """Plain frames, which are read by a way of their own, give the same segments as by that for frames of any kind."""
-    chance = random.Random(13)
-    frames = [frame for options in ({}, {'vlan': 7}) for frame in whole(**options)]
-    for number in range(20_000):
-        data = bytearray(chance.choice(frames))
-        for _ in range(chance.randrange(3)):
-            data[chance.randrange(12, min(60, len(data)))] = chance.choice((0, 1, 5, 6, 0x45, 0x50, 0x60, 0xf0, 255, chance.randrange(256)))
-        data = data[:chance.choice((len(data), len(data), chance.randrange(len(data))))]
-        frame = Frame(1, 0, 1, bytes(data), len(data) + chance.choice((0, 0, 9)))
-        found = [Segments().segment(frame), Segments().of_any(frame)]
-        tools.want(f'frame {number}: {frame.data.hex()}', found[0], found[1])
-
-
-def mutation(chance: random.Random, base: bytes) -> bytes:
-    content = bytearray(base)
-    for _ in range(chance.choice((1, 1, 2, 5, 20))):
-        at = chance.randrange(len(content))
-        match chance.randrange(6):
-            case 0:
-                content[at] ^= 1 << chance.randrange(8)
-            case 1:
-                content[at] = chance.choice((0, 1, 127, 128, 255))
-            case 2:
-                del content[at:at + chance.choice((1, 4, 16, 60))]
-            case 3:
-                content[at:at] = chance.randbytes(chance.choice((1, 4, 16, 60)))
-            case 4:
-                other = chance.randrange(len(content))
-                content[at:at + 60] = content[other:other + 60]
-            case 5:
-                content[at & ~3:(at & ~3) + 4] = chance.choice((bytes(4), b'\xff' * 4, b'\0\0\1\0', b'\x80\0\0\x28'))
-        content = content or bytearray(base)
-    return bytes(content[:chance.randrange(len(content))] if chance.random() < 0.1 else content)
-
-
-def bytes_not_on_the_wire(taken: Taken, frames: list[bytes]) -> list[int]:
-    """The frames that are said to carry bytes of a stream, and do not."""
-    wrong = []
-    for connection in taken.connections:
-        for side in SIDES:
-            taken_stream = connection.stream(side)
-            noted, stored = taken_stream.noted, taken_stream.stored
-            ends = [*noted.begins[1:], stored.size] if noted else []
-            wrong += [number for begin, end, number in zip(noted.begins, ends, noted.numbers)
-                      if stored.read(begin, end - begin) not in frames[number - 1][16:]]
-    return wrong
-
-
-class Conversation(typing.NamedTuple):
-    """A recording, its frames with their heads, and what is whole in it."""
-    head: bytes
-    frames: list[bytes]
-    taken: Taken
-
-
-def conversations() -> list[Conversation]:
-    """The real recordings of the examples, and random traffic in segments of any size."""
-    recordings = [(TOP / 'examples' / name).read_bytes() for name in ('ganesha_a.pcap', 'ganesha_b.pcap')]
-    for seed in range(4):
-        recordings.append(random_recording(seed))
-    return [Conversation(content[:24], frames_of(content), taken_of(content)) for content in recordings]
-
-
-def random_recording(seed: int) -> bytes:
-    """Connections of random traffic at once, in segments of any size; replies come after their calls."""
-    chance, talks = random.Random(seed), []
-    for number, (calls, replies) in enumerate(Traffic(seed, Names.drawn(chance)).connections):
-        known, several = {body[:4] for body in calls}, []
-        for _ in range(12):
-            several.append((stream(calls), stream(body for body in replies if body[:4] in known)))
-        talks.append(segments_of(chance, Talk(700 + number), several))
-    frames = []
-    while talks := [talk for talk in talks if talk]:
-        frames.append(chance.choice(talks).pop(0))
-    return pcap(frames)
-
-
-def segments_of(chance: random.Random, talk: Talk, exchanges: list[Streams]) -> list[bytes]:
-    frames = talk.opened()
-    for exchanged in exchanges:
-        for side, content in enumerate(exchanged):
-            at = 0
-            while at < len(content):
-                size = chance.choice((chance.randrange(1, 200), 1_448))
-                frames.append(talk.sent(side, content[at:at + size]))
-                at += size
-    return frames + talk.closed()
-
-
-def whole_messages(conversation: Conversation, present: set[int]) -> int:
-    """How many messages have all their bytes in the frames that are present; of replies those whose calls have them, too."""
-    number = 0
-    for connection in conversation.taken.connections:
-        known = set[bytes]()
-        for side in SIDES:
-            taken_stream = connection.stream(side)
-            for record in taken_stream.records():
-                extent = taken_stream.extent(record.number)
-                if extent and all(frame.number in present for frame in taken_stream.frames(extent.begin, extent.end)):
-                    if side == 'client':
-                        known.add(record.body[:4])
-                    number += side == 'client' or record.body[:4] in known
-    return number
-
-
-def checked(tools: Tools, what: str, conversation: Conversation, present: list[int], midstream: bool, share: float) -> None:
-    """The frames that are present give a well-formed capture, of at least a share of the messages that are whole in them."""
-    content = conversation.head + b''.join(conversation.frames[number - 1] for number in present)
-    taken = taken_of(content, midstream=midstream)
-    tools.write('a', b''.join(capture_of(taken.pairs())))
-    status, out, error = tools.run('check', 'a')
-    tools.want(what, (status, error), (0, ''))
-    kept = sum(connection.stream(side).count_records() for connection in taken.connections for side in SIDES)
-    tools.want(what + ', kept', kept >= share * whole_messages(conversation, set(present)), True)
-    if len(present) < len(conversation.frames):
-        tools.want(what + ', told', not midstream or bool(taken.left_out or kept), True)
-
-
-def cuts(tools: Tools) -> None:
-    """Recordings that begin, and end, in the middle of connections, give well-formed captures with nearly all that is whole."""
-    chance = random.Random(1)
-    for conversation in conversations():
-        count = len(conversation.frames)
-        for _ in range(20):
-            begin, end = chance.randrange(count), count if chance.random() < 0.5 else chance.randrange(1, count + 1)
-            present = list(range(begin + 1, max(begin + 1, end) + 1))
-            checked(tools, f'frames {present[0]} to {present[-1]}', conversation, [n for n in present if n <= count], True, 0.9)
-
-
-def losses(tools: Tools) -> None:
-    """Of recordings that lack frames nothing wrong is said, and with --midstream nearly all that is whole is kept."""
-    chance = random.Random(2)
-    for conversation in conversations():
-        for number in range(14):
-            present = [at for at in range(1, len(conversation.frames) + 1) if chance.random() > 0.01 * (1 + number % 2 * 4)]
-            checked(tools, f'loss {number}', conversation, present, number % 4 > 1, 0.9 if number % 4 > 1 else 0.0)
-
-
 # --- tshark ---
 
 def filters(tools: Tools) -> None:
@@ -777,18 +649,11 @@ def filters(tools: Tools) -> None:
         tools.want('without tshark', answer, (2, '', 'from_pcap: tshark is missing, which --filter needs\n'))
 
 
-def tried(program: str, test: typing.Callable[[Tools], None]) -> list[str]:
-    with tempfile.TemporaryDirectory(prefix='nfs3canon') as folder:
-        tools = Tools(program, folder)
-        test(tools)
-        return tools.wrong
-
-
 OF_TSHARK = [filters]
-TESTS = [mutated, short_way, cuts, losses, memory, recordings_of_all_kinds, times, recordings_that_end_early, link_layers, internet_layers,
+TESTS = [memory, recordings_of_all_kinds, times, recordings_that_end_early, link_layers, internet_layers,
          datagrams_in_fragments, segments_in_any_order, bytes_that_came_first, beginnings_and_ends, who_is_the_client, what_is_left_out,
          bytes_are_missing, frames_that_are_cut, whole_records, midstream, midstream_after_gaps, faults_stay, embedded, search_is_linear,
-         files, limits, filters]
+         files, long_streams, limits, filters]
 
 
 def main() -> None:

@@ -4,6 +4,7 @@ import os
 import pathlib
 import subprocess
 import sys
+import tempfile
 import typing
 
 from captures import TIMEOUT, Runs
@@ -100,3 +101,11 @@ class Tools(Runs):
 
     def exists(self, name: str) -> bool:
         return os.path.exists(os.path.join(self.folder, name))
+
+
+def tried(program: str, test: typing.Callable[[Tools], None]) -> list[str]:
+    """What is wrong in a test, which has a folder of its own."""
+    with tempfile.TemporaryDirectory(prefix='nfs3canon') as folder:
+        tools = Tools(program, folder)
+        test(tools)
+        return tools.wrong

@@ -13,14 +13,12 @@ import re
 import shutil
 import signal
 import subprocess
-import tempfile
 import time
-import typing
 import xml.etree.ElementTree
 
 from recordings import ACK, NANOSECONDS, Talk, ethernet, fragments, interface, pcap, section, simple
 from running import try_all, words_of
-from scripts import ALL, CALLS, REPLIES, TOP, Tools, exchange, in_fragments, stream, taken_of, whole
+from scripts import ALL, CALLS, REPLIES, TOP, Tools, exchange, in_fragments, stream, taken_of, tried, whole
 from traffic import NFS, call, success
 from nfs3tools.places import SIDES, Place
 
@@ -247,7 +245,7 @@ def interrupted(tools: Tools) -> None:
     """An interrupt ends it without a traceback, and nothing is left behind."""
     os.mkfifo(os.path.join(tools.folder, 'fifo'))
     words = [str(TOP / 'tools/verdicts'), '--program', tools.program, 'fifo']
-    process = subprocess.Popen(words, cwd=tools.folder, stdout=subprocess.PIPE, stderr=subprocess.PIPE)
+    process = subprocess.Popen(words, cwd=tools.folder, stdout=subprocess.PIPE, stderr=subprocess.PIPE, preexec_fn=take_interrupts)
     with open(os.path.join(tools.folder, 'fifo'), 'wb') as fifo:
         fifo.write(pcap(whole()))
         fifo.flush()
@@ -262,11 +260,9 @@ def interrupted(tools: Tools) -> None:
     tools.want('a reader that is gone', (listed.stderr.read(), listed.wait()), (b'', 3))
 
 
-def tried(program: str, test: typing.Callable[[Tools], None]) -> list[str]:
-    with tempfile.TemporaryDirectory(prefix='nfs3canon') as folder:
-        tools = Tools(program, folder)
-        test(tools)
-        return tools.wrong
+def take_interrupts() -> None:
+    """What runs behind a shell may have them ignored."""
+    signal.signal(signal.SIGINT, signal.SIG_DFL)
 
 
 OF_TSHARK = [places_at_the_frames_of_tshark]

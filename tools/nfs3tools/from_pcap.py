@@ -29,7 +29,7 @@ import argparse
 import os
 import sys
 
-from .messages import add_options, ended, lines_of, options_of, parser_of
+from .messages import add_options, ended, options_of, parser_of, tell
 from .taken import NotTaken, take
 
 NOTHING_TAKEN = 1
@@ -44,11 +44,10 @@ def main(words: list[str]) -> int:
     chosen = parser.parse_args(words)
     if is_same_file(chosen.recording, chosen.out):
         raise NotTaken('OUT is the recording')
-    with take(chosen.recording, options_of(chosen), keeps_frames=False) as taken:
+    with take(chosen.recording, options_of(chosen), frames=False) as taken:
         if not taken.is_recording:
             raise NotTaken(f'{chosen.recording} is a capture already')
-        for line in lines_of(taken):
-            print(line, file=sys.stderr)
+        tell(taken)
         if not taken.connections:
             return ended('from_pcap', 'no connection to pack', NOTHING_TAKEN)
         taken.write_capture(chosen.out)

@@ -76,3 +76,9 @@ def lines_of(taken: Taken) -> list[str]:
         lines.append(f'connection {connection.number}: {connection.ends}: client {connection.client_end} {connection.why}, {sizes}')
         lines += [f'connection {connection.number} {note}' for note in connection.notes]
     return lines + [f'left out: {line}' for line in taken.left_out]
+
+
+def tell(taken: Taken) -> None:
+    """Prints that on standard error."""
+    for line in lines_of(taken):
+        print(line, file=sys.stderr)

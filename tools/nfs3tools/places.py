@@ -39,8 +39,8 @@ class Fault(typing.NamedTuple):
         return f'{self.place}: {self.reason}'
 
 
-PLACE = re.compile(r'(?:connection (\d+) (client|server) record (\d+)(?: byte (\d+))?|file (\d+))(?:: (\w+))?\s*$')
-LISTED = re.compile(r'(\d+) (client|server) (\d+)(?= |\s*$)')
+PLACE = re.compile(r'(?:connection (\d{1,18}) (client|server) record (\d{1,18})(?: byte (\d{1,18}))?|file (\d{1,18}))(?:: (\w+))?\s*$')
+LISTED = re.compile(r'(\d{1,18}) (client|server) (\d{1,18})(?= |\s*$)')
 
 
 def parse_place(text: str) -> Place | FilePlace:
@@ -55,7 +55,7 @@ def parse_place(text: str) -> Place | FilePlace:
     if listed:
         return Place(int(listed[1]), side_of(listed[2]), int(listed[3]))
     if not found:
-        raise NoPlace('no place: ' + text.strip())
+        raise NoPlace('no place: ' + text.strip()[:200])
     if found[5] is not None:
         return FilePlace(int(found[5]))
     return Place(int(found[1]), side_of(found[2]), int(found[3]), None if found[4] is None else int(found[4]))

@@ -16,6 +16,7 @@ ENOUGH_RECORDS = 3  # that a place needs if the records from it do not reach the
 FLAVORS = {0, 1, 2, 3, 6, 7}  # AUTH_NONE, AUTH_SYS, AUTH_SHORT, AUTH_DH, RPCSEC_GSS, AUTH_TLS
 LONGEST_AUTH = 400
 HEAD_OF_CALL, HEAD_OF_REPLY = 40, 20  # bytes of the shortest call and reply
+LONGEST_HEAD = 28 + LONGEST_AUTH  # bytes up to the accept_stat of a reply, with the mark
 
 # What follows the xid: mtype and rpcvers, any program, a small version and procedure, a flavor and the length of its body;
 # and mtype and reply_stat, then the flavor of a verifier and its length, or the reason of a denial.
@@ -161,7 +162,7 @@ class Search:
         """Follows the records from a place on."""
         at, records, is_doubted, is_single, passed = begin, 0, False, False, array.array('Q')
         shortest = HEAD_OF_CALL if self.side == 'client' else HEAD_OF_REPLY
-        while at < self.end and at not in self.failed:
+        while at < self.end and at not in self.failed and not self.is_hopeless(at):
             extent = extent_of(self.window, at, self.end)
             self.marks += extent.marks
             is_good = self.is_good(extent, shortest)
@@ -175,9 +176,15 @@ class Search:
             self.failed.update(passed[:REMEMBERED_AT_MOST])
         return Walk(begin, records, reaches_end, is_single)
 
+    def is_hopeless(self, at: int) -> bool:
+        """Whether a record of several fragments without a head begins there; its fragments need not be followed."""
+        self.marks += 1
+        head = self.window.read(at, min(self.end - at, LONGEST_HEAD))
+        return len(head) == LONGEST_HEAD and not head[0] >> 7 and not has_head(head, self.side)
+
     def is_good(self, extent: Extent, shortest: int) -> bool:
         """Whether a record has a head, of which a record that is cut may have less."""
-        head = self.window.read(extent.begin, min(extent.end - extent.begin, 28 + LONGEST_AUTH))
+        head = self.window.read(extent.begin, min(extent.end - extent.begin, LONGEST_HEAD))
         if not extent.is_whole and len(head) < 4 + shortest:
             return len(head) < 12 or int.from_bytes(head[8:12], 'big') == (self.side == 'server')
         length = int.from_bytes(head[:4], 'big') & 0x7fffffff

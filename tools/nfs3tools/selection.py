@@ -157,8 +157,9 @@ def leave_out_replies(streams: tuple[Stream, Stream], calls: Kept, replies: Kept
         left_out += count_of_range
     replies.ranges = ranges
     if left_out:
-        replies.notes.append(f'server: {count(left_out, "reply", "replies")}, whose calls are not in the recording, '
-                             f'{plural(left_out, "is", "are")} left out')
+        replies.notes.append(f'server: {left_out} ' + plural(
+            left_out, 'reply to a call that is not in the recording is left out',
+            'replies to calls that are not in the recording are left out'))
 
 
 def with_calls(window: Window, begin: int, end: int, known: set[int]) -> tuple[list[tuple[int, int]], int]:
@@ -180,8 +181,8 @@ def plural(number: int, one: str, several: str) -> str:
     return one if number == 1 else several
 
 
-def count(number: int, one: str, several: str = '') -> str:
-    return f'{number} {plural(number, one, several or one + "s")}'
+def count(number: int, one: str) -> str:
+    return f'{number} {plural(number, one, one + "s")}'
 
 
 def told_of(gap: Gap) -> str:

@@ -8,9 +8,10 @@ import typing
 from .segments import ACK, FIN, RST, SYN, Segment, ends_of, turned
 
 WRITTEN_AT_ONCE = 1 << 16
-UNWRITTEN_AT_MOST = 16 << 20  # bytes of all streams together that are not in the temporary file yet
+UNWRITTEN_AT_MOST = 8 << 20  # bytes of all streams together that are not in the temporary file yet
 HELD_AT_MOST = 8 << 20  # bytes of a stream behind a gap; then the bytes of the gap count as lost
 HELD_BY_ALL = 64 << 20  # the same of all streams together
+LIKELY_AT_MOST = 64 << 20  # bytes that were sent beyond the last that is known
 COST_OF_PIECE = 128  # bytes that a piece held back takes besides its own
 
 
@@ -49,13 +50,17 @@ class Spool:
             self.file.close()
 
 
+NONE_WRITTEN = array.array('Q')  # is never changed
+
+
 class Stored:
     """Bytes to which more are appended: short ones stay in memory, the others go to the spool."""
+    __slots__ = 'spool', 'size', 'written', 'begins', 'places', 'unwritten'
 
     def __init__(self, spool: Spool):
         self.spool, self.size = spool, 0
         self.written = 0
-        self.begins, self.places = array.array('Q'), array.array('Q')  # of each part that was written
+        self.begins, self.places = NONE_WRITTEN, NONE_WRITTEN  # of each part that was written
         self.unwritten = bytearray()
         spool.stored.append(self)
 
@@ -71,6 +76,8 @@ class Stored:
     def write(self) -> None:
         """Moves the bytes that are in memory to the spool."""
         if self.unwritten:
+            if not self.begins:
+                self.begins, self.places = array.array('Q'), array.array('Q')
             self.begins.append(self.written)
             self.places.append(self.spool.append(self.unwritten))
             self.written = self.size
@@ -128,6 +135,7 @@ class Frames:
 
 class Held:
     """Pieces behind a gap, in order, none of which overlap. Of bytes that came twice the first are held."""
+    __slots__ = 'begins', 'pieces', 'cost'
 
     def __init__(self) -> None:
         self.begins: list[int] = []
@@ -173,6 +181,8 @@ class Held:
 
 class Stream:
     """The bytes that one end sends, in order. Positions count the bytes from the first one on."""
+    __slots__ = ('stored', 'budget', 'frames', 'first', 'is_begin', 'next', 'expected', 'acknowledged', 'runs', 'held', 'end',
+                 'known_end', 'known_by', 'conflicts', 'conflict')
 
     def __init__(self, spool: Spool, budget: Budget, frames: Frames | None):
         self.stored, self.budget, self.frames = Stored(spool), budget, frames
@@ -201,12 +211,16 @@ class Stream:
     def shows(self, end: int, number: int) -> None:
         """A frame shows that bytes were sent up to a position. FIN is acknowledged as one more."""
         end = end if self.end is None else min(end, self.end)
-        if end > self.known_end:
+        if end > self.known_end and self.is_likely(end):
             self.known_end, self.known_by = end, number
+
+    def is_likely(self, position: int) -> bool:
+        """Whether an end of the bytes that were sent is not far beyond all that is known, as that of an older connection."""
+        return position <= max(self.next, self.known_end) + LIKELY_AT_MOST
 
     def ends_at(self, end: int, number: int) -> None:
         """The position of the end is known, unless bytes beyond it were sent."""
-        if self.end is None and end >= self.next:
+        if self.end is None and end >= self.next and self.is_likely(end):
             self.shows(end, number)
             self.end, self.known_end = end, min(end, self.known_end)
 
@@ -296,14 +310,19 @@ class Stream:
 
 class Connection:
     """Two ends, 0 the one that sent the first segment, each with its stream."""
+    __slots__ = 'number', 'key', 'client', 'first_payload', 'is_closed', 'is_chosen', 'streams'
 
     def __init__(self, number: int, key: bytes, spool: Spool, budget: Budget, keeps_frames: bool):
-        self.number = number  # as Wireshark counts tcp.stream, from 0
-        self.ends = ends_of(key)
+        self.number, self.key = number, key  # the number as Wireshark counts tcp.stream, from 0
         self.client: int | None = None  # the end that sent SYN
         self.first_payload: int | None = None  # the end that sent payload first
         self.is_closed = self.is_chosen = False
         self.streams = [Stream(spool, budget, Frames() if keeps_frames else None) for _ in range(2)]
+
+    @property
+    def ends(self) -> tuple[str, str]:
+        """Both ends, each an address with its port."""
+        return ends_of(self.key)
 
     def is_other(self, side: int, segment: Segment) -> bool:
         """Whether a segment with SYN begins another connection of the same ends."""

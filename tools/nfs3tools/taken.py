@@ -53,6 +53,7 @@ class Record(typing.NamedTuple):
 
 class TakenStream:
     """The bytes of one side that are taken. They stay in memory if they are few, else in a temporary file."""
+    __slots__ = 'stored', 'noted', 'ranges', 'begins', 'size', 'index'
 
     def __init__(self, stored: Stored, frames: Frames | None, ranges: list[tuple[int, int]]):
         self.stored, self.noted, self.ranges = stored, frames, ranges
@@ -94,12 +95,12 @@ class TakenStream:
 
     def frames(self, begin: int, end: int) -> list[FrameRef]:
         """Returns the frames that brought the bytes, in order of their numbers, each once."""
-        found = set[FrameRef]()
-        for part, (first, last) in enumerate(self.ranges):
-            low, high = max(begin, self.begins[part]), min(end, self.begins[part + 1])
-            if low < high and self.noted is not None:
-                shift = first - self.begins[part]
-                found.update(frames_between(self.noted, low + shift, high + shift))
+        found, part = set[FrameRef](), bisect.bisect_right(self.begins, begin) - 1
+        while self.noted is not None and begin < min(end, self.size):
+            part_end = min(end, self.begins[part + 1])
+            shift = self.ranges[part][0] - self.begins[part]
+            found.update(frames_between(self.noted, begin + shift, part_end + shift))
+            begin, part = part_end, part + 1
         return sorted(found)
 
 
@@ -146,11 +147,12 @@ class Taken:
     left_out: a line for each connection that is not taken, with the reason
     notes: what is told of the whole recording or capture, a sentence each
     damage: why what follows could not be read, or None; a recording that ends in the middle of a frame is not damaged
-    is_recording: False if read from a capture; then there are no frames
+    is_recording: False if read from a capture
+    has_frames: whether the frames of bytes are noted
     """
 
-    def __init__(self, spool: Spool, is_recording: bool):
-        self.spool, self.is_recording = spool, is_recording
+    def __init__(self, spool: Spool, is_recording: bool, has_frames: bool):
+        self.spool, self.is_recording, self.has_frames = spool, is_recording, has_frames
         self.connections: list[TakenConnection] = []
         self.left_out: list[str] = []
         self.notes: list[str] = []
@@ -177,7 +179,7 @@ class Taken:
         """Returns the frames that carry a byte, or all frames that carry a record if the place names no byte.
 
         The frame of a byte is the first that brought it, not a retransmission. At the end of a body it is that of the
-        last byte. Returns an empty list if read from a capture.
+        last byte. Returns an empty list if no frames are noted.
 
         Raises `NoPlace` if there is no such record or byte.
         """
@@ -218,9 +220,9 @@ def bytes_of(stream: TakenStream, extent: Extent, place: Place) -> tuple[int, in
 
 # --- Taking ---
 
-def take(path: str, options: Options = Options(), keeps_frames: bool = True, shows_progress: bool = True) -> Taken:
-    """Reads a recording or a capture, `-` for standard input. `keeps_frames` says whether the frames of bytes are noted,
-    which takes 24 bytes of memory for each frame; `shows_progress` whether their number is shown on a terminal meanwhile.
+def take(path: str, options: Options = Options(), frames: bool = True, shows_progress: bool = True) -> Taken:
+    """Reads a recording or a capture, `-` for standard input. `frames` says whether the frames of bytes are noted, which
+    takes 24 bytes of memory for each frame; `shows_progress` whether their number is shown on a terminal meanwhile.
 
     Raises `NotTaken`, `Missing` and `FilterRefused` (of `programs`), and `OSError` if a file cannot be read or a temporary
     file not be written.
@@ -232,7 +234,7 @@ def take(path: str, options: Options = Options(), keeps_frames: bool = True, sho
                 file = files.enter_context(copied(file))
                 path = file.name
             chosen = chosen_frames(path, options.filter)
-        taken = take_from(Source(file), options, keeps_frames, chosen, Progress(shows_progress))
+        taken = take_from(Source(file), options, frames, chosen, Progress(shows_progress))
     return taken
 
 
@@ -258,7 +260,7 @@ def take_from(source: Source, options: Options, keeps_frames: bool, chosen: set[
 
 def of_capture(source: Source) -> Taken:
     """The connections of a capture, up to the first that is not whole."""
-    taken = Taken(Spool(), False)
+    taken = Taken(Spool(), False, False)
     try:
         for streams in Container(source, taken.spool).connections():
             client, server = (TakenStream(stored, None, whole(stored)) for stored in streams)
@@ -284,7 +286,7 @@ def of_recording(recording: Recording, options: Options, keeps_frames: bool, cho
         if not frame.number % FRAMES_A_STEP:
             progress.step(frame.number)
     progress.end()
-    taken = Taken(connections.spool, True)
+    taken = Taken(connections.spool, True, keeps_frames)
     taken.damage = recording.damage
     taken.notes = notes_of(recording, segments)
     for connection in connections.finish():

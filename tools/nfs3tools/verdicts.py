@@ -33,6 +33,7 @@ from .programs import Answer, FilterRefused, Missing, program_path, run_program
 from .taken import FrameRef, NotTaken, Options, Taken, TakenConnection, take
 
 NOT_ALL_OK = 1
+CONNECTIONS_AT_ONCE = 32  # of a recording
 State = typing.Literal['ok', 'refused', 'error', 'skipped']
 COUNTS = re.compile(r'ok connections=1 calls=(\d+) replies=(\d+) handles=\d+\n')
 
@@ -145,7 +146,7 @@ def main(words: list[str]) -> int:
     parser.add_argument('--program', metavar='PROGRAM', help='nfs3canon')
     add_options(parser)
     chosen = parser.parse_args(words)
-    at_once = max(1, chosen.j // len(chosen.recordings))
+    at_once = max(1, min(CONNECTIONS_AT_ONCE, chosen.j // len(chosen.recordings)))
     judge = Judge(program_path(chosen.program), options_of(chosen), at_once, len(chosen.recordings) == 1)
     verdicts = list(judged(judge, chosen.recordings, chosen.j))
     print_table(verdicts)

@@ -35,7 +35,7 @@ def main(words: list[str]) -> int:
     chosen = parser.parse_args(words)
     if chosen.place is None and chosen.recording == '-':
         return ended('where', 'PLACE has to be an argument if the recording is standard input', REFUSED)
-    place = parse_place(chosen.place if chosen.place is not None else sys.stdin.read())
+    place = parse_place(chosen.place if chosen.place is not None else sys.stdin.buffer.read().decode(errors='replace'))
     with take(chosen.recording, options_of(chosen)) as taken:
         if not taken.is_recording:
             raise NotTaken(f'{chosen.recording} is a capture, which has no frames')
