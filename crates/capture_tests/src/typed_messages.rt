@@ -205,12 +205,16 @@ fn a_kept_reply_is_read_as_its_results(rt: HostRuntime) -> Result<(), Fail> {
     };
     let read = read_reply(alloc, kept.lend())?;
     let direct = results(alloc, nfs(17), &READDIRPLUS).map_err(|_| "refused")?;
-    let (Some(Results::ReadDirPlus(Res::Done(read))), Results::ReadDirPlus(Res::Done(direct))) =
-        (&read.results, &direct)
-    else {
+    let (Some(Results::ReadDirPlus(Res::Done(read))), Results::ReadDirPlus(Res::Done(direct))) = (
+        &read.results,
+        &direct,
+    ) else {
         return Err("no READDIRPLUS".into());
     };
-    assert_eq!(rt; (read.eof, read.cookieverf), (direct.eof, direct.cookieverf));
+    assert_eq!(rt;
+        (read.eof, read.cookieverf),
+        (direct.eof, direct.cookieverf)
+    );
     assert_eq!(rt; read.entries.len(), direct.entries.len());
     for (one, other) in read.entries.iter().zip(direct.entries.iter()) {
         assert_eq!(rt; (one.fileid, one.cookie), (other.fileid, other.cookie));

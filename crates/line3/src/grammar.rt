@@ -78,7 +78,12 @@ fn streams<'a>(alloc: Global) -> Arg<'a>
     ensures rule { rule_of result ≡ streams_rule }
     ensures local { result.global ≡ false }
 {
-    file(alloc, "STREAMS", "Client and server stream of each connection").num_args(1..)
+    file(
+        alloc,
+        "STREAMS",
+        "Client and server stream of each connection",
+    )
+    .num_args(1..)
 }
 
 fn of_one_file<'a>(
@@ -129,9 +134,7 @@ fn program<'a>(alloc: Global) -> Command<'a>
     ensures { app_of result ≡ bare }
 {
     Command::new(alloc, "nfs3canon")
-        .about(
-            "Check, list and compare recorded NFS version 3 and MOUNT version 3 traffic",
-        )
+        .about("Check, list and compare recorded NFS version 3 and MOUNT version 3 traffic")
         .after_help(ENDINGS)
         .subcommand_required(true)
 }

@@ -4,8 +4,8 @@ ghost use Rattle.std.specs.Prelude.{◌≤◌, IfOk, length};
 ghost use Rattle.xdr3.specs.Visit.{AreWithinLimit, body_limit};
 
 use rpc_head::{
-    Accept, CallHead, Cred, Deny, ProcId, ReplyHead, Start, Verf, scan_call_head,
-    scan_reply_head, start,
+    Accept, CallHead, Cred, Deny, ProcId, ReplyHead, Start, Verf, scan_call_head, scan_reply_head,
+    start,
 };
 use std::alloc::{AllocError, Global};
 use std::test::Fail;

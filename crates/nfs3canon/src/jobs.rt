@@ -33,7 +33,12 @@ fn hashers(rt: &HostRuntime) -> io::Result<Hashers<SecretHasher>> {
 }
 
 fn uncounted(rt: &HostRuntime, name: &str, error: OpenError) -> Outcome {
-    unopened(rt.alloc(), name, error, Outcome::Counted(Err(Error::Memory)))
+    unopened(
+        rt.alloc(),
+        name,
+        error,
+        Outcome::Counted(Err(Error::Memory)),
+    )
 }
 
 fn unlisted(rt: &HostRuntime, name: &str, error: OpenError) -> Outcome {
@@ -50,7 +55,12 @@ fn uncompared(rt: &HostRuntime, which: Which, name: &str, error: OpenError) -> O
         which,
         error: Error::Memory,
     };
-    unopened(rt.alloc(), name, error, Outcome::Compared(Err(out_of_memory)))
+    unopened(
+        rt.alloc(),
+        name,
+        error,
+        Outcome::Compared(Err(out_of_memory)),
+    )
 }
 
 /// Checks the file with this name.
@@ -119,11 +129,7 @@ pub fn rewritten(rt: &HostRuntime, input: &str, output: &str) -> Ended {
     }
 }
 
-fn both_opened(
-    rt: &HostRuntime,
-    input: &str,
-    output: &str,
-) -> Result<(File, OutputFile), Outcome> {
+fn both_opened(rt: &HostRuntime, input: &str, output: &str) -> Result<(File, OutputFile), Outcome> {
     let own = standard_output(rt);
     let (source, read) = opened(rt, input).map_err(|error| uncounted(rt, input, error))?;
     match made_apart(rt, output, own, &read) {
@@ -237,11 +243,7 @@ fn destination(rt: &HostRuntime, output: &str) -> Result<Destination, OpenError>
 }
 
 /// The stream of this name is not the output. If there is none, that is told when it is opened.
-fn stands_apart(
-    rt: &HostRuntime,
-    destination: &Destination,
-    stream: &str,
-) -> Result<(), Outcome> {
+fn stands_apart(rt: &HostRuntime, destination: &Destination, stream: &str) -> Result<(), Outcome> {
     match fs::metadata(rt, stream) {
         Ok(data) if destination.is_regular(&data) => Err(Outcome::Line(LineFault::SameName)),
         Ok(_) => Ok(()),
@@ -260,11 +262,7 @@ fn packing_kept(rt: &HostRuntime, made: OutputFile, streams: &[String]) -> Outco
     }
 }
 
-fn streams_packed(
-    rt: &HostRuntime,
-    made: &OutputFile,
-    streams: &[String],
-) -> Result<(), Outcome> {
+fn streams_packed(rt: &HostRuntime, made: &OutputFile, streams: &[String]) -> Result<(), Outcome> {
     let mut packing = match Packing::start(rt.alloc(), ToWrite::new(&made.file)) {
         Ok(packing) => packing,
         Err((error, _)) => return Err(Outcome::Packed(Err(error))),

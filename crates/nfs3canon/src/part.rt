@@ -19,7 +19,9 @@ const MOST_TRIES: u32 = 16;
 const MOST_LINKS: u32 = 40;
 /// Who may read and write a file, beside who may execute it and the bits for its owner's rights.
 const PERMISSIONS: u32 = 0o777;
+
 const OWNER_ALONE: u32 = 0o600;
+
 const EVERYBODY: u32 = 0o666;
 
 /// A file that is not whole yet. Until it gets its name, its owner alone may open it.
