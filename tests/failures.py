@@ -257,7 +257,7 @@ def old_or_whole(place, what, setting, seen, wanted):
     else:
         names = {'open failed: %s\n' % word for word in setting.line.split()[1:]}
         place.want(what, (answer.status, answer.out), (3, ''))
-        place.want(what + ': ' + answer.error, answer.error in {READ_FAILED, WRITE_FAILED, *names}, True)
+        place.want(what + ': ' + answer.error.strip(), answer.error in {READ_FAILED, WRITE_FAILED, *names}, True)
         place.want(what + ': files', front_of_standard_output(outputs.without_parts(found), setting, before, after), before)
         place.want(what + ': a front', streamed.startswith(through), True)
     if ' unlink ' not in what:

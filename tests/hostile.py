@@ -271,6 +271,8 @@ def part_in(place) -> str:
     def parts() -> list[str]:
         return [name for name in os.listdir(place.folder) if PART.fullmatch(name) and place.read(name)]
     wait_for(parts)
+    if not parts():
+        raise TimeoutError('nothing is written beside the output')
     return parts()[0]
 
 
