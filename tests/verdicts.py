@@ -188,6 +188,8 @@ def rows_of_all_kinds(tools: Tools) -> None:
             ('cut', two[:-1], [['1', '-', '-', '1', '1', 'ok'], ['2', '-', '-', '1', '1', 'ok'], [*as_a_whole, f'file {len(two) - 1}: CaptureCut']]),
             ('more', two + b'x', [['1', '-', '-', '1', '1', 'ok'], ['2', '-', '-', '1', '1', 'ok'], [*as_a_whole, f'file {len(two)}: AfterEnd']]),
             ('mark', two[:100] + b'\0\0\0\7' + two[104:], [['1', '-', '-', '1', '1', 'ok'], [*as_a_whole, 'file 100: BadMark']]),
+            ('both', (TOP / 'examples/bad_server_record.nfs3cap').read_bytes()[:-1],
+             [['1', '-', '-', '1', '1', 'ok'], ['2', '-', '-', '1', '2', 'server record 2 byte 0: NoCall']]),
             ('text', b'no recording', [[*as_a_whole, 'it is neither pcap nor pcapng']]),
             ('xz', b'\xfd7zXZ\0\0', [[*as_a_whole, 'it is compressed by xz: decompress it first, as in `xz -dc FILE | tools/from_pcap - OUT`']]),
             ('damaged', pcap(whole()) + b'\xff' * 16, [['1', '192.0.2.7:700', '192.0.2.1:2049', '39', '39', 'ok'],
