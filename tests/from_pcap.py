@@ -354,6 +354,12 @@ def bytes_are_missing(tools: Tools) -> None:
     tools.told('replies alone', pcap(one_side), [], ['left out: 192.0.2.7:700 and 192.0.2.1:2049: its first bytes are missing '
                                                      'from the recording'])
     talk = Talk()
+    wrong = replies[:10 * REPLY] + struct.pack('>I', 0x81000001) + replies[10 * REPLY + 4:]
+    lost = [*talk.opened(), talk.sent(0, calls[:7 * CALL]), talk.sent(0, calls[7 * CALL:12 * CALL]), talk.sent(0, calls[12 * CALL:]),
+            talk.sent(1, wrong)]
+    tools.taken('a wrong mark among replies that are left out', pcap(lost[:4] + lost[5:]),
+                [(calls[:7 * CALL], replies[:7 * REPLY] + wrong[10 * REPLY:])])
+    talk = Talk()
     closing = [*talk.opened(), *exchange(talk), talk.frame(0, FIN | ACK)]
     talk.next[0] += 1
     tools.told('a closing that is half recorded', pcap([*closing[:-1], talk.frame(1, ACK)]), [ALL], [])
@@ -384,8 +390,13 @@ def whole_records(tools: Tools) -> None:
             talk = Talk()
             frames = [*talk.opened(), talk.sent(0, content[:3 * record + cut]), *talk.closed()]
             tools.taken('as it is', pcap(frames), [(content[:3 * record + cut], b'')])
-            tools.told(f'{what}: {cut} bytes more', pcap(frames), [(content[:3 * record], b'')],
-                       [dropped('client', cut)] if cut else [], whole_records=True)
+            for options in ({'whole_records': True}, {'whole_records': True, 'midstream': True}):
+                tools.told(f'{what}: {cut} bytes more', pcap(frames), [(content[:3 * record], b'')],
+                           [dropped('client', cut)] if cut else [], **options)
+    talk = Talk()
+    frames = [*talk.opened(), talk.sent(0, ALL[0][:3 * CALL + 40]), talk.sent(1, ALL[1][:4 * REPLY]), *talk.closed()]
+    tools.told('a reply to the record that is dropped', pcap(frames), [(ALL[0][:3 * CALL], ALL[1][:3 * REPLY])],
+               [dropped('client', 40), replies_left_out(1)], whole_records=True)
     mark = struct.pack('>I', 0x81000001)
     talk = Talk()
     frames = [*talk.opened(), talk.sent(0, ALL[0] + mark + bytes(99)), *talk.closed()]
@@ -486,12 +497,13 @@ def embedded(tools: Tools) -> None:
         frames = [talk.sent(0, writing[cut:] + ALL[0]), talk.sent(1, ALL[1])]
         tools.told('a capture written over NFS', pcap(frames), [ALL], [left_out_before('client', len(writing) - cut)], midstream=True)
     inner = messages.capture(([], REPLIES))
-    many = messages.capture(([call(number, NFS, 3, 0) for number in range(3_000)], []))
-    data = messages.fh(b'abcde') + messages.hyper(0) + messages.word(len(many)) + messages.word(0) + messages.opaque(many)
-    cut = stream([call(77, NFS, 3, 7, data)])[99:]
-    pieces, talk = cut + ALL[0], Talk()
-    frames = [talk.sent(0, pieces[at:at + 60_000]) for at in range(0, len(pieces), 60_000)] + [talk.sent(1, ALL[1])]
-    tools.told('a long capture written over NFS', pcap(frames), [ALL], [left_out_before('client', len(cut))], midstream=True)
+    bodies = [call(number, NFS, 3, 0) for number in range(3_000)]
+    for many in (messages.capture((bodies, [])), stream(bodies) + b'x' * 99):
+        data = messages.fh(b'abcde') + messages.hyper(0) + messages.word(len(many)) + messages.word(0) + messages.opaque(many)
+        rest_of_call = stream([call(77, NFS, 3, 7, data)])[99:]
+        pieces, talk = rest_of_call + ALL[0], Talk()
+        frames = [talk.sent(0, pieces[at:at + 60_000]) for at in range(0, len(pieces), 60_000)] + [talk.sent(1, ALL[1])]
+        tools.told('much written over NFS', pcap(frames), [ALL], [left_out_before('client', len(rest_of_call))], midstream=True)
     answer = stream([success(3, messages.ok(messages.post_op_attr(None), messages.word(len(inner)), messages.word(1), messages.opaque(inner)))])
     reading = stream([call(3, NFS, 3, 6, messages.fh(b'a') + messages.hyper(0) + messages.word(9_999))])
     rest = [success(number) for number in range(40, 50)]
@@ -565,8 +577,13 @@ def long_streams(tools: Tools) -> None:
         for name, content in zip('cs', sides):
             tools.write(name, content)
         tools.run('pack', 'wanted', 'c', 's')
-        status = tools.tool('from_pcap', 'a.pcap', 'out')[0]
-        tools.want(f'{size} bytes', (status, tools.read('out') == tools.read('wanted')), (0, True))
+        status, wanted = tools.tool('from_pcap', 'a.pcap', 'out')[0], tools.read('wanted') or b''
+        tools.want(f'{size} bytes', (status, tools.read('out') == wanted), (0, True))
+        with taken_of(tools.read('a.pcap') or b'') as taken:
+            for byte in range(0, len(wanted), 997):
+                place = captures.place_in(taken.pairs(), byte)
+                found = place and taken.pairs()[0][place[1]].read(place[2], 1)
+                tools.want(f'byte {byte}', found in (None, wanted[byte:byte + 1]), True)
 
 
 def moved(frame: bytes) -> bytes:

@@ -167,10 +167,24 @@ def checked(tools: Tools, what: str, conversation: Conversation, present: list[i
     tools.write('a', b''.join(capture_of(taken.pairs())))
     status, out, error = tools.run('check', 'a')
     tools.want(what, (status, error), (0, ''))
+    tools.want(what + ', its frames', beside_their_frames(taken, [conversation.frames[number - 1] for number in present]), [])
     kept = messages_in(taken)
     tools.want(what + ', kept', kept >= share * whole_messages(conversation, set(present)), True)
     told = [line for line in lines_of(taken) if ': client ' not in line]
     tools.want(what + ', told', bool(told) or not is_shown(conversation, set(present)), True)
+
+
+def beside_their_frames(taken: Taken, frames: list[bytes]) -> list[str]:
+    """The records whose mark and xid are not in the frame that is said to carry them."""
+    wrong = []
+    for connection in taken.connections:
+        for side in SIDES:
+            for record in connection.stream(side).records():
+                extent = connection.stream(side).extent(record.number)
+                noted = connection.stream(side).frames(extent.begin, extent.begin + 8) if extent else []
+                if extent and len(noted) == 1 and connection.stream(side).read(extent.begin, 8) not in frames[noted[0].number - 1]:
+                    wrong.append(f'connection {connection.number} {side} record {record.number}')
+    return wrong
 
 
 def messages_in(taken: Taken) -> int:

@@ -59,13 +59,16 @@ def places(tools: Tools) -> None:
         tools.want(place, where(tools, place), (0, [HEAD % named, *lines], ''))
     listed = '1 server 7 xid=7 NFSPROC3_NULL mtype=1 reply_stat=0'
     tools.want(listed, where(tools, listed), (0, [HEAD % 'server record 7', times[8], 'frame.number == 8'], ''))
-    tools.want('file 19', where(tools, 'file 19: TooManyBytes'), (0, ['file 19', times[4], 'frame.number == 4'], ''))
+    for byte, frame in ((16, 4), (19, 4), (65, 4), (66, 5)):
+        lines = [f'file {byte}', times[frame], f'frame.number == {frame}']
+        tools.want(f'file {byte}', where(tools, f'file {byte}: TooManyBytes'), (0, lines, ''))
     for place, status, message in (
             ('connection 1 client record 1 byte 41', 1, 'there is no connection 1 client record 1 byte 41: the body is shorter'),
             ('connection 1 client record 40', 1, 'there is no connection 1 client record 40'),
             ('connection 1 client record 0', 1, 'there is no connection 1 client record 0'),
             ('connection 2 client record 1 byte 0', 1, 'there is no connection 2'),
             ('file 8', 1, 'byte 8 of the capture is not of a stream, so no frame carries it'),
+            ('file 15', 1, 'byte 15 of the capture is not of a stream, so no frame carries it'),
             ('file 999999', 1, 'byte 999999 of the capture is not of a stream, so no frame carries it'),
             ('somewhere', 2, 'no place: somewhere')):
         tools.want(place, where(tools, place), (status, [], f'where: {message}\n'))
@@ -86,6 +89,12 @@ def places_of_other_recordings(tools: Tools) -> None:
     pieces = [ethernet(piece) for number, frame in enumerate(frames) for piece in fragments(frame[14:], 64, number)]
     tools.write('a.pcap', pcap(pieces))
     tools.want('the last fragment', where(tools, 'connection 1 client record 1 byte 0')[1][-1], 'frame.number == 9')
+    talk = Talk()
+    tools.write('a.pcap', pcap(talk.opened() + [talk.sent(0, ALL[0][at:at + 1]) for at in range(2 * CALL)]))
+    for byte, frame in ((0, 8), (39, 47), (40, 47)):
+        answer = where(tools, f'connection 1 client record 1 byte {byte}')
+        tools.want(f'byte {byte} of single bytes', answer[1][-1], f'frame.number == {frame}')
+    tools.want('all of them', where(tools, 'connection 1 client record 2')[1][-1], 'frame.number in {48..91}')
     tools.write('a.pcap', section() + interface() + b''.join(map(simple, frames)))
     tools.want('no time', where(tools, 'connection 1 client record 1 byte 0')[1][1], 'frame 4, without a time')
     tools.write('a.pcap', pcap(Talk(699).opened() + whole() + whole(first=(9_000, 9_000))))
@@ -93,9 +102,9 @@ def places_of_other_recordings(tools: Tools) -> None:
     tools.want('the third of Wireshark', lines[0].endswith('tcp.stream == 2') and lines[-1], 'frame.number == 31')
     tools.write('a.pcap', pcap(frames[:4] + frames[5:]))
     first = 2 * 344 // CALL + 1
-    for number, options, frame in ((8, (), None), (first - 7, ('--midstream',), 5)):
-        status, lines, _ = where(tools, f'connection 1 client record {number} byte 39', *options)
-        tools.want('after a gap', (status, lines[-1:]), (1, []) if frame is None else (0, [f'frame.number == {frame + 0}']))
+    tools.want('after a gap', where(tools, 'connection 1 client record 8 byte 39')[0], 1)
+    tools.want('after a gap, with --midstream', where(tools, f'connection 1 client record {first - 7} byte 39', '--midstream')[1][-1],
+               'frame.number == 5')
     tools.write('a.pcap', pcap(frames[4:]))
     tools.want('cut', where(tools, 'connection 1 client record 1 byte 0', '--midstream')[1][-1], 'frame.number == 1')
     tools.want('its record', where(tools, 'connection 1 client record 8', '--midstream')[1][-1], 'frame.number in {1..2}')
@@ -179,6 +188,8 @@ def rows_of_all_kinds(tools: Tools) -> None:
             ('cut', two[:-1], [['1', '-', '-', '1', '1', 'ok'], ['2', '-', '-', '1', '1', 'ok'], [*as_a_whole, f'file {len(two) - 1}: CaptureCut']]),
             ('more', two + b'x', [['1', '-', '-', '1', '1', 'ok'], ['2', '-', '-', '1', '1', 'ok'], [*as_a_whole, f'file {len(two)}: AfterEnd']]),
             ('mark', two[:100] + b'\0\0\0\7' + two[104:], [['1', '-', '-', '1', '1', 'ok'], [*as_a_whole, 'file 100: BadMark']]),
+            ('both', (TOP / 'examples/bad_server_record.nfs3cap').read_bytes()[:-1],
+             [['1', '-', '-', '1', '1', 'ok'], ['2', '-', '-', '1', '2', 'server record 2 byte 0: NoCall']]),
             ('text', b'no recording', [[*as_a_whole, 'it is neither pcap nor pcapng']]),
             ('xz', b'\xfd7zXZ\0\0', [[*as_a_whole, 'it is compressed by xz: decompress it first, as in `xz -dc FILE | tools/from_pcap - OUT`']]),
             ('damaged', pcap(whole()) + b'\xff' * 16, [['1', '192.0.2.7:700', '192.0.2.1:2049', '39', '39', 'ok'],

@@ -20,7 +20,7 @@ import tempfile
 import time
 import typing
 
-from .captures import MAGICS, MOST_BYTES, MOST_CONNECTIONS, BadCapture, Container, capture_of, place_in, write_file
+from .captures import CHUNK, MAGICS, MOST_BYTES, MOST_CONNECTIONS, BadCapture, Container, capture_of, place_in, write_file
 from .places import SIDES, FilePlace, NoPlace, Place, Side
 from .programs import chosen_frames
 from .recordings import Damaged, NoRecording, Recording, Source, opened
@@ -29,7 +29,6 @@ from .segments import Segments
 from .selection import Options, Selected, count, plural, select
 from .streams import Connection, Connections, Frames, Spool, Stored
 
-BLOCK = 1 << 16
 FRAMES_A_STEP = 1_000
 __all__ = ['FrameRef', 'NotTaken', 'Options', 'Record', 'Taken', 'TakenConnection', 'TakenStream', 'take']
 
@@ -73,8 +72,8 @@ class TakenStream:
 
     def blocks(self) -> typing.Iterator[bytes]:
         """Iterates over all bytes in order, in blocks of 65,536 and a last one."""
-        for begin in range(0, self.size, BLOCK):
-            yield self.read(begin, BLOCK)
+        for begin in range(0, self.size, CHUNK):
+            yield self.read(begin, CHUNK)
 
     def records(self) -> typing.Iterator[Record]:
         """Iterates over the records in order. The last one may be cut."""

@@ -148,7 +148,10 @@ def main(words: list[str]) -> int:
     chosen = parser.parse_args(words)
     at_once = max(1, min(CONNECTIONS_AT_ONCE, chosen.j // len(chosen.recordings)))
     judge = Judge(program_path(chosen.program), options_of(chosen), at_once, len(chosen.recordings) == 1)
-    verdicts = list(judged(judge, chosen.recordings, chosen.j))
+    try:
+        verdicts = list(judged(judge, chosen.recordings, chosen.j))
+    except concurrent.futures.BrokenExecutor as broken:
+        raise OSError('a process that judged a recording was killed, as when memory runs out') from broken
     print_table(verdicts)
     if chosen.junit:
         write_file(chosen.junit, [junit_of(verdicts)])
