@@ -129,7 +129,7 @@ def is_printed(wanted, printed):
 def commands_of_the_readme(tools):
     """Each is run, in order, and prints what stands below it. The status is told by what is printed."""
     commands = console_of(README)
-    tools.want('commands', len(commands), 13)
+    tools.want('commands', len(commands), 12)
     for command, wanted in commands:
         words = command.replace('/tmp/', tools.folder + '/').replace('./nfs3canon', tools.program)
         words = re.sub(r'^tools/(verdicts|compare) ', r'tools/\1 --program %s ' % tools.program, words)
@@ -221,11 +221,11 @@ def pages_agree(tools):
 
 def pages_of_the_tools(tools):
     """Each tool for recordings has a page of the manual with all its options, and prints its help."""
-    for name in ('from_pcap', 'where', 'verdicts'):
+    for name in ('from_pcap', 'where', 'verdicts', 'compare'):
         page = (TOP / 'man' / (name + '.1')).read_text().replace('\\-', '-')
         status, out, error = tools.tool(name, '--help')
         tools.want('help of ' + name, (status, error, 'The status is 0' in out), (0, '', True))
-        options = set(re.findall(r'(?<![\w-])--?[a-z][a-z-]*', out.partition('options:')[2])) - {'-h', '--help', '-w', '-dc'}
+        options = set(re.findall(r'(?<![\w-])--?[a-z][a-z-]*', out.partition('options:')[2])) - {'-h', '--help', '--version', '-w', '-dc'}
         tools.want('options of ' + name, sorted(option for option in options if option not in page), [])
 
 

@@ -7,8 +7,11 @@ those marked with a star by default. What is masked is always printed. Then `nfs
 renaming of xids, file handles and write verifiers: `same` is its word. If they differ, calls are brought together by connection,
 procedure and arguments, and each difference is printed as `diff` would: which call, which field, both values, and the frames.
 
---mask times,ids masks these classes alone, --mask +owners one more, --mask -times one less, --mask none nothing; NAME=zero and
+--mask times,ids masks these classes alone, --mask +owners one more, --mask=-times one less, --mask none nothing; NAME=zero and
 NAME=number say how.
+
+The status is 0 if the runs are the same under the mask, 1 if they differ, 2 if a recording, a capture or the command line is
+refused, 3 if a file or memory failed.
 """
 import argparse
 import subprocess

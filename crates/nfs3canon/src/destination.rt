@@ -1,6 +1,6 @@
 // What the name of an output leads to, before anything is made.
 
-use crate::identity::FileId;
+use crate::identity::{FileId, if_there};
 use std::fs::Metadata;
 use std::io::ErrorKind;
 use std::{fs, io};
@@ -24,20 +24,17 @@ impl Destination {
     /// Asks the system. `own` is the file to which the program prints. If the system does not say what has
     /// the name, that is an error, and so is a link that leads to nothing.
     pub fn of(rt: &HostRuntime, name: &str, own: Option<FileId>) -> io::Result<Destination> {
-        match fs::metadata(rt, name) {
-            Ok(found) => {
-                let is_standard_output = own == Some(FileId::of(&found));
-                if found.is_file() && !is_standard_output {
-                    return Ok(Destination::Replaced(found));
-                }
-                Ok(Destination::AsItIs {
-                    found,
-                    is_standard_output,
-                })
-            }
-            Err(error) if error.kind() == ErrorKind::NotFound => unused(rt, name),
-            Err(error) => Err(error),
+        let Some(found) = if_there(fs::metadata(rt, name))? else {
+            return unused(rt, name);
+        };
+        let is_standard_output = own == Some(FileId::of(&found));
+        if found.is_file() && !is_standard_output {
+            return Ok(Destination::Replaced(found));
         }
+        Ok(Destination::AsItIs {
+            found,
+            is_standard_output,
+        })
     }
 
     /// Whether this is the regular file of which the system says `data`.
@@ -53,11 +50,8 @@ impl Destination {
 
 /// A name that leads to nothing is new, unless a link has it.
 fn unused(rt: &HostRuntime, name: &str) -> io::Result<Destination> {
-    match fs::symlink_metadata(rt, name) {
-        Ok(_) => Err(io::Error::from(ErrorKind::NotFound)),
-        Err(error) if error.kind() == ErrorKind::NotFound && !name.is_empty() => {
-            Ok(Destination::New)
-        }
-        Err(error) => Err(error),
+    match if_there(fs::symlink_metadata(rt, name))? {
+        None if !name.is_empty() => Ok(Destination::New),
+        _ => Err(io::Error::from(ErrorKind::NotFound)),
     }
 }

@@ -1,9 +1,28 @@
 // Which file a name or an open file leads to.
 
+ghost use Rattle.std.specs.Prelude.{◌≡◌, ◌≢◌, IfErr, IfOk, None, Ok, Err, Some};
+ghost use Rattle.std.specs.IoError.{error_kind};
+
 use std::fs::Metadata;
 use std::io::ErrorKind;
 use std::os::unix::fs::MetadataExt;
 use std::{fs, io};
+
+/// What the system found, or `None` if it says that nothing has the name. After any other failure nothing is
+/// known, so that stays a failure.
+pub fn if_there<T: Drop>(found: io::Result<T>) -> io::Result<Option<T>>
+    ensures found { IfOk found (λ it. result ≡ Ok (Some it)) }
+    ensures missing { IfErr found
+        (λ error. error_kind error ≡ ErrorKind.NotFound → result ≡ Ok None) }
+    ensures failed { IfErr found
+        (λ error. error_kind error ≢ ErrorKind.NotFound → result ≡ Err error) }
+{
+    match found {
+        Ok(found) => Ok(Some(found)),
+        Err(error) if error.kind() == ErrorKind::NotFound => Ok(None),
+        Err(error) => Err(error),
+    }
+}
 
 /// A file's device, and its number there. It has them under each of its names.
 #[derive(Clone, Copy, Debug, PartialEq, Eq)]
@@ -29,9 +48,6 @@ impl FileId {
 /// The file to which the program prints, or `None` if its standard output is closed. This is asked before
 /// any file is opened, since the first one would get the number of a standard output that is closed.
 pub fn standard_output(rt: &HostRuntime) -> io::Result<Option<FileId>> {
-    match fs::metadata(rt, "/dev/stdout") {
-        Ok(data) => Ok(Some(FileId::of(&data))),
-        Err(error) if error.kind() == ErrorKind::NotFound => Ok(None),
-        Err(error) => Err(error),
-    }
+    let found = if_there(fs::metadata(rt, "/dev/stdout"))?;
+    Ok(found.map(|data| FileId::of(&data)))
 }

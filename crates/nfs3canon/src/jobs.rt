@@ -2,11 +2,11 @@
 
 ghost use Rattle.std.specs.Prelude.{◌≡◌, ◌≢◌, Err};
 ghost use Rattle.std.specs.Io.Buffered.{writer_contents, writer_inner};
-ghost use Rattle.nfs3canon.specs.Writing.{WritesOut};
+ghost use Rattle.nfs3canon.specs.machinery.Writing.{WritesOut};
 
 use crate::destination::Destination;
 use crate::hashing::SecretHasher;
-use crate::identity::{FileId, standard_output};
+use crate::identity::{FileId, if_there, standard_output};
 use crate::opening::{OpenError, opened, unopened};
 use crate::outcome::{Ended, Outcome};
 use crate::output::OutputFile;
@@ -16,7 +16,7 @@ use line3::LineFault;
 use listing3::show;
 use packing3::Packing;
 use std::fs::{File, Metadata};
-use std::io::{BufWriter, ErrorKind, Write};
+use std::io::{BufWriter, Write};
 use std::{fs, io};
 
 /// How many bytes are gathered before they are written.
@@ -244,10 +244,11 @@ fn destination(rt: &HostRuntime, output: &str) -> Result<Destination, OpenError>
 
 /// The stream of this name is not the output. If there is none, that is told when it is opened.
 fn stands_apart(rt: &HostRuntime, destination: &Destination, stream: &str) -> Result<(), Outcome> {
-    match fs::metadata(rt, stream) {
-        Ok(data) if destination.is_regular(&data) => Err(Outcome::Line(LineFault::SameName)),
+    match if_there(fs::metadata(rt, stream)) {
+        Ok(Some(data)) if destination.is_regular(&data) => {
+            Err(Outcome::Line(LineFault::SameName))
+        }
         Ok(_) => Ok(()),
-        Err(error) if error.kind() == ErrorKind::NotFound => Ok(()),
         Err(error) => Err(unpacked(rt, stream, OpenError::from(error))),
     }
 }

@@ -3,7 +3,7 @@
 ghost use Rattle.std.specs.Prelude.{◌≡◌, ◌++◌, IfOk, codes, string_bytes};
 ghost use Rattle.hex.specs.Hex.{encode_lower};
 
-use crate::identity::FileId;
+use crate::identity::{FileId, if_there};
 use crate::opening::OpenError;
 use std::alloc::{AllocError, Global};
 use std::fs::{File, OpenOptions, Permissions};
@@ -17,7 +17,7 @@ use std::{fs, io};
 const MOST_TRIES: u32 = 16;
 /// How many links Linux follows.
 const MOST_LINKS: u32 = 40;
-/// Who may read and write a file, beside who may execute it and the bits for its owner's rights.
+/// Who may read, write and execute a file. The other bits of a mode lend the rights of its owner.
 const PERMISSIONS: u32 = 0o777;
 
 const OWNER_ALONE: u32 = 0o600;
@@ -46,8 +46,8 @@ impl Part {
         Part::make(rt, String::from_str(rt.alloc(), name)?, None)
     }
 
-    /// Makes the part of the regular file to which this name leads. It has to be open for writing, as it
-    /// would be if it were written itself; nothing is written to it.
+    /// Makes the part of the regular file to which this name leads. That file is opened for writing, since
+    /// what is refused there is refused here; nothing is written to it.
     pub fn of_replaced(rt: &HostRuntime, name: &str) -> Result<(Part, File), OpenError> {
         let path = followed(rt, name)?;
         let file = OpenOptions::new().write(true).open(rt, path.as_str())?;
@@ -104,7 +104,10 @@ impl Part {
     /// Gives the whole file its owner, its mode and its name, once its bytes are safe on the disk.
     pub fn keep(&self, rt: &HostRuntime, file: &File) -> io::Result<()> {
         let mode = self.mode_at_last(file)?;
-        file.set_permissions(Permissions::from_mode(mode))?;
+        // A file system with one mode for all files need not be able to change it.
+        if file.metadata()?.mode() & PERMISSIONS != mode {
+            file.set_permissions(Permissions::from_mode(mode))?;
+        }
         // A server of files may tell of a full disk only when the data is to be safe.
         file.sync_all()?;
         match &self.replaced {
@@ -134,26 +137,23 @@ impl Part {
         fs::rename(rt, self.name.as_str(), self.whole.as_str())
     }
 
-    /// Whatever has got the name meanwhile is left alone. A file system without hard links has no way to
-    /// test for it and give the name at once.
+    /// Whatever has got the name meanwhile is left alone.
     fn appear(&self, rt: &HostRuntime) -> io::Result<()> {
         match fs::hard_link(rt, self.name.as_str(), self.whole.as_str()) {
             Ok(()) => {
                 self.remove(rt);
                 Ok(())
             }
-            Err(error) if is_without_links(error.kind()) => self.appear_by_rename(rt),
-            Err(error) => Err(error),
+            Err(error) if error.kind() == ErrorKind::AlreadyExists => Err(error),
+            Err(_) => self.appear_by_rename(rt),
         }
     }
 
+    /// Without hard links there is no way to look for the name and to give it at once.
     fn appear_by_rename(&self, rt: &HostRuntime) -> io::Result<()> {
-        match fs::symlink_metadata(rt, self.whole.as_str()) {
-            Ok(_) => Err(io::Error::from(ErrorKind::AlreadyExists)),
-            Err(error) if error.kind() == ErrorKind::NotFound => {
-                fs::rename(rt, self.name.as_str(), self.whole.as_str())
-            }
-            Err(error) => Err(error),
+        match if_there(fs::symlink_metadata(rt, self.whole.as_str()))? {
+            Some(_) => Err(io::Error::from(ErrorKind::AlreadyExists)),
+            None => fs::rename(rt, self.name.as_str(), self.whole.as_str()),
         }
     }
 
@@ -163,15 +163,11 @@ impl Part {
     }
 }
 
-fn is_without_links(kind: ErrorKind) -> bool {
-    kind == ErrorKind::PermissionDenied || kind == ErrorKind::Unsupported
-}
-
 /// The name at the end of the links to which a name leads. The folder's own name is taken as it is given,
 /// so it may be long, and need not be text.
 fn followed(rt: &HostRuntime, name: &str) -> Result<String, OpenError> {
     let mut path = String::from_str(rt.alloc(), name)?;
-    for _ in 0..MOST_LINKS {
+    for _ in 0..=MOST_LINKS {
         if !fs::symlink_metadata(rt, path.as_str())?.is_symlink() {
             return Ok(path);
         }
@@ -239,10 +235,9 @@ fn mode_of_new(rt: &HostRuntime, path: &str) -> Result<u32, OpenError> {
 fn mount_of(rt: &HostRuntime, file: &File) -> Result<Option<String>, OpenError> {
     let number = file.as_raw_fd();
     let name = format!(in rt.alloc(); "/proc/self/fdinfo/{number}")?;
-    match fs::read_to_string(rt, name.as_str()) {
-        Ok(text) => mount_line(rt.alloc(), text.as_str()),
-        Err(error) if error.kind() == ErrorKind::NotFound => Ok(None),
-        Err(error) => Err(OpenError::from(error)),
+    match if_there(fs::read_to_string(rt, name.as_str()))? {
+        Some(text) => mount_line(rt.alloc(), text.as_str()),
+        None => Ok(None),
     }
 }
 
