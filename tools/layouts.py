@@ -73,18 +73,22 @@ class Procedure(typing.NamedTuple):
     arguments: str
     done: str
     failed: str = ''
-    statuses: typing.Optional[dict] = None
+    statuses: dict[int, str] | None = None
 
 
-def procedure_of(program, version, number):
+def procedure_of(program: int, version: int, number: int) -> Procedure:
     """Any other than the 28 that have a type is carried raw."""
     if (program, version) == (NFS, 3) and number < len(NFS_PROCEDURES):
-        name, *layouts = NFS_PROCEDURES[number]
-        return Procedure('NFSPROC3_' + name, *layouts, NFSSTAT if number else None)
+        name, arguments, done, failed = NFS_PROCEDURES[number]
+        return Procedure('NFSPROC3_' + name, arguments, done, failed, NFSSTAT if number else None)
     if (program, version) == (MOUNT, 3) and number < len(MOUNT_PROCEDURES):
-        name, *layouts = MOUNT_PROCEDURES[number]
-        return Procedure('MOUNTPROC3_' + name, *layouts, '', MOUNTSTAT if name == 'MNT' else None)
+        name, arguments, done = MOUNT_PROCEDURES[number]
+        return Procedure('MOUNTPROC3_' + name, arguments, done, '', MOUNTSTAT if name == 'MNT' else None)
     return Procedure('RAW', 'rest', 'rest')
+
+
+# Writes the bytes of an item as a text.
+Spell = typing.Callable[[bytes], str]
 
 
 class Stop(Exception):
@@ -104,10 +108,11 @@ class Item(typing.NamedTuple):
 class Message:
     """Reads the items of a body up to its end, or to the first that is at fault."""
 
-    def __init__(self, body):
-        self.body, self.at, self.end, self.items = body, 0, len(body), []
+    def __init__(self, body: bytes) -> None:
+        self.body, self.at, self.end = body, 0, len(body)
+        self.items: list[Item] = []
 
-    def taken(self, size, name, allowed, spell):
+    def taken(self, size: int, name: str, allowed: str, spell: Spell) -> bytes:
         """The next bytes, of which there may be fewer."""
         begin, self.at = self.at, min(self.at + size, self.end)
         piece = self.body[begin:self.at]
@@ -116,7 +121,7 @@ class Message:
             raise Stop
         return piece
 
-    def word(self, name, values=None, most=0xffffffff):
+    def word(self, name: str, values: dict[int, str] | None = None, most: int = 0xffffffff) -> int:
         """A word, which is among the values where there are some, and at most `most`."""
         allowed = 'any word' if values is None else ', '.join('%d %s' % value for value in values.items())
         allowed = allowed if most == 0xffffffff else 'at most %d' % most
@@ -125,17 +130,17 @@ class Message:
             raise Stop
         return value
 
-    def var(self, name, most, spell):
+    def var(self, name: str, most: int, spell: Spell) -> bytes:
         size = self.word(name + ' (its length)', most=most)
         content = self.taken(size, name, 'any bytes', spell)
         self.taken(-size % 4, name + ' (residual bytes)', 'any bytes', bytes.hex)
         return content
 
-    def part(self, layout):
+    def part(self, layout: str) -> None:
         for item in layout.split():
             self.item(*item.partition('=')[::2])
 
-    def item(self, item, inner):
+    def item(self, item: str, inner: str) -> None:
         kind, _, name = item.partition(':')
         most = int(kind.lstrip('abcdefghijklmnopqrstuvwxyz') or 0xffffffff)
         match kind.rstrip('0123456789'):
@@ -158,7 +163,7 @@ class Message:
             case _:
                 self.other(item)
 
-    def branch(self, kind, name, most, inner):
+    def branch(self, kind: str, name: str, most: int, inner: str) -> None:
         """Parts whose number, or kind, a word tells."""
         if kind == 'opt' and self.word(name, BOOL):
             self.part(PARTS.get(inner, inner))
@@ -170,7 +175,7 @@ class Message:
             cases = dict(case.split(':') for case in inner.split(','))
             self.part(cases.get(str(self.word(name, VALUES[name])), ''))
 
-    def other(self, item):
+    def other(self, item: str) -> None:
         if item == 'fh':
             self.var('fh', 64, bytes.hex)
         elif item == 'rest':
@@ -180,9 +185,10 @@ class Message:
 
     # --- RFC 5531 ---
 
-    def auth(self, name, flavors):
+    def auth(self, name: str, flavors: dict[int, str]) -> None:
         if self.word(name + '_flavor', flavors) == 0:
-            return self.var(name + '_body', 400, bytes.hex)
+            self.var(name + '_body', 400, bytes.hex)
+            return
         size, whole = self.word(name + '_length', most=400), self.end
         if self.at + size > whole:
             self.taken(size, name + '_body', 'as many bytes as the length says', bytes.hex)
@@ -192,7 +198,7 @@ class Message:
             raise Stop
         self.end = whole
 
-    def call(self):
+    def call(self) -> None:
         """The items of a call, and its procedure, or None where its head is not whole."""
         for name in ('rpcvers', 'prog', 'vers', 'proc'):
             self.word(name, VALUES.get(name))
@@ -201,10 +207,11 @@ class Message:
         self.auth('verf', VALUES['verf_flavor'])
         self.part(procedure.arguments)
 
-    def reply(self, procedure):
+    def reply(self, procedure: Procedure) -> None:
         if self.word('reply_stat', VALUES['reply_stat']) == 1:
             rejected = self.word('reject_stat', VALUES['reject_stat'])
-            return self.part('e:auth_stat' if rejected else 'w:low w:high')
+            self.part('e:auth_stat' if rejected else 'w:low w:high')
+            return
         self.auth('verf', VALUES['verf_flavor'])
         accepted = self.word('accept_stat', VALUES['accept_stat'])
         if accepted == 2:
@@ -214,7 +221,7 @@ class Message:
         elif accepted == 0:
             self.part(procedure.failed if self.word('status', procedure.statuses) else procedure.done)
 
-    def read(self, is_call, procedure):
+    def read(self, is_call: bool, procedure: Procedure | None) -> None:
         """All items up to the end or a fault. A reply is read as one of the procedure, where that is known."""
         try:
             self.word('xid')
@@ -227,5 +234,5 @@ class Message:
             pass
 
 
-def number(piece):
+def number(piece: bytes) -> str:
     return str(int.from_bytes(piece, 'big')) if piece else ''

@@ -147,9 +147,11 @@ def compared_runs(words: argparse.Namespace, stack: ExitStack) -> int:
 
 
 def main(words: list[str]) -> int:
-    with ExitStack() as stack:
-        try:
-            return compared_runs(words_of(words), stack)
-        except Ended as end:
-            print(end, file=sys.stderr)
-            return end.status
+    chosen, stack = words_of(words), ExitStack()
+    try:
+        return compared_runs(chosen, stack)
+    except Ended as end:
+        print(end, file=sys.stderr)
+        return end.status
+    finally:
+        stack.close()

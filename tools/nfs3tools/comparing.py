@@ -91,11 +91,13 @@ def compare(first: Run, second: Run, mask: Mask) -> Compared:
     comparison, result = Comparison(mask), Compared()
     here, there = conversations(first, comparison), conversations(second, comparison)
     together = []
-    for number, other in connections_together(here, there):
-        if number is None or other is None:
-            result.findings += of_one_connection(here[number] if number is not None else None, there[other] if other is not None else None)
+    for number, second_number in connections_together(here, there):
+        own = None if number is None else here[number]
+        its = None if second_number is None else there[second_number]
+        if own is None or its is None:
+            result.findings += of_one_connection(own, its)
         else:
-            together.append((here[number], there[other], matched(here[number].keys, there[other].keys)))
+            together.append((own, its, matched(own.keys, its.keys)))
     findings: dict[int, list[Finding]] = {}
     for is_sure in (True, False):
         for at, (one, other, match) in enumerate(together):
