@@ -302,6 +302,21 @@ def number_of_reads(make, place):
         place.want(line, answer.counts['read'], 1)
 
 
+def number_of_writes(place):
+    """What is written is gathered in 65,536 bytes, of which at most one message's are left free; `pack` writes each chunk and each
+    word at once."""
+    capture = messages.capture(([call(number, NFSACL, 3, 1, bytes(4_000)) for number in range(1, 501)], []))
+    place.put(capture)
+    listing = place.run('show', 'a')[1]
+    longest = max(map(len, listing.splitlines())) + 1
+    chunks = -(-len(capture) // BLOCK)
+    for line, most in (('canon a out', -(-len(capture) // (BLOCK - 4_100)) + 1), ('show a', -(-len(listing) // (BLOCK - longest))),
+                       ('pack out a a', 2 * 2 * chunks + len(('magic', 'connection', 'client', 'server', 'end')))):
+        answer = place.fail(line)
+        place.want(line, (answer.status, answer.counts['write'] <= most), (0, True))
+    place.want('pack', answer.counts['write'], most)
+
+
 def tries():
     """Each a name, what to call, and what to call it with before its place."""
     examples = {name: example(name) for name in GIVEN_AT_ONCE}
@@ -329,6 +344,7 @@ def tries():
         yield 'outputs: ' + name, calls, setting
     for make in (of_version_1, of_version_2):
         yield 'number of reads: ' + make.__name__, number_of_reads, make
+    yield 'number of writes', number_of_writes
 
 
 def tried(program, test, *given):
