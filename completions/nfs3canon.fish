@@ -17,13 +17,20 @@ complete -c nfs3canon -n '__fish_seen_subcommand_from canon same; and test (__nf
 complete -c nfs3canon -n '__fish_seen_subcommand_from pack' -F
 
 # The tools for recordings.
-for tool in from_pcap where verdicts
+for tool in from_pcap verdicts nfs3-from-pcap nfs3-where nfs3-verdicts nfs3-compare
     complete -c $tool -l midstream -d 'Take connections whose beginning was not recorded'
     complete -c $tool -l whole-records -d 'End each stream after its last whole record'
     complete -c $tool -l filter -x -d 'A display filter of Wireshark'
+    complete -c $tool -l version -d 'Print the version'
     complete -c $tool -l help -d 'Print help'
 end
-complete -c verdicts -l junit -r -d 'Write JUnit XML'
-complete -c verdicts -l json -r -d 'Write JSON'
-complete -c verdicts -s j -x -d 'Judge so many recordings at once'
-complete -c verdicts -l program -r -d 'nfs3canon'
+for tool in verdicts nfs3-verdicts
+    complete -c $tool -l junit -r -d 'Write JUnit XML'
+    complete -c $tool -l json -r -d 'Write JSON'
+    complete -c $tool -s j -x -d 'Judge so many recordings at once'
+    complete -c $tool -l program -r -d 'nfs3canon'
+end
+complete -c nfs3-compare -l mask -x -d 'The classes of values to mask'
+complete -c nfs3-compare -l all -d 'Print all findings'
+complete -c nfs3-compare -l html -r -d 'Write a page with both runs'
+complete -c nfs3-compare -l program -r -d 'nfs3canon'
