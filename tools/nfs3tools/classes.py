@@ -28,24 +28,24 @@ class ValueClass:
         return name in self.items and (is_call or name not in self.only_in_calls)
 
 
-def value_class(name: str, items: str, way: Way, is_default: bool, meaning: str, **more: bool | frozenset[str]) -> ValueClass:
-    return ValueClass(name, frozenset(items.split()), way, is_default, meaning, **more)  # type: ignore[arg-type]
+def names(text: str) -> frozenset[str]:
+    return frozenset(text.split())
 
 
 CLASSES = (
-    value_class('times', 'atime_sec atime_nsec mtime_sec mtime_nsec ctime_sec ctime_nsec', Way.ZERO, True,
-                'times of files, in attributes, guards and settings'),
-    value_class('stamps', 'stamp', Way.ZERO, True, 'stamps of AUTH_SYS credentials'),
-    value_class('machines', 'machinename', Way.ZERO, True, 'names of machines in AUTH_SYS credentials'),
-    value_class('space', 'tbytes fbytes abytes tfiles ffiles afiles invarsec used', Way.ZERO, True,
-                'counts of free space, and the space that a file uses'),
-    value_class('ids', 'fileid', Way.NUMBER, True, 'file ids'),
-    value_class('fsids', 'fsid', Way.NUMBER, True, 'file system ids'),
-    value_class('cookies', 'cookie', Way.NUMBER, True, 'cookies of directories', keeps_zero=True),
-    value_class('cookieverfs', 'cookieverf', Way.NUMBER, True, 'cookie verifiers', keeps_zero=True),
-    value_class('createverfs', 'createverf', Way.NUMBER, True, 'verifiers of exclusive creates'),
-    value_class('owners', 'uid gid group', Way.NUMBER, False, 'users and groups, in credentials and attributes',
-                only_in_calls=frozenset({'group'})),
+    ValueClass('times', names('atime_sec atime_nsec mtime_sec mtime_nsec ctime_sec ctime_nsec'), Way.ZERO, True,
+               'times of files, in attributes, guards and settings'),
+    ValueClass('stamps', names('stamp'), Way.ZERO, True, 'stamps of AUTH_SYS credentials'),
+    ValueClass('machines', names('machinename'), Way.ZERO, True, 'names of machines in AUTH_SYS credentials'),
+    ValueClass('space', names('tbytes fbytes abytes tfiles ffiles afiles invarsec used'), Way.ZERO, True,
+               'counts of free space, and the space that a file uses'),
+    ValueClass('ids', names('fileid'), Way.NUMBER, True, 'file ids'),
+    ValueClass('fsids', names('fsid'), Way.NUMBER, True, 'file system ids'),
+    ValueClass('cookies', names('cookie'), Way.NUMBER, True, 'cookies of directories', keeps_zero=True),
+    ValueClass('cookieverfs', names('cookieverf'), Way.NUMBER, True, 'cookie verifiers', keeps_zero=True),
+    ValueClass('createverfs', names('createverf'), Way.NUMBER, True, 'verifiers of exclusive creates'),
+    ValueClass('owners', names('uid gid group'), Way.NUMBER, False, 'users and groups, in credentials and attributes',
+               only_in_calls=names('group')),
 )
 BY_NAME = {one.name: one for one in CLASSES}
 
