@@ -10,6 +10,7 @@ use std::test::Fail;
 use xdr3::Reason;
 
 /// What a program ends with: its status, standard output and standard error.
+#[derive(Drop)]
 struct Wanted {
     status: u8,
     out: &'static str,
