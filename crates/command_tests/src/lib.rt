@@ -1,4 +1,4 @@
-//! Tests of the commands' calls on captures in memory, and of the command line.
+//! Tests of the commands' calls on captures in memory, of the command line, and of what is printed.
 #![tactic(auto)]
 
 #[cfg(test)]
@@ -13,6 +13,8 @@ mod lines;
 mod listings;
 #[cfg(test)]
 mod packs;
+#[cfg(test)]
+mod reports;
 #[cfg(test)]
 mod samples;
 #[cfg(test)]

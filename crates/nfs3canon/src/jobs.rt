@@ -1,45 +1,17 @@
 // What each job does with its files.
 
-ghost use Rattle.std.specs.Prelude.{◌≡◌, ◌≢◌, Err};
-ghost use Rattle.std.specs.Io.Buffered.{writer_contents, writer_inner};
-ghost use Rattle.nfs3canon.specs.machinery.Writing.{WritesOut};
-
-use crate::destination::Destination;
-use crate::hashing::SecretHasher;
-use crate::identity::{FileId, if_there, standard_output};
-use crate::opening::{OpenError, opened, unopened};
-use crate::outcome::{Ended, Outcome};
-use crate::output::OutputFile;
 use canon3::{SameError, Sink, Summary, ToWrite, Which, canon, check, same};
 use capture3::{Error, FromRead, Hashers};
 use line3::LineFault;
 use listing3::show;
 use packing3::Packing;
-use std::fs::{File, Metadata};
-use std::io::{BufWriter, Write};
-use std::{fs, io};
-
-/// How many bytes are gathered before they are written.
-const WRITTEN_AT_ONCE: usize = 65_536;
-
-/// The hashers have keys that nobody who writes a capture can know.
-fn hashers(rt: &HostRuntime) -> io::Result<Hashers<SecretHasher>> {
-    Ok(Hashers {
-        calls: SecretHasher::new(rt)?,
-        xids: SecretHasher::new(rt)?,
-        handles: SecretHasher::new(rt)?,
-        verfs: SecretHasher::new(rt)?,
-    })
-}
-
-fn uncounted(rt: &HostRuntime, name: &str, error: OpenError) -> Outcome {
-    unopened(
-        rt.alloc(),
-        name,
-        error,
-        Outcome::Counted(Err(Error::Memory)),
-    )
-}
+use program3::{
+    Destination, Ended, OpenError, Outcome, OutputFile, SecretHasher, WRITTEN_AT_ONCE, both_opened,
+    hashers, if_there, opened, standard_output, uncounted, unopened, written_out,
+};
+use std::fs;
+use std::fs::File;
+use std::io::BufWriter;
 
 fn unlisted(rt: &HostRuntime, name: &str, error: OpenError) -> Outcome {
     unopened(rt.alloc(), name, error, Outcome::Listed(Err(Error::Memory)))
@@ -70,30 +42,7 @@ pub fn checked(rt: &HostRuntime, name: &str) -> Outcome {
     };
     match fs::open(rt, name) {
         Ok(file) => Outcome::Counted(check(rt.alloc(), hashers, &mut FromRead::new(file))),
-        Err(error) => uncounted(rt, name, OpenError::from(error)),
-    }
-}
-
-/// What came of it, and the writer, once what was gathered is written too. After a failed write nothing is
-/// written any more.
-fn written_out<W: Write + Drop>(
-    came: Result<Summary, Error>,
-    mut buffer: BufWriter<W>,
-) -> (Result<Summary, Error>, W)
-    ensures failed { came ≡ Err Error.Write → result.1 ≡ writer_inner buffer }
-    ensures came { came ≡ Err Error.Write → result.0 ≡ came }
-    ensures written { came ≢ Err Error.Write
-        → WritesOut came (writer_contents W.contents buffer) result.0 (W.contents result.1) }
-{
-    let has_failed = match &came {
-        Err(Error::Write) => true,
-        _ => buffer.flush().is_err(),
-    };
-    let (writer, _unwritten) = buffer.into_parts();
-    if has_failed {
-        (Err(Error::Write), writer)
-    } else {
-        (came, writer)
+        Err(error) => uncounted(rt.alloc(), name, OpenError::from(error)),
     }
 }
 
@@ -121,56 +70,14 @@ pub fn rewritten(rt: &HostRuntime, input: &str, output: &str) -> Ended {
         return Ended::printing(Outcome::Counted(Err(Error::Read)));
     };
     match both_opened(rt, input, output) {
-        Ok((source, made)) => Ended {
-            is_aside: made.is_standard_output(),
-            outcome: Outcome::Counted(form_kept(rt, hashers, source, made)),
-        },
-        Err(outcome) => Ended::printing(outcome),
-    }
-}
-
-fn both_opened(rt: &HostRuntime, input: &str, output: &str) -> Result<(File, OutputFile), Outcome> {
-    let own = standard_output(rt);
-    let (source, read) = opened(rt, input).map_err(|error| uncounted(rt, input, error))?;
-    match made_apart(rt, output, own, &read) {
-        Ok(Some(made)) => Ok((source, made)),
-        Ok(None) => Err(Outcome::Line(LineFault::SameName)),
-        Err(error) => Err(uncounted(rt, output, error)),
-    }
-}
-
-/// Makes the output, unless it is the input, of which the system says `read`. The name may lead to another
-/// file once it is open, so it is compared again.
-fn made_apart(
-    rt: &HostRuntime,
-    output: &str,
-    own: io::Result<Option<FileId>>,
-    read: &Metadata,
-) -> Result<Option<OutputFile>, OpenError> {
-    let destination = Destination::of(rt, output, own?)?;
-    if destination.is_regular(read) {
-        return Ok(None);
-    }
-    let made = OutputFile::make(rt, output, &destination)?;
-    if made.is_regular(read) {
-        made.discard(rt);
-        return Ok(None);
-    }
-    Ok(Some(made))
-}
-
-fn form_kept(
-    rt: &HostRuntime,
-    hashers: Hashers<SecretHasher>,
-    source: File,
-    made: OutputFile,
-) -> Result<Summary, Error> {
-    match form_written(rt, hashers, source, &made.file) {
-        Ok(summary) => made.keep(rt).map(|()| summary),
-        Err(error) => {
-            made.discard(rt);
-            Err(error)
+        Ok((source, made)) => {
+            let came = form_written(rt, hashers, source, &made.file);
+            Ended {
+                is_aside: made.is_standard_output(),
+                outcome: Outcome::Counted(made.keep_if_ok(rt, came)),
+            }
         }
+        Err(outcome) => Ended::printing(outcome),
     }
 }
 

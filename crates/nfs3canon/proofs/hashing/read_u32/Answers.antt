@@ -1,6 +1,0 @@
-use Rattle.nfs3canon.specs.Hashing.{read_u32}
-use Rattle.nfs3canon.proofs.hashing.read_u32.Goals as goal
-
-pub returns : goal.returns
-unfolding read_u32
-returns c = c.from_le_bytes.ensures

@@ -1,4 +1,0 @@
-pub mod Hashing
-pub mod Opening
-pub mod Printed
-pub mod machinery

@@ -1,0 +1,7 @@
+use mathlib.Core.Path.{refl}
+use Rattle.program3.specs.Hashing.{folded_multiply}
+use Rattle.program3.proofs.hashing.folded_multiply.Goals as goal
+
+pub returns : goal.returns
+unfolding folded_multiply
+returns c = refl

@@ -1,0 +1,4 @@
+pub mod Hashing
+pub mod Opening
+pub mod Printed
+pub mod Writing

@@ -1,0 +1,77 @@
+// What is told if a file cannot be opened or made.
+
+ghost use Rattle.std.specs.Prelude.{◌≡◌, Err};
+ghost use Rattle.std.specs.IoError.{error_kind, raw_os_error};
+ghost use Rattle.program3.specs.Opening.{TellsOf, open_error_of};
+ghost use Rattle.program3.specs.declared.opening.OpenError.TheVariants.{Memory};
+ghost use Rattle.program3.specs.declared.outcome.Outcome.TheVariants.{Counted};
+
+use crate::outcome::Outcome;
+use capture3::Error;
+use std::alloc::{AllocError, Global};
+use std::fs::{File, Metadata};
+use std::io::ErrorKind;
+use std::{fs, io};
+
+/// Why a file cannot be read or written.
+#[derive(Clone, Copy, Debug, PartialEq, Eq)]
+pub enum OpenError {
+    /// It cannot be opened or made, or the system does not say which file it is.
+    Unopened,
+    /// Memory ran out.
+    Memory,
+}
+
+impl From<AllocError> for OpenError {
+    ghost from_gives = { λ _ error. error ≡ Memory };
+
+    fn from(_error: AllocError) -> OpenError {
+        OpenError::Memory
+    }
+}
+
+/// If the system has no memory for a call, the file is not opened. The program's own memory ran out only
+/// if the error has no number of the system's.
+impl From<io::Error> for OpenError {
+    ghost from_gives = { λ cause error. error ≡ open_error_of (error_kind cause) (raw_os_error cause) };
+
+    fn from(error: io::Error) -> OpenError {
+        match (error.kind(), error.raw_os_error()) {
+            (ErrorKind::OutOfMemory, None) => OpenError::Memory,
+            _ => OpenError::Unopened,
+        }
+    }
+}
+
+/// Returns the outcome if the file of this name cannot be opened or made: `Outcome::Unopened` with the name.
+/// If memory ran out, also for a copy of the name, it is `out_of_memory`.
+pub fn unopened(alloc: Global, name: &str, error: OpenError, out_of_memory: Outcome) -> Outcome
+    ensures { TellsOf name.now error out_of_memory result }
+{
+    match error {
+        OpenError::Unopened => match String::from_str(alloc, name) {
+            Ok(name) => Outcome::Unopened(name),
+            Err(_) => out_of_memory,
+        },
+        OpenError::Memory => out_of_memory,
+    }
+}
+
+/// Does so for a command that counts what it reads.
+pub fn uncounted(alloc: Global, name: &str, error: OpenError) -> Outcome
+    ensures { TellsOf name.now error (Counted (Err Error.Memory)) result }
+{
+    unopened(alloc, name, error, Outcome::Counted(Err(Error::Memory)))
+}
+
+/// Opens a file to be read, and returns it with what the system says of it.
+///
+/// # Errors
+///
+/// - `Unopened` if it cannot be opened, or the system does not say which file it is.
+/// - `Memory` if memory ran out.
+pub fn opened(rt: &HostRuntime, name: &str) -> Result<(File, Metadata), OpenError> {
+    let file = fs::open(rt, name)?;
+    let data = file.metadata()?;
+    Ok((file, data))
+}
