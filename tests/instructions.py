@@ -1,0 +1,94 @@
+#!/usr/bin/env python3
+"""Counts the instructions of the built program, by valgrind's callgrind, and compares them with limits.
+
+    python3 tests/instructions.py [PROGRAM] [--only TEXT] [-v]
+
+PROGRAM is crates/nfs3canon/out/nfs3canon if none is named. Each command runs on a made capture of one megabyte; a count
+does not move with what else the machine does, as a time would. A limit is 5 % above what was counted if it was set last, so
+who makes a command slower sees it here. If a command has become faster, its limit is lowered. The counts are of the program
+alone on x86-64: where valgrind is not installed, all is left out, with a word. The last line is 'N passed, M failed', and
+the status is 1 if any failed.
+"""
+import os
+import pathlib
+import re
+import shutil
+import subprocess
+import sys
+import tempfile
+
+from running import try_all, words_of
+
+sys.path.insert(0, str(pathlib.Path(__file__).resolve().parent.parent / 'measure'))
+import make  # noqa: E402
+
+# The most instructions, in millions.
+LIMITS = {
+    'check small': 0.0,
+    'canon small': 0.0,
+    'show small': 0.0,
+    'same small': 0.0,
+    'check mixed': 0.0,
+    'canon mixed': 0.0,
+    'show mixed': 0.0,
+    'same mixed': 0.0,
+    'pack small': 0.0,
+}
+MIXES = {'small': (make.SMALL, 1), 'mixed': (make.MIXED, 4)}
+
+
+def make_inputs(folder: pathlib.Path) -> None:
+    """Writes each capture, and the streams of the first connection of `small`."""
+    for name, (mix, megabytes) in MIXES.items():
+        with open(folder / name, 'wb') as out:
+            make.write_connections(out, mix, megabytes)
+    calls, replies = next(iter(make.conversations(make.SMALL, 1)))
+    for name, chunks in (('client', calls), ('server', replies)):
+        (folder / name).write_bytes(b''.join(chunk[4:] for chunk in chunks))
+
+
+def words_for(command: str, name: str) -> list[str]:
+    match command:
+        case 'canon':
+            return ['canon', name, 'canon-' + name]
+        case 'same':
+            return ['same', name, name]
+        case 'pack':
+            return ['pack', 'packed', 'client', 'server']
+        case _:
+            return [command, name]
+
+
+def millions(program: str, folder: pathlib.Path, command: str, name: str) -> float:
+    """How many million instructions the run takes; it has to end with status 0."""
+    words = ['valgrind', '--tool=callgrind', '--callgrind-out-file=/dev/null', program, *words_for(command, name)]
+    run = subprocess.run(words, cwd=folder, stdout=subprocess.DEVNULL, stderr=subprocess.PIPE, text=True, check=True)
+    counted = re.search(r'Collected : (\d+)', run.stderr)
+    if not counted:
+        raise ValueError('callgrind tells no count: ' + run.stderr[-300:])
+    return int(counted.group(1)) / 1e6
+
+
+def is_within(program: str, folder: pathlib.Path, label: str) -> list[str]:
+    """What is wrong with the count of this command on this capture."""
+    command, name = label.split()
+    counted, limit = millions(program, folder, command, name), LIMITS[label]
+    if counted <= limit:
+        return []
+    return ['%.2f million instructions, and the limit is %.2f' % (counted, limit)]
+
+
+def main() -> None:
+    words = words_of(__doc__)
+    if not shutil.which('valgrind'):
+        print('skipped, since valgrind is not installed')
+        print('0 passed, 0 failed')
+        return
+    with tempfile.TemporaryDirectory() as name:
+        folder = pathlib.Path(name)
+        make_inputs(folder)
+        try_all(words, [(label, is_within, folder, label) for label in LIMITS], os.cpu_count())
+
+
+if __name__ == '__main__':
+    main()
