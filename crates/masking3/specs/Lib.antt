@@ -1,0 +1,3 @@
+-- Which values are masked, and what becomes of them.
+pub mod Classes
+pub mod Ways
