@@ -1,3 +1,5 @@
 -- Which values are masked, and what becomes of them.
 pub mod Classes
 pub mod Ways
+pub mod Masked
+pub mod machinery

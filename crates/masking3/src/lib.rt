@@ -2,7 +2,10 @@
 #![tactic(auto)]
 
 mod class;
+mod class_tables;
+mod hashers;
 mod ways;
 
 pub use class::Class;
+pub use hashers::ClassHashers;
 pub use ways::{Way, Ways};

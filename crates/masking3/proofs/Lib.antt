@@ -1,0 +1,3 @@
+-- Lemmas of masked captures.
+pub mod ClassLemmas
+pub mod MaskedLemmas
