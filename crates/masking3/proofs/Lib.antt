@@ -1,3 +1,4 @@
 -- Lemmas of masked captures.
 pub mod ClassLemmas
 pub mod MaskedLemmas
+pub mod WriterLemmas

@@ -15,3 +15,12 @@ pub struct ClassHashers<S: BuildHasher + Drop> {
     pub create_verifiers: S,
     pub owners: S,
 }
+
+/// A hasher for each table: the calls of the open connection, the file handles, and the values of each
+/// class.
+#[derive(Drop)]
+pub struct MaskHashers<S: BuildHasher + Drop> {
+    pub calls: S,
+    pub handles: S,
+    pub classes: ClassHashers<S>,
+}

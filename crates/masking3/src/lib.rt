@@ -4,8 +4,9 @@
 mod class;
 mod class_tables;
 mod hashers;
+mod masking_writer;
 mod ways;
 
 pub use class::Class;
-pub use hashers::ClassHashers;
+pub use hashers::{ClassHashers, MaskHashers};
 pub use ways::{Way, Ways};
