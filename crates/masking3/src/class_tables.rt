@@ -59,7 +59,8 @@ impl<S: BuildHasher + Drop> ClassTables<S> {
         ensures stands { (items : List Item) (item : Item) → class ≡ class_of item
             → n ≡ value_of item → HoldsValues self.old.ways (tables_in self.old) items
             → IfOk result (λ m. m ≡
-            substitute self.old.ways (values (items ++ item ∷ [])) class n) }
+            substitute self.old.ways (values (items ++ item ∷ []))
+            (class_of item) (value_of item)) }
         ensures holds { (items : List Item) (item : Item) → class ≡ class_of item
             → n ≡ value_of item → HoldsValues self.old.ways (tables_in self.old) items
             → OnOk result

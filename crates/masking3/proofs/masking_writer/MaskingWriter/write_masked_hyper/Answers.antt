@@ -1,9 +1,7 @@
-use Rattle.std.proofs.Common.{refl, ap, sym, ◌∙◌, [], ◌∷◌, ◌++◌}
+use Rattle.std.proofs.Common.{refl, ap, sym, ◌∙◌}
 use Rattle.std.specs.Prelude.{None, Some}
 use Rattle.std.proofs.lemmas.Result.{on_ok_weaker}
 use Rattle.xdr3.specs.Item.{Hyper}
-use Rattle.masking3.specs.Classes.{value_of}
-use Rattle.masking3.specs.Masked.{substitute, values}
 use Rattle.masking3.proofs.WriterLemmas.{adds_of_class}
 use Rattle.masking3.proofs.masking_writer.MaskingWriter.write_masked_hyper.Goals as goal
 
@@ -12,9 +10,9 @@ returns-in-Some g c =
     let i = Hyper c.args.name.now c.args.n in
     record {
       ok = on_ok_weaker c.hyper.result
-          (adds_of_class g.P.Plan.ways c.args.self.now c.substitute.new.self c.hyper.new.self i (Hyper c.args.name.now c.in-Some.substitute) (Some c.in-Some.substitute) refl c.substitute.ensures.ways
+          (adds_of_class g.P.Plan.ways c.args.self.now c.substitute.new.self c.hyper.new.self i (Hyper c.args.name.now c.from.result) (Some c.in-Some.substitute) refl c.substitute.ensures.ways
           (λ items h. c.in_ok-substitute.ensures.holds items i c.class_of_hyper.ensures refl h)
-          (λ items h. sym c.in-Some.is ∙ (c.in_ok-substitute.ensures.stands items i c.class_of_hyper.ensures refl h ∙ ap (λ o. substitute c.args.self.now.classes.ways (values (items ++ i ∷ [])) o (value_of i)) c.class_of_hyper.ensures)) refl)
+          (λ items h. sym c.in-Some.is ∙ c.in_ok-substitute.ensures.stands items i c.class_of_hyper.ensures refl h) (ap (Hyper c.args.name.now) (sym c.from.ensures)))
           c.hyper.ensures.ok;
     }
 
@@ -25,6 +23,6 @@ returns-in-None g c =
       ok = on_ok_weaker c.hyper-in-None.result
           (adds_of_class g.P.Plan.ways c.args.self.now c.substitute.new.self c.hyper-in-None.new.self i i None refl c.substitute.ensures.ways
           (λ items h. c.in_ok-substitute.ensures.holds items i c.class_of_hyper.ensures refl h)
-          (λ items h. sym c.in-None.is ∙ (c.in_ok-substitute.ensures.stands items i c.class_of_hyper.ensures refl h ∙ ap (λ o. substitute c.args.self.now.classes.ways (values (items ++ i ∷ [])) o (value_of i)) c.class_of_hyper.ensures)) refl)
+          (λ items h. sym c.in-None.is ∙ c.in_ok-substitute.ensures.stands items i c.class_of_hyper.ensures refl h) refl)
           c.hyper-in-None.ensures.ok;
     }

@@ -1,9 +1,7 @@
-use Rattle.std.proofs.Common.{refl, ap, sym, ◌∙◌, [], ◌∷◌, ◌++◌}
+use Rattle.std.proofs.Common.{refl, ap, sym, ◌∙◌}
 use Rattle.std.specs.Prelude.{None, Some}
 use Rattle.std.proofs.lemmas.Result.{on_ok_weaker}
 use Rattle.xdr3.specs.Item.{Word}
-use Rattle.masking3.specs.Classes.{value_of}
-use Rattle.masking3.specs.Masked.{substitute, values}
 use Rattle.masking3.proofs.WriterLemmas.{adds_of_class}
 use Rattle.masking3.proofs.masking_writer.MaskingWriter.write_masked_word.Goals as goal
 
@@ -14,7 +12,7 @@ returns-in-Some g c =
       ok = on_ok_weaker c.word.result
           (adds_of_class g.P.Plan.ways c.args.self.now c.substitute.new.self c.word.new.self i (Word c.args.name.now c.in-Some.substitute) (Some c.in-Some.substitute) refl c.substitute.ensures.ways
           (λ items h. c.in_ok-substitute.ensures.holds items i c.class_of_word.ensures c.from.ensures h)
-          (λ items h. sym c.in-Some.is ∙ (c.in_ok-substitute.ensures.stands items i c.class_of_word.ensures c.from.ensures h ∙ ap (λ o. substitute c.args.self.now.classes.ways (values (items ++ i ∷ [])) o (value_of i)) c.class_of_word.ensures)) refl)
+          (λ items h. sym c.in-Some.is ∙ c.in_ok-substitute.ensures.stands items i c.class_of_word.ensures c.from.ensures h) refl)
           c.word.ensures.ok;
     }
 
@@ -25,6 +23,6 @@ returns-in-None g c =
       ok = on_ok_weaker c.word-in-None.result
           (adds_of_class g.P.Plan.ways c.args.self.now c.substitute.new.self c.word-in-None.new.self i i None refl c.substitute.ensures.ways
           (λ items h. c.in_ok-substitute.ensures.holds items i c.class_of_word.ensures c.from.ensures h)
-          (λ items h. sym c.in-None.is ∙ (c.in_ok-substitute.ensures.stands items i c.class_of_word.ensures c.from.ensures h ∙ ap (λ o. substitute c.args.self.now.classes.ways (values (items ++ i ∷ [])) o (value_of i)) c.class_of_word.ensures)) refl)
+          (λ items h. sym c.in-None.is ∙ c.in_ok-substitute.ensures.stands items i c.class_of_word.ensures c.from.ensures h) refl)
           c.word-in-None.ensures.ok;
     }
