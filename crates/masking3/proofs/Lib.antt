@@ -2,3 +2,4 @@
 pub mod ClassLemmas
 pub mod MaskedLemmas
 pub mod WriterLemmas
+pub mod FormLemmas

@@ -77,11 +77,10 @@ unmasked ways seen i none = ap (λ o. with_value i (substitute ways seen o (valu
 -- ---- the form grows
 
 module _ (ways : Ways) where
-  pub after : (a b : List Entry) → List Entry
+  abbrev pub after : (a b : List Entry) → List Entry
   after a b = map (masked_entry ways (values (flat_map items_of (a ++ b)))) b
 
   pub masked-append : (a b : List Entry) → masked ways (a ++ b) ≡ masked ways a ++ after a b
-  unfolding after
   masked-append a b =
       let all = flat_map-append items_of a b in
       map-append (masked_entry ways (values (flat_map items_of (a ++ b)))) a b
@@ -102,11 +101,10 @@ module _ (ways : Ways) where
   form_fronts (e ∷ a) b first = (flat_map entry_bytes (after (e ∷ a) b), form_some e a b)
 
   -- one entry more
-  pub last_bytes : (a : List Entry) (one : Entry) → List ℕ
+  abbrev pub last_bytes : (a : List Entry) (one : Entry) → List ℕ
   last_bytes a one = entry_bytes (masked_entry ways (values (all_items (a ++ one ∷ []))) one)
 
   pub form_grows : (a : List Entry) (one : Entry) → masked_bytes ways (a ++ one ∷ []) ≡ (masked_bytes ways a ++ magic_unless (are_some a)) ++ last_bytes a one
-  unfolding last_bytes after
   form_grows [] one = ap (λ (l : List ℕ). magic One ++ l) (append-nil (last_bytes [] one))
   form_grows (e ∷ a) one =
       form_some e a (one ∷ []) ∙ ap₂ (λ (l m : List ℕ). l ++ m) (sym (append-nil (masked_bytes ways (e ∷ a)))) (append-nil (last_bytes (e ∷ a) one))
