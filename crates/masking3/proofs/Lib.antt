@@ -3,3 +3,4 @@ pub mod ClassLemmas
 pub mod MaskedLemmas
 pub mod WriterLemmas
 pub mod FormLemmas
+pub mod AgainLemmas

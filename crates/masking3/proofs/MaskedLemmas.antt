@@ -26,10 +26,10 @@ use Rattle.masking3.specs.Ways.{way_of}
 
 -- ---- numbers stay
 
-value_given : (d : Class) (n : ℕ) → is_zero_that_stays d n ≡ false → value_where d (Some d) n ≡ n ∷ []
+pub value_given : (d : Class) (n : ℕ) → is_zero_that_stays d n ≡ false → value_where d (Some d) n ≡ n ∷ []
 value_given d n f = rw (f, (Decides-eqb (position d) (position d)).1 refl) refl
 
-member_among : {K : Type 0} (f : K → List ℕ) {i : K} {x : ℕ} {all : List K} → Member i all → Member x (f i) → Member x (flat_map f all)
+pub member_among : {K : Type 0} (f : K → List ℕ) {i : K} {x : ℕ} {all : List K} → Member i all → Member x (f i) → Member x (flat_map f all)
 member_among f (here {l = l}) m = member-append_left (flat_map f l) m
 member_among f (there {y = y} h) m = member-append_right (f y) (member_among f h m)
 

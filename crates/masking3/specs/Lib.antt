@@ -2,4 +2,5 @@
 pub mod Classes
 pub mod Ways
 pub mod Masked
+pub mod Laws
 pub mod machinery

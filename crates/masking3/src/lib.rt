@@ -4,6 +4,7 @@
 mod class;
 mod class_tables;
 mod hashers;
+pub mod laws;
 mod masked_form;
 mod masking_writer;
 mod ways;
