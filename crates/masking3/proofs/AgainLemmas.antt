@@ -103,8 +103,8 @@ module _ (all : List Item) (d : Class) where
   number_again i m is = by_test (is_zero_that_stays d (value_of i))
       (λ t. rw t (rw (zero_still d (value_of i) t) refl))
       (λ f. let among = is_seen i m is f in
-            rw f (rw (no_zero d _) (rank-map nat_eq Decides-eqb nat_eq Decides-eqb (λ n. rank nat_eq n (values all d)) (value_of i) (values all d)
-            (λ x y mx my e. same_rank nat_eq Decides-eqb (seen_too among mx) (seen_too among my) e))))
+      rw f (rw (no_zero d _) (rank-map nat_eq Decides-eqb nat_eq Decides-eqb (λ n. rank nat_eq n (values all d)) (value_of i) (values all d)
+      (λ x y mx my e. same_rank nat_eq Decides-eqb (seen_too among mx) (seen_too among my) e))))
 
   small : length (values all d) < 2 ^ 64 → (i : Item) → Member i all → class_of i ≡ Some d → number_among (values all d) d (value_of i) < 2 ^ 64
   small few i m is = by_test (is_zero_that_stays d (value_of i))
@@ -136,12 +136,12 @@ module _ (ways : Ways) (all : List Item) (room : (c : Class) → length (values 
       let old : value_in d i ≡ value_where d (Some e) (value_of i) = ap (λ o. value_where d o (value_of i)) is in
       by_test (position d == position e)
       (λ t. let same : e ≡ d = sym (same_class d e ((Decides-eqb (position d) (position e)).0 t)) in
-            let own : class_of i ≡ Some d = is ∙ ap Some same in
-            let number = number_among (values all d) d (value_of i) in
-            let value : value_of j ≡ number = ap value_of (by_class i d Number own way) ∙ value_put i number d (small all d (room d) i m own) own in
-            ap (λ o. value_where d o (value_of j)) (class_of_masked i ∙ own) ∙ (ap (value_where d (Some d)) value ∙ (value_again all d (room d) i m own ∙ ap (λ o. map (λ n. rank nat_eq n (values all d)) (value_where d o (value_of i))) (sym own))))
+      let own : class_of i ≡ Some d = is ∙ ap Some same in
+      let number = number_among (values all d) d (value_of i) in
+      let value : value_of j ≡ number = ap value_of (by_class i d Number own way) ∙ value_put i number d (small all d (room d) i m own) own in
+      ap (λ o. value_where d o (value_of j)) (class_of_masked i ∙ own) ∙ (ap (value_where d (Some d)) value ∙ (value_again all d (room d) i m own ∙ ap (λ o. map (λ n. rank nat_eq n (values all d)) (value_where d o (value_of i))) (sym own))))
       (λ n. let other : d ≢ e = λ s. absurd (cc (n, (Decides-eqb (position d) (position e)).1 (ap position s))) in
-            new ∙ (none_of_other d e (value_of j) other ∙ sym (ap f (old ∙ none_of_other d e (value_of i) other))))
+      new ∙ (none_of_other d e (value_of j) other ∙ sym (ap f (old ∙ none_of_other d e (value_of i) other))))
 
   values_masked : (d : Class) → way_of ways d ≡ Number → (items : List Item) → ((i : Item) → Member i items → Member i all) → values (masked_items ways (values all) items) d ≡ map (λ n. rank nat_eq n (values all d)) (values items d)
   values_masked d way [] within = refl

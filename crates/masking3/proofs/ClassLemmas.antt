@@ -94,8 +94,8 @@ holds_numbered ways old new items item d is given others = holds_more ways old n
     same_or_other c held = by_test (position c == position d)
         (λ t. subst (λ k. HoldsAt new (position k) (values items k ++ value_where k (Some d) (value_of item))) (sym (same_class c d ((Decides-eqb (position c) (position d)).0 t))) given)
         (λ f. let apart : position c ≢ position d = λ e. absurd (cc (f, (Decides-eqb (position c) (position d)).1 e)) in
-              let none : value_where c (Some d) (value_of item) ≡ [] = none_of_other c d (value_of item) (λ e. apart (ap position e)) in
-              subst (HoldsAt new (position c)) (sym (ap (λ (l : List ℕ). values items c ++ l) none ∙ append-nil (values items c))) (others (position c) apart ∙ held))
+        let none : value_where c (Some d) (value_of item) ≡ [] = none_of_other c d (value_of item) (λ e. apart (ap position e)) in
+        subst (HoldsAt new (position c)) (sym (ap (λ (l : List ℕ). values items c ++ l) none ∙ append-nil (values items c))) (others (position c) apart ∙ held))
 
     step : (c : Class) → way_of ways c ≡ Number → HoldsAt old (position c) (values items c) → HoldsAt new (position c) (values items c ++ value_in c item)
     step c numbered held = subst (λ o. HoldsAt new (position c) (values items c ++ value_where c o (value_of item))) (sym is) (same_or_other c held)

@@ -38,8 +38,8 @@ module _ (ways : Ways) (all more : List Item) where
   number_stays i d m is = by_test (is_zero_that_stays d (value_of i))
       (λ t. rw t refl)
       (λ f. let own : value_in d i ≡ value_of i ∷ [] = ap (λ o. value_where d o (value_of i)) is ∙ value_given d (value_of i) f in
-            let among : Member (value_of i) (values all d) = member_among (value_in d) m (subst (Member (value_of i)) (sym own) here) in
-            rw f (ap (rank nat_eq (value_of i)) (flat_map-append (value_in d) all more) ∙ rank-append nat_eq Decides-eqb (values more d) among))
+      let among : Member (value_of i) (values all d) = member_among (value_in d) m (subst (Member (value_of i)) (sym own) here) in
+      rw f (ap (rank nat_eq (value_of i)) (flat_map-append (value_in d) all more) ∙ rank-append nat_eq Decides-eqb (values more d) among))
 
   way_stays : (w : Way) (d : Class) (n : ℕ) → number_among (values (all ++ more) d) d n ≡ number_among (values all d) d n → by_way w (values (all ++ more) d) d n ≡ by_way w (values all d) d n
   way_stays Keep d n e = refl

@@ -76,8 +76,7 @@ module _ {P S H : Type 0} (ways : Ways) (w : MaskingWriter P S H) where
       let stay : masked_items ways (values (so_far ++ i ∷ [])) items ≡ before = items_stay ways so_far (i ∷ []) items (λ j m. member-append_right front m) in
       let item : Item = masked_item ways (values (so_far ++ i ∷ [])) i in
       let added : bytes ≡ zero_spelling (before ++ item ∷ []) = subst (λ k. bytes ≡ zero_spelling (before ++ masked_item k (values (so_far ++ i ∷ [])) i ∷ [])) is.ways_are (write so_far held before is.written) in
-      let whole : before ++ item ∷ [] ≡ masked_items ways (values (so_far ++ i ∷ [])) (items ++ i ∷ []) = ap (λ (l : List Item). l ++ item ∷ []) (sym stay) ∙ sym (map-append (masked_item ways (values (so_far ++ i ∷ []))) items (i ∷ [])) in
-      (
+      let whole : before ++ item ∷ [] ≡ masked_items ways (values (so_far ++ i ∷ [])) (items ++ i ∷ []) = ap (λ (l : List Item). l ++ item ∷ []) (sym stay) ∙ sym (map-append (masked_item ways (values (so_far ++ i ∷ []))) items (i ∷ [])) in (
         front,
         items ++ i ∷ [],
         ap (λ (l : List Item). l ++ i ∷ []) are ∙ after_front-append front items (i ∷ []),

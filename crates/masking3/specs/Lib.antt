@@ -3,4 +3,5 @@ pub mod Classes
 pub mod Ways
 pub mod Masked
 pub mod Laws
+pub mod Examples
 pub mod machinery

@@ -3,6 +3,7 @@
 
 mod class;
 mod class_tables;
+pub mod examples;
 mod hashers;
 pub mod laws;
 mod masked_form;

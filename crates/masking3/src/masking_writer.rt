@@ -95,11 +95,7 @@ impl<P: Plan, S: BuildHasher + Drop> MaskingWriter<P, S> {
         }
     }
 
-    fn write_masked_fixed(
-        &mut self,
-        name: &'static str,
-        bytes: &[u8; 8],
-    ) -> Result<(), AllocError>
+    fn write_masked_fixed(&mut self, name: &'static str, bytes: &[u8; 8]) -> Result<(), AllocError>
         ensures ok { OnOk result
             (Adds (MaskStands P.ways) self.old self.new (Fixed name.now bytes.now ∷ [])) }
     {
