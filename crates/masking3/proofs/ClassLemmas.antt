@@ -1,7 +1,6 @@
 -- Classes, their places, and their values.
-use Rattle.std.proofs.Common.{◌≡◌, ◌≢◌, ℕ, Bool, true, false, List, [], ◌∷◌, ◌++◌, refl, sym, ap, ◌∙◌, subst, append-nil}
-use Rattle.std.specs.Prelude.{◌==◌, if◌then◌else◌, nat_eq, get_or, slice_set, Option, None, Some}
-use Rattle.std.specs.List.{flat_map}
+use Rattle.std.proofs.Common.{◌≡◌, ◌≢◌, ℕ, List, [], ◌∷◌, ◌++◌, refl, sym, ap, ◌∙◌, subst, append-nil}
+use Rattle.std.specs.Prelude.{◌==◌, if◌then◌else◌, get_or, slice_set, None, Some}
 use Rattle.std.proofs.lemmas.Bool.Decides.{Decides-eqb}
 use Rattle.std.proofs.lemmas.Grind.{flat_map-append}
 use Rattle.std.proofs.lemmas.List.{get_or-set_other}
@@ -9,8 +8,7 @@ use Rattle.xdr3.specs.Item.{Item}
 use Rattle.canon3.proofs.RankLemmas.{by_test}
 use Rattle.masking3.specs.declared.class.Class.{Class}
 use Rattle.masking3.specs.declared.class.Class.TheVariants.{Times, Stamps, Space, Ids, Fsids, Cookies, CookieVerifiers, CreateVerifiers, Owners}
-use Rattle.masking3.specs.declared.ways.Way.{Way}
-use Rattle.masking3.specs.declared.ways.Way.TheVariants.{Keep, Zero, Number}
+use Rattle.masking3.specs.declared.ways.Way.TheVariants.{Number}
 use Rattle.masking3.specs.declared.ways.Ways.{Ways}
 use Rattle.masking3.specs.Classes.{class_of, position, value_of}
 use Rattle.masking3.specs.Masked.{value_in, value_where, values}

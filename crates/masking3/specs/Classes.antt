@@ -2,7 +2,7 @@
 use Rattle.std.specs.Prelude.{ℕ, Bool, true, false, bytes_eq, if◌then◌else◌, List, [], ◌∷◌, Option, None, Some}
 use Rattle.std.specs.List.{list_any}
 use Rattle.byteorder.specs.Endian.{big_number}
-use Rattle.xdr3.specs.Item.{Item, Word, Hyper, Fixed, WriteVerf, Opaque, Rest}
+use Rattle.xdr3.specs.Item.{Item, Word, Hyper, Fixed}
 use Rattle.nfs3_types.specs.Names.{names}
 use Rattle.rpc_head.specs.Names.{head_names}
 use Rattle.masking3.specs.declared.class.Class.{Class}

@@ -1,5 +1,5 @@
 -- What the laws say of the masked form.
-use Rattle.std.specs.Prelude.{◌≡◌, ℕ, ◌<◌, ◌^◌, List, ◌++◌, length}
+use Rattle.std.specs.Prelude.{◌≡◌, ◌<◌, ◌^◌, List, ◌++◌, length}
 use Rattle.std.specs.List.{flat_map}
 use Rattle.capture3.specs.Entry.{Entry, items_of}
 use Rattle.masking3.specs.declared.class.Class.{Class}

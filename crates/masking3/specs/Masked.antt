@@ -1,9 +1,9 @@
 -- The masked form.
-use Rattle.std.specs.Prelude.{ℕ, ◌==◌, ◌&&◌, Bool, not, nat_eq, if◌then◌else◌, List, [], ◌∷◌, Option, None, Some, map, replicate}
+use Rattle.std.specs.Prelude.{ℕ, ◌==◌, ◌&&◌, Bool, not, nat_eq, if◌then◌else◌, List, [], ◌∷◌, Option, None, Some, map}
 use Rattle.std.specs.List.{flat_map}
 use Rattle.byteorder.specs.Endian.{big_bytes}
-use Rattle.xdr3.specs.Item.{Item, Word, Hyper, Fixed, WriteVerf, Opaque, Rest}
-use Rattle.capture3.specs.Entry.{Entry, Begin, Call, Turn, Reply, Close, End, items_of}
+use Rattle.xdr3.specs.Item.{Item, Word, Hyper, Fixed}
+use Rattle.capture3.specs.Entry.{Entry, Call, Reply, items_of}
 use Rattle.canon3.specs.Bytes.{bytes_of}
 use Rattle.canon3.specs.Rank.{rank}
 use Rattle.masking3.specs.declared.class.Class.{Class}

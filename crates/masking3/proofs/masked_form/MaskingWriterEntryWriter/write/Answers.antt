@@ -1,4 +1,4 @@
-use Rattle.std.proofs.Common.{List, [], ◌∷◌, ◌++◌, subst, sym}
+use Rattle.std.proofs.Common.{List, [], subst, sym}
 use Rattle.xdr3.specs.Item.{Item}
 use Rattle.capture3.specs.Entry.{items_of}
 use Rattle.capture3.proofs.PassedOn.{error_is}

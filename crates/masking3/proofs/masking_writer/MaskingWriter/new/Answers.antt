@@ -1,4 +1,4 @@
-use Rattle.std.proofs.Common.{[], refl, sym, subst, ◌∙◌}
+use Rattle.std.proofs.Common.{[], subst, ◌∙◌}
 use Rattle.masking3.specs.machinery.ClassTables.{HoldsValues, tables_in}
 use Rattle.masking3.proofs.WriterLemmas.{stands_after}
 use Rattle.masking3.proofs.masking_writer.MaskingWriter.new.Goals as goal
