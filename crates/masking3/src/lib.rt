@@ -8,8 +8,11 @@ mod hashers;
 pub mod laws;
 mod masked_form;
 mod masking_writer;
+#[cfg(test)]
+mod tests;
 mod ways;
 
 pub use class::Class;
 pub use hashers::{ClassHashers, MaskHashers};
+pub use masked_form::mask;
 pub use ways::{Way, Ways};
