@@ -39,7 +39,12 @@ pub(crate) fn write_spelling<W: Sink>(
     }
 }
 
-fn write_word<W: Sink>(sink: &mut W, n: u32) -> Result<(), Error>
+/// Writes a word of the container. After an error a front of it was written.
+///
+/// # Errors
+///
+/// `Write` where a write failed.
+pub fn write_word<W: Sink>(sink: &mut W, n: u32) -> Result<(), Error>
     ensures ok { OnOk result (Appends (W.written sink.old) (W.written sink.new) (word_bytes n)) }
     ensures err { OnErr result
         (AppendsFront (W.written sink.old) (W.written sink.new) (word_bytes n)) }
@@ -52,9 +57,14 @@ fn write_word<W: Sink>(sink: &mut W, n: u32) -> Result<(), Error>
     }
 }
 
-/// Writes a message as one chunk.
+/// Writes a message as one chunk, which is one record of one fragment. After an error a front of it was
+/// written.
+///
+/// # Errors
+///
+/// `Write` where a write failed, and `Memory` where the message has more than 16,777,216 bytes.
 // No message of a capture has more bytes than a record may have, and with numbers it has no more.
-fn write_message<W: Sink>(sink: &mut W, message: &[u8]) -> Result<(), Error>
+pub fn write_message<W: Sink>(sink: &mut W, message: &[u8]) -> Result<(), Error>
     ensures ok { OnOk result
         (Appends (W.written sink.old) (W.written sink.new)
         (chunk_bytes (record_bytes message.now))) }

@@ -22,6 +22,7 @@ mod whole_writes;
 
 pub use canonical_form::canon;
 pub use comparison::same;
+pub use container_writer::{write_message, write_word};
 pub use entry_writer::{EntryWriter, write_entries};
 pub use handles::HandleTable;
 pub use mem_sink::MemSink;

@@ -1,0 +1,80 @@
+-- What was written of the masked form, entry by entry.
+use Rattle.std.proofs.Common.{◌≡◌, ℕ, List, [], ◌∷◌, ◌++◌, Option, refl, sym, ap, ◌∙◌, subst, append_assoc}
+use Rattle.std.specs.Io.KnownBytes.{Appends}
+use Rattle.std.proofs.KnownBytes.{Appends-trans}
+use Rattle.xdr3.specs.Item.{Item, zero_spelling}
+use Rattle.capture3.specs.declared.reader.entry.Kind.{Kind}
+use Rattle.capture3.specs.declared.reader.entry.Kind.TheVariants as kinds
+use Rattle.capture3.specs.Entry.{Entry, items_of}
+use Rattle.capture3.specs.Kept.{IsOfKind}
+use Rattle.canon3.specs.Bytes.{chunk_bytes, entry_bytes, record_bytes}
+use Rattle.canon3.specs.Laws.{AreFirst}
+use Rattle.canon3.specs.machinery.CanonicalForm.{are_some, magic_before, magic_unless}
+use Rattle.canon3.specs.machinery.Summary.{all_items}
+use Rattle.canon3.specs.Parting.{connections}
+use Rattle.canon3.specs.SinkWrites.{AppendsFront}
+use Rattle.canon3.proofs.CanonicalFormLemmas.{the_magic}
+use Rattle.canon3.proofs.SinkWritesLemmas.{front_of_first, front_of_second, whole_front}
+use Rattle.canon3.proofs.SummaryLemmas.{items_with_last}
+use Rattle.masking3.specs.declared.class.Class.{Class}
+use Rattle.masking3.specs.declared.ways.Ways.{Ways}
+use Rattle.masking3.specs.Masked.{masked_bytes, masked_entry, masked_items, values}
+use Rattle.masking3.specs.machinery.MaskingWriter.{written_as}
+use Rattle.masking3.proofs.MaskedLemmas.{form_grows, last_bytes}
+
+-- ---- the bytes of an entry
+
+module _ (ways : Ways) (seen : Class → List ℕ) (body : List ℕ) where
+  abbrev IsWrittenAs : Kind → Entry → Type 0
+  IsWrittenAs kind one = body ≡ zero_spelling (masked_items ways seen (items_of one)) → written_as kind body ≡ entry_bytes (masked_entry ways seen one)
+
+  of_kind : (kind : Kind) (one : Entry) → IsOfKind kind one → IsWrittenAs kind one
+  of_kind kinds.Begin one is = subst (IsWrittenAs kinds.Begin) (sym is) (λ b. refl)
+  of_kind (kinds.Call id) one (items, asks, is) = subst (IsWrittenAs (kinds.Call id)) (sym is) (λ b. ap (λ (l : List ℕ). chunk_bytes (record_bytes l)) b)
+  of_kind kinds.Turn one is = subst (IsWrittenAs kinds.Turn) (sym is) (λ b. refl)
+  of_kind (kinds.Reply id) one (items, is) = subst (IsWrittenAs (kinds.Reply id)) (sym is) (λ b. ap (λ (l : List ℕ). chunk_bytes (record_bytes l)) b)
+  of_kind kinds.Close one is = subst (IsWrittenAs kinds.Close) (sym is) (λ b. refl)
+  of_kind kinds.End one is = subst (IsWrittenAs kinds.End) (sym is) (λ b. refl)
+
+pub entry_is : (ways : Ways) (body : List ℕ) (kind : Kind) (entries : List Entry) (one : Entry) → IsOfKind kind one
+    → body ≡ zero_spelling (masked_items ways (values (all_items entries ++ items_of one)) (items_of one)) → written_as kind body ≡ last_bytes ways entries one
+entry_is ways body kind entries one of is =
+    of_kind ways (values (all_items entries ++ items_of one)) body kind one of is
+    ∙ ap (λ (l : List Item). entry_bytes (masked_entry ways (values l) one)) (sym (items_with_last entries one))
+
+-- ---- one entry more, where the sink had the old bytes first, and then these in turn
+
+module _ (ways : Ways) (old before between after : Option (List ℕ)) (entries : List Entry) (one : Entry) (count : ℕ) (first : AreFirst (entries ++ one ∷ [])) (counted : count ≡ connections entries) (so_far : Appends old before (masked_bytes ways entries)) where
+  abbrev form : List ℕ
+  form = masked_bytes ways entries
+
+  abbrev whole : List ℕ
+  whole = masked_bytes ways (entries ++ one ∷ [])
+
+  abbrev magic_bytes : List ℕ
+  magic_bytes = magic_unless (are_some entries)
+
+  -- nothing more was written
+  pub nothing_more : AppendsFront old before whole
+  nothing_more =
+      front_of_first old before form (magic_bytes ++ last_bytes ways entries one) whole (form_grows ways entries one ∙ append_assoc form magic_bytes (last_bytes ways entries one)) (whole_front old before form so_far)
+
+  with_magic : Appends before between (magic_before count) → Appends old between (form ++ magic_bytes)
+  with_magic magic = Appends-trans old before between form magic_bytes so_far (subst (Appends before between) (the_magic entries one count first counted) magic)
+
+  -- the magic was cut
+  pub cut_in_magic : AppendsFront before between (magic_before count) → AppendsFront old between whole
+  cut_in_magic cut =
+      front_of_first old between (form ++ magic_bytes) (last_bytes ways entries one) whole (form_grows ways entries one)
+      (front_of_second old before between form magic_bytes (form ++ magic_bytes) refl so_far (subst (AppendsFront before between) (the_magic entries one count first counted) cut))
+
+  -- the entry was cut
+  pub cut_in_entry : (bytes : List ℕ) → bytes ≡ last_bytes ways entries one → Appends before between (magic_before count) → AppendsFront between after bytes → AppendsFront old after whole
+  cut_in_entry bytes is magic cut =
+      front_of_second old between after (form ++ magic_bytes) (last_bytes ways entries one) whole (form_grows ways entries one) (with_magic magic) (subst (AppendsFront between after) is cut)
+
+  -- the entry was written
+  pub all_written : (bytes : List ℕ) → bytes ≡ last_bytes ways entries one → Appends before between (magic_before count) → Appends between after bytes → Appends old after whole
+  all_written bytes is magic written =
+      subst (Appends old after) (sym (form_grows ways entries one))
+      (Appends-trans old between after (form ++ magic_bytes) (last_bytes ways entries one) (with_magic magic) (subst (Appends between after) is written))

@@ -1,0 +1,29 @@
+use Rattle.std.proofs.Common.{refl, ap, sym, ◌∙◌, ◌++◌, [], append-nil}
+use Rattle.std.specs.Prelude.{None, Some}
+use Rattle.std.proofs.lemmas.Result.{on_ok_weaker}
+use Rattle.byteorder.specs.Endian.{big_bytes}
+use Rattle.xdr3.specs.Item.{Fixed}
+use Rattle.masking3.proofs.WriterLemmas.{adds_of_class}
+use Rattle.masking3.proofs.masking_writer.MaskingWriter.write_masked_fixed.Goals as goal
+
+pub returns-in-Some : goal.returns-in-Some
+returns-in-Some g c =
+    let i = Fixed c.args.name.now c.args.bytes.now in
+    record {
+      ok = on_ok_weaker c.fixed.result
+          (adds_of_class g.P.Plan.ways c.args.self.now c.substitute.new.self c.fixed.new.self i (Fixed c.args.name.now c.write_u64.new.buf) (Some c.in-Some.substitute) refl c.substitute.ensures.ways
+          (λ items h. c.in_ok-substitute.ensures.holds items i c.class_of_fixed.ensures c.read_u64-value.ensures h)
+          (λ items h. sym c.in-Some.is ∙ c.in_ok-substitute.ensures.stands items i c.class_of_fixed.ensures c.read_u64-value.ensures h) (ap (Fixed c.args.name.now) (sym (c.write_u64.ensures ∙ (ap (λ n. big_bytes 8 n ++ []) c.from.ensures ∙ append-nil (big_bytes 8 c.in-Some.substitute))))))
+          c.fixed.ensures.ok;
+    }
+
+pub returns-in-None : goal.returns-in-None
+returns-in-None g c =
+    let i = Fixed c.args.name.now c.args.bytes.now in
+    record {
+      ok = on_ok_weaker c.fixed-in-None.result
+          (adds_of_class g.P.Plan.ways c.args.self.now c.substitute.new.self c.fixed-in-None.new.self i i None refl c.substitute.ensures.ways
+          (λ items h. c.in_ok-substitute.ensures.holds items i c.class_of_fixed.ensures c.read_u64-value.ensures h)
+          (λ items h. sym c.in-None.is ∙ c.in_ok-substitute.ensures.stands items i c.class_of_fixed.ensures c.read_u64-value.ensures h) refl)
+          c.fixed-in-None.ensures.ok;
+    }

@@ -1,0 +1,28 @@
+use Rattle.std.proofs.Common.{refl, ap, sym, ◌∙◌}
+use Rattle.std.specs.Prelude.{None, Some}
+use Rattle.std.proofs.lemmas.Result.{on_ok_weaker}
+use Rattle.xdr3.specs.Item.{Hyper}
+use Rattle.masking3.proofs.WriterLemmas.{adds_of_class}
+use Rattle.masking3.proofs.masking_writer.MaskingWriter.write_masked_hyper.Goals as goal
+
+pub returns-in-Some : goal.returns-in-Some
+returns-in-Some g c =
+    let i = Hyper c.args.name.now c.args.n in
+    record {
+      ok = on_ok_weaker c.hyper.result
+          (adds_of_class g.P.Plan.ways c.args.self.now c.substitute.new.self c.hyper.new.self i (Hyper c.args.name.now c.from.result) (Some c.in-Some.substitute) refl c.substitute.ensures.ways
+          (λ items h. c.in_ok-substitute.ensures.holds items i c.class_of_hyper.ensures refl h)
+          (λ items h. sym c.in-Some.is ∙ c.in_ok-substitute.ensures.stands items i c.class_of_hyper.ensures refl h) (ap (Hyper c.args.name.now) (sym c.from.ensures)))
+          c.hyper.ensures.ok;
+    }
+
+pub returns-in-None : goal.returns-in-None
+returns-in-None g c =
+    let i = Hyper c.args.name.now c.args.n in
+    record {
+      ok = on_ok_weaker c.hyper-in-None.result
+          (adds_of_class g.P.Plan.ways c.args.self.now c.substitute.new.self c.hyper-in-None.new.self i i None refl c.substitute.ensures.ways
+          (λ items h. c.in_ok-substitute.ensures.holds items i c.class_of_hyper.ensures refl h)
+          (λ items h. sym c.in-None.is ∙ c.in_ok-substitute.ensures.stands items i c.class_of_hyper.ensures refl h) refl)
+          c.hyper-in-None.ensures.ok;
+    }

@@ -1,0 +1,28 @@
+use Rattle.std.proofs.Common.{refl, sym, ◌∙◌}
+use Rattle.std.specs.Prelude.{None, Some}
+use Rattle.std.proofs.lemmas.Result.{on_ok_weaker}
+use Rattle.xdr3.specs.Item.{Word}
+use Rattle.masking3.proofs.WriterLemmas.{adds_of_class}
+use Rattle.masking3.proofs.masking_writer.MaskingWriter.write_masked_word.Goals as goal
+
+pub returns-in-Some : goal.returns-in-Some
+returns-in-Some g c =
+    let i = Word c.args.name.now c.args.n in
+    record {
+      ok = on_ok_weaker c.word.result
+          (adds_of_class g.P.Plan.ways c.args.self.now c.substitute.new.self c.word.new.self i (Word c.args.name.now c.in-Some.substitute) (Some c.in-Some.substitute) refl c.substitute.ensures.ways
+          (λ items h. c.in_ok-substitute.ensures.holds items i c.class_of_word.ensures c.from.ensures h)
+          (λ items h. sym c.in-Some.is ∙ c.in_ok-substitute.ensures.stands items i c.class_of_word.ensures c.from.ensures h) refl)
+          c.word.ensures.ok;
+    }
+
+pub returns-in-None : goal.returns-in-None
+returns-in-None g c =
+    let i = Word c.args.name.now c.args.n in
+    record {
+      ok = on_ok_weaker c.word-in-None.result
+          (adds_of_class g.P.Plan.ways c.args.self.now c.substitute.new.self c.word-in-None.new.self i i None refl c.substitute.ensures.ways
+          (λ items h. c.in_ok-substitute.ensures.holds items i c.class_of_word.ensures c.from.ensures h)
+          (λ items h. sym c.in-None.is ∙ c.in_ok-substitute.ensures.stands items i c.class_of_word.ensures c.from.ensures h) refl)
+          c.word-in-None.ensures.ok;
+    }

@@ -1,0 +1,8 @@
+use Rattle.std.proofs.Common.{refl}
+use Rattle.std.proofs.lemmas.Result.{on_ok_weaker}
+use Rattle.xdr3.specs.Item.{WriteVerf}
+use Rattle.masking3.proofs.WriterLemmas.{adds_plain}
+use Rattle.masking3.proofs.masking_writer.MaskingWriterVisit.write_verf.Goals as goal
+
+pub returns-clause-ok : goal.returns-clause-ok
+returns-clause-ok g c = on_ok_weaker c.write_verf.result (adds_plain g.P.Plan.ways c.args.self.now c.write_verf.new.self (WriteVerf c.args.name.now c.args.bytes.now) refl refl) c.write_verf.ensures.ok

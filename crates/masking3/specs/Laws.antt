@@ -1,0 +1,25 @@
+-- What the laws say of the masked form.
+use Rattle.std.specs.Prelude.{◌≡◌, ◌<◌, ◌^◌, List, ◌++◌, length}
+use Rattle.std.specs.List.{flat_map}
+use Rattle.capture3.specs.Entry.{Entry, items_of}
+use Rattle.masking3.specs.declared.class.Class.{Class}
+use Rattle.masking3.specs.declared.ways.Way.TheVariants.{Keep}
+use Rattle.masking3.specs.declared.ways.Ways.{Ways}
+use Rattle.masking3.specs.Masked.{masked, values}
+use Rattle.masking3.specs.Ways.{way_of}
+
+-- the number of each value has room in eight bytes
+abbrev pub HasRoomForNumbers : List Entry → Type 0
+HasRoomForNumbers entries = (class : Class) → length (values (flat_map items_of entries) class) < 2 ^ 64
+
+-- masking again changes nothing
+abbrev pub StaysMasked : Ways → List Entry → Type 0
+StaysMasked ways entries = masked ways (masked ways entries) ≡ masked ways entries
+
+-- every class stays as it is
+abbrev pub KeepsAll : Ways → Type 0
+KeepsAll ways = (class : Class) → way_of ways class ≡ Keep
+
+-- the form of the first entries is the first entries of the form
+abbrev pub MasksFronts : Ways → List Entry → List Entry → Type 0
+MasksFronts ways a b = (more : List Entry) × (masked ways (a ++ b) ≡ masked ways a ++ more)

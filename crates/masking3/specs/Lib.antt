@@ -1,0 +1,7 @@
+-- Which values are masked, and what becomes of them.
+pub mod Classes
+pub mod Ways
+pub mod Masked
+pub mod Laws
+pub mod Examples
+pub mod machinery

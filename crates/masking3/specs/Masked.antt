@@ -1,0 +1,78 @@
+-- The masked form.
+use Rattle.std.specs.Prelude.{ℕ, ◌==◌, ◌&&◌, Bool, not, nat_eq, if◌then◌else◌, List, [], ◌∷◌, Option, None, Some, map}
+use Rattle.std.specs.List.{flat_map}
+use Rattle.byteorder.specs.Endian.{big_bytes}
+use Rattle.xdr3.specs.Item.{Item, Word, Hyper, Fixed}
+use Rattle.capture3.specs.Entry.{Entry, Call, Reply, items_of}
+use Rattle.canon3.specs.Bytes.{bytes_of}
+use Rattle.canon3.specs.Rank.{rank}
+use Rattle.masking3.specs.declared.class.Class.{Class}
+use Rattle.masking3.specs.declared.ways.Way.{Way}
+use Rattle.masking3.specs.declared.ways.Way.TheVariants.{Keep, Zero, Number}
+use Rattle.masking3.specs.declared.ways.Ways.{Ways}
+use Rattle.masking3.specs.Classes.{class_of, position, value_of, zero_stays}
+use Rattle.masking3.specs.Ways.{way_of}
+
+-- ---- the values of a class
+
+-- it is a 0 that has a meaning of its own
+abbrev pub is_zero_that_stays : Class → ℕ → Bool
+is_zero_that_stays class n = zero_stays class && (n == 0)
+
+-- the value, where it is of the class and no 0 that stays
+abbrev pub value_where : Class → Option Class → ℕ → List ℕ
+value_where class None n = []
+value_where class (Some other) n = if (position class == position other) && not (is_zero_that_stays class n) then n ∷ [] else []
+
+abbrev pub value_in : Class → Item → List ℕ
+value_in class item = value_where class (class_of item) (value_of item)
+
+-- the values of a class among these items, in order
+abbrev pub values : List Item → Class → List ℕ
+values items class = flat_map (value_in class) items
+
+-- ---- what becomes of an item
+
+-- its number among these values, from 1
+abbrev pub number_among : List ℕ → Class → ℕ → ℕ
+number_among seen class n = if is_zero_that_stays class n then 0 else rank nat_eq n seen
+
+-- what stands for a value of the class, where something does
+abbrev pub by_way : Way → List ℕ → Class → ℕ → Option ℕ
+by_way Keep seen class n = None
+by_way Zero seen class n = Some 0
+by_way Number seen class n = Some (number_among seen class n)
+
+abbrev pub substitute : Ways → (Class → List ℕ) → Option Class → ℕ → Option ℕ
+substitute ways seen None n = None
+substitute ways seen (Some class) n = by_way (way_of ways class) (seen class) class n
+
+-- the item with another value, in its own width
+abbrev pub with_value : Item → Option ℕ → Item
+with_value item None = item
+with_value (Word name n) (Some m) = Word name m
+with_value (Hyper name n) (Some m) = Hyper name m
+with_value (Fixed name bytes) (Some m) = Fixed name (big_bytes 8 m)
+with_value item (Some m) = item
+
+-- an item whose value is masked, where these are the values of each class
+abbrev pub masked_item : Ways → (Class → List ℕ) → Item → Item
+masked_item ways seen item = with_value item (substitute ways seen (class_of item) (value_of item))
+
+abbrev pub masked_items : Ways → (Class → List ℕ) → List Item → List Item
+masked_items ways seen items = map (masked_item ways seen) items
+
+-- ---- entries
+
+abbrev pub masked_entry : Ways → (Class → List ℕ) → Entry → Entry
+masked_entry ways seen (Call items) = Call (masked_items ways seen items)
+masked_entry ways seen (Reply id items) = Reply id (masked_items ways seen items)
+masked_entry ways seen entry = entry
+
+-- each value of a class is masked in the way of its class, and numbers are by rank among all of the capture
+abbrev pub masked : Ways → List Entry → List Entry
+masked ways entries = map (masked_entry ways (values (flat_map items_of entries))) entries
+
+-- the bytes of the masked form: one chunk and one fragment for each record, and residual bytes of zero
+abbrev pub masked_bytes : Ways → List Entry → List ℕ
+masked_bytes ways entries = bytes_of (masked ways entries)

@@ -1,0 +1,19 @@
+//! Small captures worked by hand. Each function ensures what the definitions say of some entries, and its
+//! proof computes it.
+
+ghost use Rattle.masking3.specs.Examples.{MasksGetattrs, MasksReaddirs, MasksStamps};
+
+/// Three GETATTR replies: times and space are 0, and ids of files and of file systems are numbered apart.
+pub fn getattr_replies()
+    ensures { MasksGetattrs }
+{}
+
+/// Two READDIR calls and a reply: a cookie has one number in both, and the first one stays 0.
+pub fn readdir_cookies()
+    ensures { MasksReaddirs }
+{}
+
+/// An AUTH_SYS credential: the stamp is 0.
+pub fn system_stamp()
+    ensures { MasksStamps }
+{}

@@ -1,0 +1,18 @@
+//! Captures in which the values that no two runs share are zero, or numbers by their first appearance.
+#![tactic(auto)]
+
+mod class;
+mod class_tables;
+pub mod examples;
+mod hashers;
+pub mod laws;
+mod masked_form;
+mod masking_writer;
+#[cfg(test)]
+mod tests;
+mod ways;
+
+pub use class::Class;
+pub use hashers::{ClassHashers, MaskHashers};
+pub use masked_form::mask;
+pub use ways::{Way, Ways};

@@ -1,0 +1,111 @@
+// The masked form of a capture, from a source to a sink.
+
+ghost use Rattle.std.specs.Prelude.{◌≡◌, IfErr, OnErr, OnOk};
+ghost use Rattle.std.specs.Io.KnownBytes.{Appends};
+ghost use Rattle.capture3.specs.Entries.{CountsReading};
+ghost use Rattle.canon3.specs.EntryWriter.{WritesGiven};
+ghost use Rattle.canon3.specs.machinery.CanonicalForm.{magic_before};
+ghost use Rattle.canon3.specs.Passed.{connections_in};
+ghost use Rattle.canon3.specs.WriteErrors.{CountsWriting};
+ghost use Rattle.canon3.specs.SinkWrites.{AppendsFront, IsFlushed};
+ghost use Rattle.masking3.specs.Masked.{masked_bytes};
+
+use crate::hashers::MaskHashers;
+use crate::masking_writer::{MaskingWriter, Plan};
+use crate::ways::Ways;
+use canon3::{EntryWriter, Passed, Sink, Summary, write_all, write_entries};
+use capture3::{Error, Kind, Source, pack_header};
+use std::alloc::Global;
+use std::hash::BuildHasher;
+use std::marker::Brand;
+
+/// Reads a capture to its end, writes its masked form as it comes, and flushes the sink: values of each
+/// class stay, are 0, or are their numbers by first appearance in the capture. All else is as it was, but
+/// each record is one chunk and one fragment, and residual bytes are 0. It holds one block of the source's
+/// bytes, one record, the calls of the open connection, the distinct file handles, and the values that have
+/// numbers.
+///
+/// # Errors
+///
+/// `Refused` with the first fault of a capture that is not well formed, and `Read` if a read failed: the
+/// form of the entries before it is written whole. `Write` if a write or the flush failed, and `Memory` if
+/// it ran out: a front of the form is written. After an error nothing is flushed.
+pub fn mask<R: Source, W: Sink, S: BuildHasher + Drop>(
+    alloc: Global,
+    hashers: MaskHashers<S>,
+    ways: Ways,
+    source: &mut R,
+    sink: &mut W,
+) -> Result<Summary, Error>
+    ensures masks { WritesGiven (masked_bytes ways) (R.left source.old) (R.left source.new)
+        (W.written sink.old) (W.written sink.new) result }
+    ensures flushes { OnOk result (IsFlushed (W.written sink.new) (W.flushed sink.new)) }
+    ensures read { CountsReading (R.failures source.old) (R.failures source.new) result }
+    ensures write { CountsWriting (W.failures sink.old) (W.failures sink.new) result }
+{
+    mask_by_plan::<Brand, R, W, S>(alloc, hashers, ways, source, sink)
+}
+
+/// The same, by ways that a type stands for.
+fn mask_by_plan<P: Plan, R: Source, W: Sink, S: BuildHasher + Drop>(
+    alloc: Global,
+    hashers: MaskHashers<S>,
+    ways: Ways,
+    source: &mut R,
+    sink: &mut W,
+) -> Result<Summary, Error>
+    requires { ways ≡ P.ways }
+    ensures masks { WritesGiven (masked_bytes P.ways) (R.left source.old) (R.left source.new)
+        (W.written sink.old) (W.written sink.new) result }
+    ensures flushes { OnOk result (IsFlushed (W.written sink.new) (W.flushed sink.new)) }
+    ensures read { CountsReading (R.failures source.old) (R.failures source.new) result }
+    ensures write { CountsWriting (W.failures sink.old) (W.failures sink.new) result }
+{
+    let mut writer = MaskingWriter::<P, S>::new(alloc, ways, hashers.handles, hashers.classes);
+    write_entries(alloc, hashers.calls, source, sink, &mut writer)
+}
+
+/// Writes the magic, if no connection began.
+fn open<W: Sink>(passed: &Passed, sink: &mut W) -> Result<(), Error>
+    ensures ok { OnOk result
+        (Appends (W.written sink.old) (W.written sink.new)
+        (magic_before (connections_in passed.now))) }
+    ensures err { OnErr result
+        (AppendsFront (W.written sink.old) (W.written sink.new)
+        (magic_before (connections_in passed.now))) }
+    ensures count { CountsWriting (W.failures sink.old) (W.failures sink.new) result }
+    ensures error { IfErr result (λ error. error ≡ Error.Write) }
+{
+    if passed.connections() > 0 {
+        return Ok(());
+    }
+    match write_all(sink, &pack_header()) {
+        Ok(()) => Ok(()),
+        Err(_) => Err(Error::Write),
+    }
+}
+
+impl<P: Plan, S: BuildHasher + Drop> EntryWriter for MaskingWriter<P, S> {
+    ghost use Rattle.masking3.specs.Masked.{masked_bytes};
+    ghost use Rattle.masking3.specs.machinery.MaskingWriter.{IsGoing, items_before};
+
+    ghost form = { masked_bytes P.ways };
+
+    ghost before = { items_before };
+
+    ghost going = { IsGoing };
+
+    fn write<W: Sink>(&mut self, passed: &Passed, sink: &mut W, kind: Kind) -> Result<(), Error> {
+        if self.failed {
+            return Err(Error::Memory);
+        }
+        open(passed, sink)?;
+        self.write_entry(sink, kind)?;
+        self.begin_message();
+        Ok(())
+    }
+
+    fn handles(&self) -> u32 {
+        self.handles.len()
+    }
+}

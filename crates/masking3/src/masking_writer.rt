@@ -1,0 +1,193 @@
+// The writer of the masked form, one message at a time.
+
+ghost use Rattle.std.specs.Prelude.{◌≡◌, ◌≤◌, ◌++◌, ◌∷◌, List, [], length, true, IfErr, OnErr, OnOk};
+ghost use Rattle.std.specs.Io.KnownBytes.{Appends};
+ghost use Rattle.xdr3.specs.Item.{Fixed, Handle as HandleKind, Hyper, Item, Opaque, Word};
+ghost use Rattle.xdr3.specs.Visit.{Adds};
+ghost use Rattle.canon3.specs.SinkWrites.{AppendsFront};
+ghost use Rattle.canon3.specs.WriteErrors.{CountsWriting, IsOfWriting};
+ghost use Rattle.masking3.specs.Ways.{usual};
+ghost use Rattle.masking3.specs.machinery.MaskingWriter.{IsGoing, MaskStands, after_front, written_as};
+
+use crate::class::{class_of_fixed, class_of_hyper, class_of_word};
+use crate::class_tables::ClassTables;
+use crate::hashers::ClassHashers;
+use crate::ways::Ways;
+use byteorder::{BigEndian, ByteOrder};
+use canon3::{HandleTable, Sink, write_message, write_word};
+use capture3::{Error, Kind};
+use std::alloc::{AllocError, Global};
+use std::hash::BuildHasher;
+use std::marker::{Brand, PhantomData};
+use xdr3::{Visit, Writer};
+
+/// Stands for ways that are known only when the program runs.
+pub(crate) trait Plan {
+    ghost use Rattle.masking3.specs.declared.ways.Ways.{Ways};
+
+    /// The ways.
+    ghost ways: { Ways };
+}
+
+impl Plan for Brand {
+    ghost ways = { usual };
+}
+
+/// The values of a capture so far, and the message that is written with masked ones.
+#[derive(Drop)]
+pub(crate) struct MaskingWriter<P: Plan, S: BuildHasher + Drop> {
+    pub(crate) handles: HandleTable<S>,
+    pub(crate) classes: ClassTables<S>,
+    pub(crate) writer: Writer,
+    /// Memory ran out, and the tables may have more than was written.
+    pub(crate) failed: bool,
+    plan: PhantomData<P>,
+}
+
+impl<P: Plan, S: BuildHasher + Drop> MaskingWriter<P, S> {
+    /// Before a capture.
+    pub(crate) fn new(
+        alloc: Global,
+        ways: Ways,
+        handles: S,
+        classes: ClassHashers<S>,
+    ) -> MaskingWriter<P, S>
+        requires { ways ≡ P.ways }
+        ensures stands { MaskStands P.ways result (after_front [] []) }
+        ensures going { IsGoing result }
+    {
+        MaskingWriter {
+            handles: HandleTable::new(alloc, handles),
+            classes: ClassTables::new(alloc, ways, classes),
+            writer: Writer::new(alloc),
+            failed: false,
+            plan: PhantomData,
+        }
+    }
+
+    /// Begins a message in place of the one before.
+    pub(crate) fn begin_message(&mut self)
+        ensures stands { (front items : List Item)
+            → MaskStands P.ways self.old (after_front front items)
+            → MaskStands P.ways self.new (after_front (front ++ items) []) }
+        ensures going { IsGoing self.old → IsGoing self.new }
+    {
+        self.writer.clear();
+    }
+
+    fn write_masked_word(&mut self, name: &'static str, n: u32) -> Result<(), AllocError>
+        ensures ok { OnOk result
+            (Adds (MaskStands P.ways) self.old self.new (Word name.now n ∷ [])) }
+    {
+        match self.classes.substitute(class_of_word(name), u64::from(n))? {
+            Some(substitute) => self.writer.word(name, substitute),
+            None => self.writer.word(name, n),
+        }
+    }
+
+    fn write_masked_hyper(&mut self, name: &'static str, n: u64) -> Result<(), AllocError>
+        ensures ok { OnOk result
+            (Adds (MaskStands P.ways) self.old self.new (Hyper name.now n ∷ [])) }
+    {
+        match self.classes.substitute(class_of_hyper(name), n)? {
+            Some(substitute) => self.writer.hyper(name, u64::from(substitute)),
+            None => self.writer.hyper(name, n),
+        }
+    }
+
+    fn write_masked_fixed(&mut self, name: &'static str, bytes: &[u8; 8]) -> Result<(), AllocError>
+        ensures ok { OnOk result
+            (Adds (MaskStands P.ways) self.old self.new (Fixed name.now bytes.now ∷ [])) }
+    {
+        let value = BigEndian::read_u64(bytes);
+        match self.classes.substitute(class_of_fixed(name), value)? {
+            Some(substitute) => {
+                let mut hyper = [0u8; 8];
+                BigEndian::write_u64(&mut hyper, u64::from(substitute));
+                self.writer.fixed(name, &hyper)
+            }
+            None => self.writer.fixed(name, bytes),
+        }
+    }
+
+    /// Writes a handle as it is, and gathers it.
+    fn write_handle(&mut self, name: &'static str, bytes: &[u8]) -> Result<(), AllocError>
+        requires { length bytes.now ≤ 64 }
+        ensures ok { OnOk result (Adds (MaskStands P.ways) self.old self.new
+            (Opaque HandleKind name.now bytes.now ∷ [])) }
+    {
+        self.handles.handle(name, bytes)?;
+        self.writer.handle(name, bytes)
+    }
+
+    /// Says nothing more of the tables after an error.
+    fn settle(&mut self, written: Result<(), AllocError>) -> Result<(), AllocError>
+        ensures result { result ≡ written }
+        ensures ok { OnOk written (self.new ≡ self.old) }
+        ensures err { OnErr written (self.new.failed ≡ true) }
+    {
+        if written.is_err() {
+            self.failed = true;
+        }
+        written
+    }
+
+    /// Writes an entry, whose message the writer holds.
+    pub(crate) fn write_entry<W: Sink>(&self, sink: &mut W, kind: Kind) -> Result<(), Error>
+        ensures ok { OnOk result (Appends (W.written sink.old) (W.written sink.new)
+            (written_as kind self.now.writer)) }
+        ensures err { OnErr result (AppendsFront (W.written sink.old) (W.written sink.new)
+            (written_as kind self.now.writer)) }
+        ensures count { CountsWriting (W.failures sink.old) (W.failures sink.new) result }
+        ensures error { IfErr result IsOfWriting }
+    {
+        match kind {
+            Kind::Begin => write_word(sink, 1),
+            Kind::Call(_) | Kind::Reply(_) => write_message(sink, self.writer.bytes()),
+            Kind::Turn | Kind::Close | Kind::End => write_word(sink, 0),
+        }
+    }
+}
+
+#[tactic(auto, unfolding(xdr3::specs::Visit::Adds, xdr3::specs::Visit::Keeps))]
+impl<P: Plan, S: BuildHasher + Drop> Visit for MaskingWriter<P, S> {
+    ghost use Rattle.masking3.specs.machinery.MaskingWriter.{MaskStands};
+
+    ghost stands = { MaskStands P.ways };
+
+    fn word(&mut self, name: &'static str, n: u32) -> Result<(), AllocError> {
+        let written = self.write_masked_word(name, n);
+        self.settle(written)
+    }
+
+    fn hyper(&mut self, name: &'static str, n: u64) -> Result<(), AllocError> {
+        let written = self.write_masked_hyper(name, n);
+        self.settle(written)
+    }
+
+    fn fixed(&mut self, name: &'static str, bytes: &[u8; 8]) -> Result<(), AllocError> {
+        let written = self.write_masked_fixed(name, bytes);
+        self.settle(written)
+    }
+
+    fn write_verf(&mut self, name: &'static str, bytes: &[u8; 8]) -> Result<(), AllocError> {
+        self.writer.write_verf(name, bytes)
+    }
+
+    fn var(&mut self, name: &'static str, bytes: &[u8]) -> Result<(), AllocError> {
+        self.writer.var(name, bytes)
+    }
+
+    fn text(&mut self, name: &'static str, bytes: &[u8]) -> Result<(), AllocError> {
+        self.writer.text(name, bytes)
+    }
+
+    fn handle(&mut self, name: &'static str, bytes: &[u8]) -> Result<(), AllocError> {
+        let written = self.write_handle(name, bytes);
+        self.settle(written)
+    }
+
+    fn rest(&mut self, name: &'static str, bytes: &[u8]) -> Result<(), AllocError> {
+        self.writer.rest(name, bytes)
+    }
+}

@@ -1,0 +1,187 @@
+// A capture in memory, masked in several ways.
+
+use crate::{ClassHashers, MaskHashers, Way, Ways, mask};
+use canon3::{MemSink, Summary};
+use capture3::{Error, MemSource};
+use std::alloc::{AllocError, Global};
+use std::hash::{BuildHasherDefault, FoldHasher};
+use std::test::Fail;
+
+/// What differs between two runs.
+#[derive(Clone, Copy)]
+struct Run {
+    stamp: u32,
+    used: u32,
+    fsid: u32,
+    fileid: u32,
+    time: u32,
+}
+
+/// A GETATTR call with an AUTH_SYS credential, and its reply.
+fn capture(alloc: Global, run: Run) -> Result<Vec<u8>, AllocError> {
+    let time = run.time;
+    let words = [
+        0x4e46_5333,
+        0x4341_5031,
+        1,
+        76,
+        0x8000_0048,
+        7,
+        0,
+        2,
+        100_003,
+        3,
+        1,
+        1,
+        24,
+        run.stamp,
+        3,
+        0x626f_7800,
+        1000,
+        100,
+        0,
+        0,
+        0,
+        4,
+        0xaabb_ccdd,
+        0,
+        116,
+        0x8000_0070,
+        7,
+        1,
+        0,
+        0,
+        0,
+        0,
+        0,
+        1,
+        420,
+        1,
+        1000,
+        100,
+        0,
+        5,
+        0,
+        run.used,
+        0,
+        0,
+        0,
+        run.fsid,
+        0,
+        run.fileid,
+        time,
+        time,
+        time,
+        time,
+        time,
+        time,
+        0,
+        0,
+    ];
+    let mut bytes = Vec::new(alloc);
+    for word in &words {
+        bytes.extend_from_slice(&capture3::pack_chunk(*word))?;
+    }
+    Ok(bytes)
+}
+
+fn hasher() -> BuildHasherDefault<FoldHasher> {
+    BuildHasherDefault::default()
+}
+
+fn hashers() -> MaskHashers<BuildHasherDefault<FoldHasher>> {
+    MaskHashers {
+        calls: hasher(),
+        handles: hasher(),
+        classes: ClassHashers {
+            times: hasher(),
+            stamps: hasher(),
+            space: hasher(),
+            ids: hasher(),
+            fsids: hasher(),
+            cookies: hasher(),
+            cookie_verifiers: hasher(),
+            create_verifiers: hasher(),
+            owners: hasher(),
+        },
+    }
+}
+
+fn masked(
+    rt: &HostRuntime,
+    ways: Ways,
+    bytes: &[u8],
+    sink: &mut MemSink,
+) -> Result<Summary, Error> {
+    mask(
+        rt.alloc(),
+        hashers(),
+        ways,
+        &mut MemSource::new(bytes, 7, 0),
+        sink,
+    )
+}
+
+const FIRST: Run = Run {
+    stamp: 0x0102_0304,
+    used: 4096,
+    fsid: 9,
+    fileid: 9,
+    time: 1_700_000_000,
+};
+
+#[test]
+fn the_usual_ways(rt: HostRuntime) -> Result<(), Fail> {
+    let form = Run {
+        stamp: 0,
+        used: 0,
+        fsid: 1,
+        fileid: 1,
+        time: 0,
+    };
+    let mut sink = MemSink::new(rt.alloc(), 999, 9, 0)?;
+    let summary = Summary {
+        connections: 1,
+        calls: 1,
+        replies: 1,
+        handles: 1,
+    };
+    let bytes = capture(rt.alloc(), FIRST)?;
+    assert_eq!(rt; masked(&rt, Ways::usual(), &bytes, &mut sink), Ok(summary));
+    assert_eq!(rt; sink.bytes(), capture(rt.alloc(), form)?.as_slice());
+    assert_eq!(rt; sink.flushed().len(), bytes.len());
+    Ok(())
+}
+
+#[test]
+fn no_ways(rt: HostRuntime) -> Result<(), Fail> {
+    let mut sink = MemSink::new(rt.alloc(), 999, 9, 0)?;
+    let bytes = capture(rt.alloc(), FIRST)?;
+    assert_eq!(rt; masked(&rt, Ways::none(), &bytes, &mut sink).is_ok(), true);
+    assert_eq!(rt; sink.bytes(), bytes.as_slice());
+    Ok(())
+}
+
+#[test]
+fn numbered_times(rt: HostRuntime) -> Result<(), Fail> {
+    let mut ways = Ways::none();
+    ways.times = Way::Number;
+    let form = Run { time: 1, ..FIRST };
+    let mut sink = MemSink::new(rt.alloc(), 999, 9, 0)?;
+    let bytes = capture(rt.alloc(), FIRST)?;
+    assert_eq!(rt; masked(&rt, ways, &bytes, &mut sink).is_ok(), true);
+    assert_eq!(rt; sink.bytes(), capture(rt.alloc(), form)?.as_slice());
+    Ok(())
+}
+
+#[test]
+fn a_sink_without_room(rt: HostRuntime) -> Result<(), Fail> {
+    let mut sink = MemSink::new(rt.alloc(), 50, 9, 0)?;
+    let bytes = capture(rt.alloc(), FIRST)?;
+    assert_eq!(rt;
+        masked(&rt, Ways::usual(), &bytes, &mut sink),
+        Err(Error::Write)
+    );
+    assert_eq!(rt; sink.bytes().len(), 50);
+    Ok(())
+}

@@ -1,0 +1,86 @@
+// What becomes of the values of each class.
+
+ghost use Rattle.std.specs.Prelude.{◌≡◌};
+ghost use Rattle.masking3.specs.Ways.{usual, way_of};
+
+use crate::class::Class;
+
+/// What becomes of the values of a class.
+#[derive(Clone, Copy, Debug, PartialEq, Eq)]
+pub enum Way {
+    /// They stay as they are.
+    Keep,
+    /// They become 0.
+    Zero,
+    /// Each becomes its number by first appearance among those of its class, from 1. A 0 that has a meaning
+    /// of its own stays.
+    Number,
+}
+
+/// A way for each class.
+#[derive(Clone, Copy, Debug, PartialEq, Eq)]
+pub struct Ways {
+    pub times: Way,
+    pub stamps: Way,
+    pub space: Way,
+    pub ids: Way,
+    pub fsids: Way,
+    pub cookies: Way,
+    pub cookie_verifiers: Way,
+    pub create_verifiers: Way,
+    pub owners: Way,
+}
+
+impl Ways {
+    /// Every value stays as it is.
+    pub fn none() -> Ways
+        ensures { (class : Class) → way_of result class ≡ Way.Keep }
+    {
+        Ways {
+            times: Way::Keep,
+            stamps: Way::Keep,
+            space: Way::Keep,
+            ids: Way::Keep,
+            fsids: Way::Keep,
+            cookies: Way::Keep,
+            cookie_verifiers: Way::Keep,
+            create_verifiers: Way::Keep,
+            owners: Way::Keep,
+        }
+    }
+
+    /// What two ordinary runs of one script never share: times, stamps and space are 0, owners stay, and all
+    /// else is numbered.
+    pub fn usual() -> Ways
+        ensures { result ≡ usual }
+    {
+        Ways {
+            times: Way::Zero,
+            stamps: Way::Zero,
+            space: Way::Zero,
+            ids: Way::Number,
+            fsids: Way::Number,
+            cookies: Way::Number,
+            cookie_verifiers: Way::Number,
+            create_verifiers: Way::Number,
+            owners: Way::Keep,
+        }
+    }
+
+    /// The way of a class.
+    pub(crate) fn of(&self, class: Class) -> Way
+        ensures { result ≡ way_of self.now class }
+    {
+        match class {
+            Class::Times => self.times,
+            Class::Stamps => self.stamps,
+            Class::Space => self.space,
+            Class::Ids => self.ids,
+            Class::Fsids => self.fsids,
+            Class::Cookies => self.cookies,
+            Class::CookieVerifiers => self.cookie_verifiers,
+            Class::CreateVerifiers => self.create_verifiers,
+            Class::Owners => self.owners,
+        }
+    }
+}
