@@ -12,6 +12,8 @@ mod lines;
 #[cfg(test)]
 mod listings;
 #[cfg(test)]
+mod masks;
+#[cfg(test)]
 mod packs;
 #[cfg(test)]
 mod reports;

@@ -8,8 +8,6 @@ mod hashers;
 pub mod laws;
 mod masked_form;
 mod masking_writer;
-#[cfg(test)]
-mod tests;
 mod ways;
 
 pub use class::Class;

@@ -1,8 +1,8 @@
 // A capture in memory, masked in several ways.
 
-use crate::{ClassHashers, MaskHashers, Way, Ways, mask};
 use canon3::{MemSink, Summary};
 use capture3::{Error, MemSource};
+use masking3::{ClassHashers, MaskHashers, Way, Ways, mask};
 use std::alloc::{AllocError, Global};
 use std::hash::{BuildHasherDefault, FoldHasher};
 use std::test::Fail;
