@@ -15,7 +15,7 @@ use Rattle.masking3.specs.declared.class.Class.{Class}
 use Rattle.masking3.specs.declared.ways.Way.{Way}
 use Rattle.masking3.specs.declared.ways.Way.TheVariants.{Keep, Zero, Number}
 use Rattle.masking3.specs.declared.ways.Ways.{Ways}
-use Rattle.masking3.specs.Classes.{class_of, position, value_of, zero_stays}
+use Rattle.masking3.specs.Classes.{class_of, position, class_value, zero_stays}
 use Rattle.masking3.specs.Laws.{HasRoomForNumbers, KeepsAll, StaysMasked}
 use Rattle.masking3.specs.Masked.{by_way, is_zero_that_stays, masked, masked_entry, masked_item, masked_items, number_among, substitute, value_in, value_where, values, with_value}
 use Rattle.masking3.specs.Ways.{way_of}
@@ -31,7 +31,7 @@ module _ (ways : Ways) (keeps : KeepsAll ways) where
 
   items_kept : (seen : Class → List ℕ) (items : List Item) → masked_items ways seen items ≡ items
   items_kept seen [] = refl
-  items_kept seen (i ∷ items) = ap₂ (λ (j : Item) (l : List Item). j ∷ l) (ap (with_value i) (none_for seen (class_of i) (value_of i))) (items_kept seen items)
+  items_kept seen (i ∷ items) = ap₂ (λ (j : Item) (l : List Item). j ∷ l) (ap (with_value i) (none_for seen (class_of i) (class_value i))) (items_kept seen items)
 
   entry_kept : (seen : Class → List ℕ) (e : Entry) → masked_entry ways seen e ≡ e
   entry_kept seen Begin = refl
@@ -59,7 +59,7 @@ class_stays (WriteVerf name bytes) (Some m) = refl
 class_stays (Opaque kind name bytes) (Some m) = refl
 class_stays (Rest name bytes) (Some m) = refl
 
-value_put : (i : Item) (m : ℕ) (d : Class) → m < 2 ^ 64 → class_of i ≡ Some d → value_of (with_value i (Some m)) ≡ m
+value_put : (i : Item) (m : ℕ) (d : Class) → m < 2 ^ 64 → class_of i ≡ Some d → class_value (with_value i (Some m)) ≡ m
 value_put (Word name n) m d small is = refl
 value_put (Hyper name n) m d small is = refl
 value_put (Fixed name bytes) m d small is = ap (big_number 8) (sym (append-nil (big_bytes 8 m))) ∙ big_number-reads_back 8 m [] small
@@ -92,56 +92,56 @@ no_zero d m = by_test (1 + m == 0)
 -- ---- numbers of numbers
 
 module _ (all : List Item) (d : Class) where
-  is_seen : (i : Item) → Member i all → class_of i ≡ Some d → is_zero_that_stays d (value_of i) ≡ false → Member (value_of i) (values all d)
-  is_seen i m is f = member_among (value_in d) m (subst (Member (value_of i)) (sym (ap (λ o. value_where d o (value_of i)) is ∙ value_given d (value_of i) f)) here)
+  is_seen : (i : Item) → Member i all → class_of i ≡ Some d → is_zero_that_stays d (class_value i) ≡ false → Member (class_value i) (values all d)
+  is_seen i m is f = member_among (value_in d) m (subst (Member (class_value i)) (sym (ap (λ o. value_where d o (class_value i)) is ∙ value_given d (class_value i) f)) here)
 
   seen_too : {n x : ℕ} {l : List ℕ} → Member n l → Member x (n ∷ l) → Member x l
   seen_too m here = m
   seen_too m (there h) = h
 
-  number_again : (i : Item) → Member i all → class_of i ≡ Some d → number_among (map (λ n. rank nat_eq n (values all d)) (values all d)) d (number_among (values all d) d (value_of i)) ≡ number_among (values all d) d (value_of i)
-  number_again i m is = by_test (is_zero_that_stays d (value_of i))
-      (λ t. rw t (rw (zero_still d (value_of i) t) refl))
+  number_again : (i : Item) → Member i all → class_of i ≡ Some d → number_among (map (λ n. rank nat_eq n (values all d)) (values all d)) d (number_among (values all d) d (class_value i)) ≡ number_among (values all d) d (class_value i)
+  number_again i m is = by_test (is_zero_that_stays d (class_value i))
+      (λ t. rw t (rw (zero_still d (class_value i) t) refl))
       (λ f. let among = is_seen i m is f in
-      rw f (rw (no_zero d _) (rank-map nat_eq Decides-eqb nat_eq Decides-eqb (λ n. rank nat_eq n (values all d)) (value_of i) (values all d)
+      rw f (rw (no_zero d _) (rank-map nat_eq Decides-eqb nat_eq Decides-eqb (λ n. rank nat_eq n (values all d)) (class_value i) (values all d)
       (λ x y mx my e. same_rank nat_eq Decides-eqb (seen_too among mx) (seen_too among my) e))))
 
-  small : length (values all d) < 2 ^ 64 → (i : Item) → Member i all → class_of i ≡ Some d → number_among (values all d) d (value_of i) < 2 ^ 64
-  small few i m is = by_test (is_zero_that_stays d (value_of i))
+  small : length (values all d) < 2 ^ 64 → (i : Item) → Member i all → class_of i ≡ Some d → number_among (values all d) d (class_value i) < 2 ^ 64
+  small few i m is = by_test (is_zero_that_stays d (class_value i))
       (λ t. rw t (omega arith))
       (λ f. let low = rank-le-length nat_eq Decides-eqb (is_seen i m is f) in rw f (omega (arith, few, low)))
 
   -- the value of a masked item is the number of its value
   value_again : length (values all d) < 2 ^ 64 → (i : Item) → Member i all → class_of i ≡ Some d
-      → value_where d (Some d) (number_among (values all d) d (value_of i)) ≡ map (λ n. rank nat_eq n (values all d)) (value_where d (Some d) (value_of i))
-  value_again few i m is = by_test (is_zero_that_stays d (value_of i))
-      (λ t. rw t (rw (zero_still d (value_of i) t, (Decides-eqb (position d) (position d)).1 refl) refl))
-      (λ f. rw (value_given d (value_of i) f) (rw f (value_given d _ (no_zero d _))))
+      → value_where d (Some d) (number_among (values all d) d (class_value i)) ≡ map (λ n. rank nat_eq n (values all d)) (value_where d (Some d) (class_value i))
+  value_again few i m is = by_test (is_zero_that_stays d (class_value i))
+      (λ t. rw t (rw (zero_still d (class_value i) t, (Decides-eqb (position d) (position d)).1 refl) refl))
+      (λ f. rw (value_given d (class_value i) f) (rw f (value_given d _ (no_zero d _))))
 
 module _ (ways : Ways) (all : List Item) (room : (c : Class) → length (values all c) < 2 ^ 64) where
-  by_class : (i : Item) (d : Class) (w : Way) → class_of i ≡ Some d → way_of ways d ≡ w → masked_item ways (values all) i ≡ with_value i (by_way w (values all d) d (value_of i))
-  by_class i d w is way = ap (λ o. with_value i (substitute ways (values all) o (value_of i))) is ∙ ap (λ v. with_value i (by_way v (values all d) d (value_of i))) way
+  by_class : (i : Item) (d : Class) (w : Way) → class_of i ≡ Some d → way_of ways d ≡ w → masked_item ways (values all) i ≡ with_value i (by_way w (values all d) d (class_value i))
+  by_class i d w is way = ap (λ o. with_value i (substitute ways (values all) o (class_value i))) is ∙ ap (λ v. with_value i (by_way v (values all d) d (class_value i))) way
 
   class_of_masked : (i : Item) → class_of (masked_item ways (values all) i) ≡ class_of i
-  class_of_masked i = class_stays i (substitute ways (values all) (class_of i) (value_of i))
+  class_of_masked i = class_stays i (substitute ways (values all) (class_of i) (class_value i))
 
   -- the values of a class that is numbered
   value_masked : (d : Class) → way_of ways d ≡ Number → (i : Item) → Member i all → (o : Option Class) → class_of i ≡ o → value_in d (masked_item ways (values all) i) ≡ map (λ n. rank nat_eq n (values all d)) (value_in d i)
   value_masked d way i m None is =
-      ap (λ o. value_where d o (value_of (masked_item ways (values all) i))) (class_of_masked i ∙ is) ∙ ap (λ o. map (λ n. rank nat_eq n (values all d)) (value_where d o (value_of i))) (sym is)
+      ap (λ o. value_where d o (class_value (masked_item ways (values all) i))) (class_of_masked i ∙ is) ∙ ap (λ o. map (λ n. rank nat_eq n (values all d)) (value_where d o (class_value i))) (sym is)
   value_masked d way i m (Some e) is =
       let j : Item = masked_item ways (values all) i in
       let f : List ℕ → List ℕ = map (λ n. rank nat_eq n (values all d)) in
-      let new : value_in d j ≡ value_where d (Some e) (value_of j) = ap (λ o. value_where d o (value_of j)) (class_of_masked i ∙ is) in
-      let old : value_in d i ≡ value_where d (Some e) (value_of i) = ap (λ o. value_where d o (value_of i)) is in
+      let new : value_in d j ≡ value_where d (Some e) (class_value j) = ap (λ o. value_where d o (class_value j)) (class_of_masked i ∙ is) in
+      let old : value_in d i ≡ value_where d (Some e) (class_value i) = ap (λ o. value_where d o (class_value i)) is in
       by_test (position d == position e)
       (λ t. let same : e ≡ d = sym (same_class d e ((Decides-eqb (position d) (position e)).0 t)) in
       let own : class_of i ≡ Some d = is ∙ ap Some same in
-      let number = number_among (values all d) d (value_of i) in
-      let value : value_of j ≡ number = ap value_of (by_class i d Number own way) ∙ value_put i number d (small all d (room d) i m own) own in
-      ap (λ o. value_where d o (value_of j)) (class_of_masked i ∙ own) ∙ (ap (value_where d (Some d)) value ∙ (value_again all d (room d) i m own ∙ ap (λ o. map (λ n. rank nat_eq n (values all d)) (value_where d o (value_of i))) (sym own))))
+      let number = number_among (values all d) d (class_value i) in
+      let value : class_value j ≡ number = ap class_value (by_class i d Number own way) ∙ value_put i number d (small all d (room d) i m own) own in
+      ap (λ o. value_where d o (class_value j)) (class_of_masked i ∙ own) ∙ (ap (value_where d (Some d)) value ∙ (value_again all d (room d) i m own ∙ ap (λ o. map (λ n. rank nat_eq n (values all d)) (value_where d o (class_value i))) (sym own))))
       (λ n. let other : d ≢ e = λ s. absurd (cc (n, (Decides-eqb (position d) (position e)).1 (ap position s))) in
-      new ∙ (none_of_other d e (value_of j) other ∙ sym (ap f (old ∙ none_of_other d e (value_of i) other))))
+      new ∙ (none_of_other d e (class_value j) other ∙ sym (ap f (old ∙ none_of_other d e (class_value i) other))))
 
   values_masked : (d : Class) → way_of ways d ≡ Number → (items : List Item) → ((i : Item) → Member i items → Member i all) → values (masked_items ways (values all) items) d ≡ map (λ n. rank nat_eq n (values all d)) (values items d)
   values_masked d way [] within = refl
@@ -154,18 +154,18 @@ module _ (ways : Ways) (all : List Item) (room : (c : Class) → length (values 
   by_way_again i m d is w way =
       let now = values (masked_items ways (values all) all) in
       let j : Item = masked_item ways (values all) i in
-      let again : masked_item ways now j ≡ with_value j (by_way w (now d) d (value_of j)) =
-      ap (λ o. with_value j (substitute ways now o (value_of j))) (class_of_masked i ∙ is) ∙ ap (λ v. with_value j (by_way v (now d) d (value_of j))) way in
+      let again : masked_item ways now j ≡ with_value j (by_way w (now d) d (class_value j)) =
+      ap (λ o. with_value j (substitute ways now o (class_value j))) (class_of_masked i ∙ is) ∙ ap (λ v. with_value j (by_way v (now d) d (class_value j))) way in
       again ∙ cases w way
     where
       cases : (v : Way) → way_of ways d ≡ v
-          → with_value (masked_item ways (values all) i) (by_way v (values (masked_items ways (values all) all) d) d (value_of (masked_item ways (values all) i))) ≡ masked_item ways (values all) i
+          → with_value (masked_item ways (values all) i) (by_way v (values (masked_items ways (values all) all) d) d (class_value (masked_item ways (values all) i))) ≡ masked_item ways (values all) i
       cases Keep kept = refl
       cases Zero zeroed = rw (by_class i d Zero is zeroed) (twice i 0)
       cases Number numbered =
-          let number : ℕ = number_among (values all d) d (value_of i) in
-          let value : value_of (with_value i (Some number)) ≡ number = value_put i number d (small all d (room d) i m is) is in
-          let same : number_among (values (masked_items ways (values all) all) d) d (value_of (with_value i (Some number))) ≡ number =
+          let number : ℕ = number_among (values all d) d (class_value i) in
+          let value : class_value (with_value i (Some number)) ≡ number = value_put i number d (small all d (room d) i m is) is in
+          let same : number_among (values (masked_items ways (values all) all) d) d (class_value (with_value i (Some number))) ≡ number =
           ap₂ (λ l n. number_among l d n) (values_masked d numbered all (λ k h. h)) value ∙ number_again all d i m is in
           rw (by_class i d Number is numbered) (ap (λ n. with_value (with_value i (Some number)) (Some n)) same ∙ twice i number)
 

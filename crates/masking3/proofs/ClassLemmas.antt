@@ -10,7 +10,7 @@ use Rattle.masking3.specs.declared.class.Class.{Class}
 use Rattle.masking3.specs.declared.class.Class.TheVariants.{Times, Stamps, Space, Ids, Fsids, Cookies, CookieVerifiers, CreateVerifiers, Owners}
 use Rattle.masking3.specs.declared.ways.Way.TheVariants.{Number}
 use Rattle.masking3.specs.declared.ways.Ways.{Ways}
-use Rattle.masking3.specs.Classes.{class_of, position, value_of}
+use Rattle.masking3.specs.Classes.{class_of, position, class_value}
 use Rattle.masking3.specs.Masked.{value_in, value_where, values}
 use Rattle.masking3.specs.Ways.{way_of}
 use Rattle.masking3.specs.machinery.ClassTables.{HoldsAt, HoldsValues}
@@ -75,28 +75,28 @@ module _ (ways : Ways) (tables : List (List ℕ)) (items : List Item) (item : It
 
   -- the item has no class
   pub holds_without : class_of item ≡ None → HoldsValues ways tables items → HoldsValues ways tables (items ++ item ∷ [])
-  holds_without none = holds_still (λ c numbered. ap (λ o. value_where c o (value_of item)) none)
+  holds_without none = holds_still (λ c numbered. ap (λ o. value_where c o (class_value item)) none)
 
   -- the item's class is not numbered
   pub holds_unnumbered : (d : Class) → class_of item ≡ Some d → way_of ways d ≢ Number → HoldsValues ways tables items → HoldsValues ways tables (items ++ item ∷ [])
-  holds_unnumbered d is not = holds_still (λ c numbered. ap (λ o. value_where c o (value_of item)) is ∙ none_of_other c d (value_of item) (λ e. not (subst (λ k. way_of ways k ≡ Number) e numbered)))
+  holds_unnumbered d is not = holds_still (λ c numbered. ap (λ o. value_where c o (class_value item)) is ∙ none_of_other c d (class_value item) (λ e. not (subst (λ k. way_of ways k ≡ Number) e numbered)))
 
 -- the item's class is numbered, and its table was given the value
 pub holds_numbered : (ways : Ways) (old new : List (List ℕ)) (items : List Item) (item : Item) (d : Class) → class_of item ≡ Some d
-    → HoldsAt new (position d) (values items d ++ value_where d (Some d) (value_of item))
+    → HoldsAt new (position d) (values items d ++ value_where d (Some d) (class_value item))
     → ((place : ℕ) → place ≢ position d → get_or new place [] ≡ get_or old place [])
     → HoldsValues ways old items → HoldsValues ways new (items ++ item ∷ [])
 holds_numbered ways old new items item d is given others = holds_more ways old new items item step
   where
-    same_or_other : (c : Class) → HoldsAt old (position c) (values items c) → HoldsAt new (position c) (values items c ++ value_where c (Some d) (value_of item))
+    same_or_other : (c : Class) → HoldsAt old (position c) (values items c) → HoldsAt new (position c) (values items c ++ value_where c (Some d) (class_value item))
     same_or_other c held = by_test (position c == position d)
-        (λ t. subst (λ k. HoldsAt new (position k) (values items k ++ value_where k (Some d) (value_of item))) (sym (same_class c d ((Decides-eqb (position c) (position d)).0 t))) given)
+        (λ t. subst (λ k. HoldsAt new (position k) (values items k ++ value_where k (Some d) (class_value item))) (sym (same_class c d ((Decides-eqb (position c) (position d)).0 t))) given)
         (λ f. let apart : position c ≢ position d = λ e. absurd (cc (f, (Decides-eqb (position c) (position d)).1 e)) in
-        let none : value_where c (Some d) (value_of item) ≡ [] = none_of_other c d (value_of item) (λ e. apart (ap position e)) in
+        let none : value_where c (Some d) (class_value item) ≡ [] = none_of_other c d (class_value item) (λ e. apart (ap position e)) in
         subst (HoldsAt new (position c)) (sym (ap (λ (l : List ℕ). values items c ++ l) none ∙ append-nil (values items c))) (others (position c) apart ∙ held))
 
     step : (c : Class) → way_of ways c ≡ Number → HoldsAt old (position c) (values items c) → HoldsAt new (position c) (values items c ++ value_in c item)
-    step c numbered held = subst (λ o. HoldsAt new (position c) (values items c ++ value_where c o (value_of item))) (sym is) (same_or_other c held)
+    step c numbered held = subst (λ o. HoldsAt new (position c) (values items c ++ value_where c o (class_value item))) (sym is) (same_or_other c held)
 
 -- before a capture
 pub holds_none : (ways : Ways) (tables : List (List ℕ)) → ((c : Class) → get_or tables (position c) [] ≡ []) → HoldsValues ways tables []

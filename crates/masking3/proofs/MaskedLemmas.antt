@@ -19,7 +19,7 @@ use Rattle.masking3.specs.declared.class.Class.{Class}
 use Rattle.masking3.specs.declared.ways.Way.{Way}
 use Rattle.masking3.specs.declared.ways.Way.TheVariants.{Keep, Zero, Number}
 use Rattle.masking3.specs.declared.ways.Ways.{Ways}
-use Rattle.masking3.specs.Classes.{class_of, position, value_of}
+use Rattle.masking3.specs.Classes.{class_of, position, class_value}
 use Rattle.masking3.specs.Masked.{by_way, is_zero_that_stays, masked, masked_bytes, masked_entry, masked_item, masked_items, number_among, substitute, value_in, value_where, values, with_value}
 use Rattle.masking3.specs.Ways.{way_of}
 
@@ -33,21 +33,21 @@ member_among f (here {l = l}) m = member-append_left (flat_map f l) m
 member_among f (there {y = y} h) m = member-append_right (f y) (member_among f h m)
 
 module _ (ways : Ways) (all more : List Item) where
-  number_stays : (i : Item) (d : Class) → Member i all → class_of i ≡ Some d → number_among (values (all ++ more) d) d (value_of i) ≡ number_among (values all d) d (value_of i)
-  number_stays i d m is = by_test (is_zero_that_stays d (value_of i))
+  number_stays : (i : Item) (d : Class) → Member i all → class_of i ≡ Some d → number_among (values (all ++ more) d) d (class_value i) ≡ number_among (values all d) d (class_value i)
+  number_stays i d m is = by_test (is_zero_that_stays d (class_value i))
       (λ t. rw t refl)
-      (λ f. let own : value_in d i ≡ value_of i ∷ [] = ap (λ o. value_where d o (value_of i)) is ∙ value_given d (value_of i) f in
-      let among : Member (value_of i) (values all d) = member_among (value_in d) m (subst (Member (value_of i)) (sym own) here) in
-      rw f (ap (rank nat_eq (value_of i)) (flat_map-append (value_in d) all more) ∙ rank-append nat_eq Decides-eqb (values more d) among))
+      (λ f. let own : value_in d i ≡ class_value i ∷ [] = ap (λ o. value_where d o (class_value i)) is ∙ value_given d (class_value i) f in
+      let among : Member (class_value i) (values all d) = member_among (value_in d) m (subst (Member (class_value i)) (sym own) here) in
+      rw f (ap (rank nat_eq (class_value i)) (flat_map-append (value_in d) all more) ∙ rank-append nat_eq Decides-eqb (values more d) among))
 
   way_stays : (w : Way) (d : Class) (n : ℕ) → number_among (values (all ++ more) d) d n ≡ number_among (values all d) d n → by_way w (values (all ++ more) d) d n ≡ by_way w (values all d) d n
   way_stays Keep d n e = refl
   way_stays Zero d n e = refl
   way_stays Number d n e = ap Some e
 
-  substitute_stays : (i : Item) (o : Option Class) → class_of i ≡ o → Member i all → substitute ways (values (all ++ more)) o (value_of i) ≡ substitute ways (values all) o (value_of i)
+  substitute_stays : (i : Item) (o : Option Class) → class_of i ≡ o → Member i all → substitute ways (values (all ++ more)) o (class_value i) ≡ substitute ways (values all) o (class_value i)
   substitute_stays i None is m = refl
-  substitute_stays i (Some d) is m = way_stays (way_of ways d) d (value_of i) (number_stays i d m is)
+  substitute_stays i (Some d) is m = way_stays (way_of ways d) d (class_value i) (number_stays i d m is)
 
   item_stays : (i : Item) → Member i all → masked_item ways (values (all ++ more)) i ≡ masked_item ways (values all) i
   item_stays i m = ap (with_value i) (substitute_stays i (class_of i) refl m)
@@ -71,7 +71,7 @@ module _ (ways : Ways) (all more : List Item) where
 
 -- an item that has no class stays
 pub unmasked : (ways : Ways) (seen : Class → List ℕ) (i : Item) → class_of i ≡ None → masked_item ways seen i ≡ i
-unmasked ways seen i none = ap (λ o. with_value i (substitute ways seen o (value_of i))) none
+unmasked ways seen i none = ap (λ o. with_value i (substitute ways seen o (class_value i))) none
 
 -- ---- the form grows
 

@@ -13,10 +13,10 @@ use Rattle.masking3.specs.declared.class_tables.ClassTables.{ClassTables}
 use Rattle.masking3.specs.declared.masking_writer.MaskingWriter.{MaskingWriter}
 use Rattle.masking3.specs.declared.ways.Ways.{Ways}
 use Rattle.masking3.specs.declared.class.Class.{Class}
-use Rattle.masking3.specs.Classes.{class_of, value_of}
+use Rattle.masking3.specs.Classes.{class_of, class_value}
 use Rattle.masking3.specs.Masked.{masked_item, masked_items, substitute, values, with_value}
 use Rattle.masking3.specs.machinery.ClassTables.{HoldsValues, tables_in}
-use Rattle.masking3.specs.machinery.MaskingWriter.{after_front, HasMessageUnderWay, IsGoing, MaskStands}
+use Rattle.masking3.specs.machinery.MaskingWriter.{after_messages, HasMaskedUnderWay, HasMemory, MaskStands}
 use Rattle.masking3.proofs.ClassLemmas.{holds_without}
 use Rattle.masking3.proofs.MaskedLemmas.{items_stay, unmasked}
 
@@ -36,25 +36,25 @@ same_front (x ∷ a) (y ∷ b) items more n e =
     let head : x ≡ y = cc in
     (ap (λ (l : List Item). x ∷ l) r.0 ∙ ap (λ i. i ∷ b) head, r.1)
 
-pub after_front-append : (front items more : List Item) → after_front front items ++ more ≡ after_front front (items ++ more)
-after_front-append front items more = ap (λ (l : List Item). Word [] (length front) ∷ l) (append_assoc front items more)
+pub after_messages-append : (front items more : List Item) → after_messages front items ++ more ≡ after_messages front (items ++ more)
+after_messages-append front items more = ap (λ (l : List Item). Word [] (length front) ∷ l) (append_assoc front items more)
 
 module _ {P S H : Type 0} (ways : Ways) (w : MaskingWriter P S H) where
-  pub is_after : (front items : List Item) → IsGoing w → MaskStands ways w (after_front front items) → HasMessageUnderWay ways w front items
+  pub is_after : (front items : List Item) → HasMemory w → MaskStands ways w (after_messages front items) → HasMaskedUnderWay ways w front items
   is_after front items going stands =
       let (other, own, are, is) = stands going in
       let many : length front ≡ length other = cc in
       let all : front ++ items ≡ other ++ own = cc in
       let same = same_front front other items own many all in
-      subst (λ (l : List Item). HasMessageUnderWay ways w l items) (sym same.0) (subst (HasMessageUnderWay ways w other) (sym same.1) is)
+      subst (λ (l : List Item). HasMaskedUnderWay ways w l items) (sym same.0) (subst (HasMaskedUnderWay ways w other) (sym same.1) is)
 
-  pub stands_after : (front items : List Item) → HasMessageUnderWay ways w front items → MaskStands ways w (after_front front items)
+  pub stands_after : (front items : List Item) → HasMaskedUnderWay ways w front items → MaskStands ways w (after_messages front items)
   stands_after front items is going = (front, items, refl, is)
 
 -- ---- one item more
 
 -- what stands for an item was written
-pub replaced : (ways : Ways) (seen : Class → List ℕ) (i j : Item) (o : Option ℕ) (old new : List ℕ) → o ≡ substitute ways seen (class_of i) (value_of i) → with_value i o ≡ j → Adds Spells old new (j ∷ []) → Adds Spells old new (masked_item ways seen i ∷ [])
+pub replaced : (ways : Ways) (seen : Class → List ℕ) (i j : Item) (o : Option ℕ) (old new : List ℕ) → o ≡ substitute ways seen (class_of i) (class_value i) → with_value i o ≡ j → Adds Spells old new (j ∷ []) → Adds Spells old new (masked_item ways seen i ∷ [])
 replaced ways seen i j o old new is with_it write = subst (λ k. Adds Spells old new (k ∷ [])) (sym with_it ∙ ap (with_value i) is) write
 
 module _ {P S H : Type 0} (ways : Ways) (w : MaskingWriter P S H) where
@@ -79,7 +79,7 @@ module _ {P S H : Type 0} (ways : Ways) (w : MaskingWriter P S H) where
       let whole : before ++ item ∷ [] ≡ masked_items ways (values (so_far ++ i ∷ [])) (items ++ i ∷ []) = ap (λ (l : List Item). l ++ item ∷ []) (sym stay) ∙ sym (map-append (masked_item ways (values (so_far ++ i ∷ []))) items (i ∷ [])) in (
         front,
         items ++ i ∷ [],
-        ap (λ (l : List Item). l ++ i ∷ []) are ∙ after_front-append front items (i ∷ []),
+        ap (λ (l : List Item). l ++ i ∷ []) are ∙ after_messages-append front items (i ∷ []),
         record {
           ways_are = same ∙ is.ways_are;
           tables = subst (λ k. HoldsValues k (tables_in classes) (front ++ (items ++ i ∷ []))) (same ∙ is.ways_are) (subst (HoldsValues classes.ways (tables_in classes)) now (tables so_far held));
@@ -91,7 +91,7 @@ module _ {P S H : Type 0} (ways : Ways) (w : MaskingWriter P S H) where
   -- an item of a class, which has no handle
   pub adds_of_class : (classes : ClassTables S H) (bytes : List ℕ) (i j : Item) (o : Option ℕ) → handles_in (i ∷ []) ≡ [] → classes.ways ≡ w.classes.ways
       → ((items : List Item) → HoldsValues w.classes.ways (tables_in w.classes) items → HoldsValues classes.ways (tables_in classes) (items ++ i ∷ []))
-      → ((items : List Item) → HoldsValues w.classes.ways (tables_in w.classes) items → o ≡ substitute w.classes.ways (values (items ++ i ∷ [])) (class_of i) (value_of i))
+      → ((items : List Item) → HoldsValues w.classes.ways (tables_in w.classes) items → o ≡ substitute w.classes.ways (values (items ++ i ∷ [])) (class_of i) (class_value i))
       → with_value i o ≡ j → Adds Spells w.writer bytes (j ∷ []) → Adds (MaskStands ways) w (with_parts w.handles classes bytes) (i ∷ [])
   adds_of_class classes bytes i j o none same tables is with_it write =
       adds w.handles classes bytes i same tables (λ items g. gathers_none w.handles items (i ∷ []) none g) (λ items h. replaced w.classes.ways (values (items ++ i ∷ [])) i j o w.writer bytes (is items h) with_it write)

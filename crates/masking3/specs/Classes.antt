@@ -14,13 +14,16 @@ is_one_of others name = list_any (bytes_eq name) others
 
 -- of times, in attributes, guards and settings (RFC 1813, sections 2.5 and 2.6)
 abbrev pub names_of_times : List (List ℕ)
-names_of_times = names.atime_sec ∷ names.atime_nsec ∷ names.mtime_sec ∷ names.mtime_nsec ∷ names.ctime_sec ∷ names.ctime_nsec ∷ []
+names_of_times = names.atime_sec ∷ names.atime_nsec ∷ names.mtime_sec ∷ names.mtime_nsec
+    ∷ names.ctime_sec ∷ names.ctime_nsec ∷ []
 
 -- of counts of space: FSSTAT3resok's (RFC 1813, section 3.3.18), and what a file uses (section 2.5)
 abbrev pub names_of_space : List (List ℕ)
-names_of_space = names.used ∷ names.tbytes ∷ names.fbytes ∷ names.abytes ∷ names.tfiles ∷ names.ffiles ∷ names.afiles ∷ []
+names_of_space = names.used ∷ names.tbytes ∷ names.fbytes ∷ names.abytes ∷ names.tfiles
+    ∷ names.ffiles ∷ names.afiles ∷ []
 
--- of users and groups, in attributes and settings (RFC 1813, section 2.5) and in credentials (RFC 5531, appendix A)
+-- of users and groups, in attributes and settings (RFC 1813, section 2.5) and in credentials
+-- (RFC 5531, appendix A)
 abbrev pub names_of_owners : List (List ℕ)
 names_of_owners = names.uid ∷ names.gid ∷ []
 
@@ -54,13 +57,14 @@ class_of (Fixed name bytes) = class_of_fixed name
 class_of _ = None
 
 -- the number of an item of a class; eight bytes are one as a hyper is
-abbrev pub value_of : Item → ℕ
-value_of (Word name n) = n
-value_of (Hyper name n) = n
-value_of (Fixed name bytes) = big_number 8 bytes
-value_of _ = 0
+abbrev pub class_value : Item → ℕ
+class_value (Word name n) = n
+class_value (Hyper name n) = n
+class_value (Fixed name bytes) = big_number 8 bytes
+class_value _ = 0
 
--- Whether a 0 has a meaning of its own: it is the first cookie, and the verifier beside it (RFC 1813, section 3.3.16).
+-- Whether a 0 has a meaning of its own: it is the first cookie, and the verifier beside it (RFC
+-- 1813, section 3.3.16).
 abbrev pub zero_stays : Class → Bool
 zero_stays Cookies = true
 zero_stays CookieVerifiers = true

@@ -11,33 +11,44 @@ abbrev pub AreMaskedAs : List Entry → List Entry → Type 0
 AreMaskedAs entries form = masked usual entries ≡ form
 
 -- the ids and the times of a fattr3 (RFC 1813, section 2.5)
-abbrev pub attributes : (used fsid fileid sec nsec : ℕ) → List Item → List Item
-attributes used fsid fileid sec nsec items =
-    Word (codes "type") 1 ∷ Word (codes "mode") 420 ∷ Word (codes "nlink") 1 ∷ Word (codes "uid") 1000 ∷ Word (codes "gid") 100
-    ∷ Hyper (codes "size") 5 ∷ Hyper (codes "used") used ∷ Word (codes "rdev1") 0 ∷ Word (codes "rdev2") 0
-    ∷ Hyper (codes "fsid") fsid ∷ Hyper (codes "fileid") fileid ∷ Word (codes "atime_sec") sec ∷ Word (codes "atime_nsec") nsec
-    ∷ Word (codes "mtime_sec") sec ∷ Word (codes "mtime_nsec") nsec ∷ Word (codes "ctime_sec") sec ∷ Word (codes "ctime_nsec") nsec
+abbrev pub file_attributes : (used fsid fileid sec nsec : ℕ) → List Item → List Item
+file_attributes used fsid fileid sec nsec items =
+    Word (codes "type") 1 ∷ Word (codes "mode") 420 ∷ Word (codes "nlink") 1
+    ∷ Word (codes "uid") 1000 ∷ Word (codes "gid") 100
+    ∷ Hyper (codes "size") 5 ∷ Hyper (codes "used") used ∷ Word (codes "rdev1") 0
+    ∷ Word (codes "rdev2") 0
+    ∷ Hyper (codes "fsid") fsid ∷ Hyper (codes "fileid") fileid ∷ Word (codes "atime_sec") sec
+    ∷ Word (codes "atime_nsec") nsec
+    ∷ Word (codes "mtime_sec") sec ∷ Word (codes "mtime_nsec") nsec
+    ∷ Word (codes "ctime_sec") sec ∷ Word (codes "ctime_nsec") nsec
     ∷ items
 
--- GETATTR (RFC 1813, section 3.3.1): the size stays, and an id of a file is numbered apart from an equal one of a file system
+-- GETATTR (RFC 1813, section 3.3.1): the size stays, and an id of a file is numbered apart from
+-- an equal one of a file system
 abbrev pub getattr_reply : (xid used fsid fileid sec nsec : ℕ) → Entry
-getattr_reply xid used fsid fileid sec nsec = success_reply 100003 1 xid (Word (codes "status") 0 ∷ attributes used fsid fileid sec nsec [])
+getattr_reply xid used fsid fileid sec nsec = success_reply 100003 1 xid
+    (Word (codes "status") 0 ∷ file_attributes used fsid fileid sec nsec [])
 
 abbrev pub MasksGetattrs : Type 0
 MasksGetattrs = AreMaskedAs
-    (getattr_reply 7 4096 9 9 1700000000 12345 ∷ getattr_reply 8 512 9 77 1700000001 6 ∷ getattr_reply 9 512 9 9 1700000001 7 ∷ [])
+    (getattr_reply 7 4096 9 9 1700000000 12345 ∷ getattr_reply 8 512 9 77 1700000001 6
+    ∷ getattr_reply 9 512 9 9 1700000001 7 ∷ [])
     (getattr_reply 7 0 1 1 0 0 ∷ getattr_reply 8 0 1 2 0 0 ∷ getattr_reply 9 0 1 1 0 0 ∷ [])
 
 -- READDIR (RFC 1813, section 3.3.16) from a cookie on, and a directory of two entries
 abbrev pub readdir : (xid cookie : ℕ) → List ℕ → Entry
 readdir xid cookie verifier =
-    call_of 100003 16 xid (Opaque Handle (codes "fh") (1 ∷ []) ∷ Hyper (codes "cookie") cookie ∷ Fixed (codes "cookieverf") verifier ∷ Word (codes "count") 512 ∷ [])
+    call_of 100003 16 xid (Opaque Handle (codes "fh") (1 ∷ []) ∷ Hyper (codes "cookie") cookie
+    ∷ Fixed (codes "cookieverf") verifier ∷ Word (codes "count") 512 ∷ [])
 
-abbrev pub directory : (xid : ℕ) → List ℕ → (first_id first second_id second : ℕ) → Entry
-directory xid verifier first_id first second_id second =
-    success_reply 100003 16 xid (Word (codes "status") 0 ∷ Word (codes "attr") 0 ∷ Fixed (codes "cookieverf") verifier
-    ∷ Word (codes "entry") 1 ∷ Hyper (codes "fileid") first_id ∷ Opaque Text (codes "name") (codes "a") ∷ Hyper (codes "cookie") first
-    ∷ Word (codes "entry") 1 ∷ Hyper (codes "fileid") second_id ∷ Opaque Text (codes "name") (codes "b") ∷ Hyper (codes "cookie") second
+abbrev pub two_entries : (xid : ℕ) → List ℕ → (first_id first second_id second : ℕ) → Entry
+two_entries xid verifier first_id first second_id second =
+    success_reply 100003 16 xid (Word (codes "status") 0 ∷ Word (codes "attr") 0
+    ∷ Fixed (codes "cookieverf") verifier
+    ∷ Word (codes "entry") 1 ∷ Hyper (codes "fileid") first_id
+    ∷ Opaque Text (codes "name") (codes "a") ∷ Hyper (codes "cookie") first
+    ∷ Word (codes "entry") 1 ∷ Hyper (codes "fileid") second_id
+    ∷ Opaque Text (codes "name") (codes "b") ∷ Hyper (codes "cookie") second
     ∷ Word (codes "entry") 0 ∷ Word (codes "eof") 0 ∷ [])
 
 abbrev pub zeros : List ℕ
@@ -49,18 +60,24 @@ some_verifier = 9 ∷ 8 ∷ 7 ∷ 6 ∷ 5 ∷ 4 ∷ 3 ∷ 2 ∷ []
 abbrev pub one_verifier : List ℕ
 one_verifier = 0 ∷ 0 ∷ 0 ∷ 0 ∷ 0 ∷ 0 ∷ 0 ∷ 1 ∷ []
 
--- the first cookie and its verifier stay 0, and a later call has the number of the cookie that a reply gave
+-- the first cookie and its verifier stay 0, and a later call has the number of the cookie that
+-- a reply gave
 abbrev pub MasksReaddirs : Type 0
 MasksReaddirs = AreMaskedAs
-    (readdir 7 0 zeros ∷ readdir 8 512 some_verifier ∷ directory 7 some_verifier 33 99 44 512 ∷ [])
-    (readdir 7 0 zeros ∷ readdir 8 1 one_verifier ∷ directory 7 one_verifier 1 2 2 1 ∷ [])
+    (readdir 7 0 zeros ∷ readdir 8 512 some_verifier ∷ two_entries 7 some_verifier 33 99 44 512
+    ∷ [])
+    (readdir 7 0 zeros ∷ readdir 8 1 one_verifier ∷ two_entries 7 one_verifier 1 2 2 1 ∷ [])
 
 -- NULL with an AUTH_SYS credential (RFC 5531, appendix A): the stamp is 0, and all else stays
-abbrev pub by_system : (xid stamp : ℕ) → Entry
-by_system xid stamp =
-    Call (Word (codes "xid") xid ∷ Word (codes "mtype") 0 ∷ Word (codes "rpcvers") 2 ∷ Word (codes "prog") 100003 ∷ Word (codes "vers") 3 ∷ Word (codes "proc") 0
-    ∷ Word (codes "cred_flavor") 1 ∷ Word (codes "cred_length") 28 ∷ Word (codes "stamp") stamp ∷ Opaque Text (codes "machinename") (codes "box") ∷ Word (codes "uid") 1000 ∷ Word (codes "gid") 100
-    ∷ Word (codes "gids") 1 ∷ Word (codes "group") 100 ∷ Word (codes "verf_flavor") 0 ∷ Opaque Var (codes "verf_body") [] ∷ [])
+abbrev pub stamped_null : (xid stamp : ℕ) → Entry
+stamped_null xid stamp =
+    Call (Word (codes "xid") xid ∷ Word (codes "mtype") 0 ∷ Word (codes "rpcvers") 2
+    ∷ Word (codes "prog") 100003 ∷ Word (codes "vers") 3 ∷ Word (codes "proc") 0
+    ∷ Word (codes "cred_flavor") 1 ∷ Word (codes "cred_length") 28 ∷ Word (codes "stamp") stamp
+    ∷ Opaque Text (codes "machinename") (codes "box") ∷ Word (codes "uid") 1000
+    ∷ Word (codes "gid") 100
+    ∷ Word (codes "gids") 1 ∷ Word (codes "group") 100 ∷ Word (codes "verf_flavor") 0
+    ∷ Opaque Var (codes "verf_body") [] ∷ [])
 
 abbrev pub MasksStamps : Type 0
-MasksStamps = AreMaskedAs (by_system 7 123456 ∷ []) (by_system 7 0 ∷ [])
+MasksStamps = AreMaskedAs (stamped_null 7 123456 ∷ []) (stamped_null 7 0 ∷ [])

@@ -10,7 +10,8 @@ use Rattle.masking3.specs.Ways.{way_of}
 
 -- the number of each value has room in eight bytes
 abbrev pub HasRoomForNumbers : List Entry → Type 0
-HasRoomForNumbers entries = (class : Class) → length (values (flat_map items_of entries) class) < 2 ^ 64
+HasRoomForNumbers entries = (class : Class)
+    → length (values (flat_map items_of entries) class) < 2 ^ 64
 
 -- masking again changes nothing
 abbrev pub StaysMasked : Ways → List Entry → Type 0

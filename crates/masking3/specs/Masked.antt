@@ -10,7 +10,7 @@ use Rattle.masking3.specs.declared.class.Class.{Class}
 use Rattle.masking3.specs.declared.ways.Way.{Way}
 use Rattle.masking3.specs.declared.ways.Way.TheVariants.{Keep, Zero, Number}
 use Rattle.masking3.specs.declared.ways.Ways.{Ways}
-use Rattle.masking3.specs.Classes.{class_of, position, value_of, zero_stays}
+use Rattle.masking3.specs.Classes.{class_of, position, class_value, zero_stays}
 use Rattle.masking3.specs.Ways.{way_of}
 
 -- ---- the values of a class
@@ -22,10 +22,11 @@ is_zero_that_stays class n = zero_stays class && (n == 0)
 -- the value, where it is of the class and no 0 that stays
 abbrev pub value_where : Class → Option Class → ℕ → List ℕ
 value_where class None n = []
-value_where class (Some other) n = if (position class == position other) && not (is_zero_that_stays class n) then n ∷ [] else []
+value_where class (Some other) n =
+    if (position class == position other) && not (is_zero_that_stays class n) then n ∷ [] else []
 
 abbrev pub value_in : Class → Item → List ℕ
-value_in class item = value_where class (class_of item) (value_of item)
+value_in class item = value_where class (class_of item) (class_value item)
 
 -- the values of a class among these items, in order
 abbrev pub values : List Item → Class → List ℕ
@@ -57,7 +58,8 @@ with_value item (Some m) = item
 
 -- an item whose value is masked, where these are the values of each class
 abbrev pub masked_item : Ways → (Class → List ℕ) → Item → Item
-masked_item ways seen item = with_value item (substitute ways seen (class_of item) (value_of item))
+masked_item ways seen item =
+    with_value item (substitute ways seen (class_of item) (class_value item))
 
 abbrev pub masked_items : Ways → (Class → List ℕ) → List Item → List Item
 masked_items ways seen items = map (masked_item ways seen) items
@@ -69,10 +71,12 @@ masked_entry ways seen (Call items) = Call (masked_items ways seen items)
 masked_entry ways seen (Reply id items) = Reply id (masked_items ways seen items)
 masked_entry ways seen entry = entry
 
--- each value of a class is masked in the way of its class, and numbers are by rank among all of the capture
+-- each value of a class is masked in the way of its class, and numbers are by rank among all of
+-- the capture
 abbrev pub masked : Ways → List Entry → List Entry
 masked ways entries = map (masked_entry ways (values (flat_map items_of entries))) entries
 
--- the bytes of the masked form: one chunk and one fragment for each record, and residual bytes of zero
+-- the bytes of the masked form: one chunk and one fragment for each record, and residual bytes
+-- of zero
 abbrev pub masked_bytes : Ways → List Entry → List ℕ
 masked_bytes ways entries = bytes_of (masked ways entries)

@@ -3,7 +3,7 @@
 ghost use Rattle.std.specs.Prelude.{◌≡◌, ◌≢◌, ◌++◌, ◌∷◌, ℕ, List, [], Some, get_or, min, nat_eq, slice_set, IfOk, OnOk};
 ghost use Rattle.xdr3.specs.Item.{Item};
 ghost use Rattle.canon3.specs.Rank.{number_limit, rank};
-ghost use Rattle.masking3.specs.Classes.{class_of, position, value_of};
+ghost use Rattle.masking3.specs.Classes.{class_of, position, class_value};
 ghost use Rattle.masking3.specs.Masked.{number_among, substitute, value_where, values};
 ghost use Rattle.masking3.specs.machinery.ClassTables.{HoldsAt, HoldsValues, tables_in};
 
@@ -57,12 +57,12 @@ impl<S: BuildHasher + Drop> ClassTables<S> {
     ) -> Result<Option<u32>, AllocError>
         ensures ways { self.new.ways ≡ self.old.ways }
         ensures stands { (items : List Item) (item : Item) → class ≡ class_of item
-            → n ≡ value_of item → HoldsValues self.old.ways (tables_in self.old) items
+            → n ≡ class_value item → HoldsValues self.old.ways (tables_in self.old) items
             → IfOk result (λ m. m ≡
             substitute self.old.ways (values (items ++ item ∷ []))
-            (class_of item) (value_of item)) }
+            (class_of item) (class_value item)) }
         ensures holds { (items : List Item) (item : Item) → class ≡ class_of item
-            → n ≡ value_of item → HoldsValues self.old.ways (tables_in self.old) items
+            → n ≡ class_value item → HoldsValues self.old.ways (tables_in self.old) items
             → OnOk result
             (HoldsValues self.new.ways (tables_in self.new) (items ++ item ∷ [])) }
     {

@@ -87,13 +87,13 @@ fn open<W: Sink>(passed: &Passed, sink: &mut W) -> Result<(), Error>
 
 impl<P: Plan, S: BuildHasher + Drop> EntryWriter for MaskingWriter<P, S> {
     ghost use Rattle.masking3.specs.Masked.{masked_bytes};
-    ghost use Rattle.masking3.specs.machinery.MaskingWriter.{IsGoing, items_before};
+    ghost use Rattle.masking3.specs.machinery.MaskingWriter.{HasMemory, told_before};
 
     ghost form = { masked_bytes P.ways };
 
-    ghost before = { items_before };
+    ghost before = { told_before };
 
-    ghost going = { IsGoing };
+    ghost going = { HasMemory };
 
     fn write<W: Sink>(&mut self, passed: &Passed, sink: &mut W, kind: Kind) -> Result<(), Error> {
         if self.failed {

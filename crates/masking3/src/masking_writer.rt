@@ -7,7 +7,7 @@ ghost use Rattle.xdr3.specs.Visit.{Adds};
 ghost use Rattle.canon3.specs.SinkWrites.{AppendsFront};
 ghost use Rattle.canon3.specs.WriteErrors.{CountsWriting, IsOfWriting};
 ghost use Rattle.masking3.specs.Ways.{usual};
-ghost use Rattle.masking3.specs.machinery.MaskingWriter.{IsGoing, MaskStands, after_front, written_as};
+ghost use Rattle.masking3.specs.machinery.MaskingWriter.{HasMemory, MaskStands, after_messages, written_as};
 
 use crate::class::{class_of_fixed, class_of_hyper, class_of_word};
 use crate::class_tables::ClassTables;
@@ -53,8 +53,8 @@ impl<P: Plan, S: BuildHasher + Drop> MaskingWriter<P, S> {
         classes: ClassHashers<S>,
     ) -> MaskingWriter<P, S>
         requires { ways ≡ P.ways }
-        ensures stands { MaskStands P.ways result (after_front [] []) }
-        ensures going { IsGoing result }
+        ensures stands { MaskStands P.ways result (after_messages [] []) }
+        ensures going { HasMemory result }
     {
         MaskingWriter {
             handles: HandleTable::new(alloc, handles),
@@ -68,9 +68,9 @@ impl<P: Plan, S: BuildHasher + Drop> MaskingWriter<P, S> {
     /// Begins a message in place of the one before.
     pub(crate) fn begin_message(&mut self)
         ensures stands { (front items : List Item)
-            → MaskStands P.ways self.old (after_front front items)
-            → MaskStands P.ways self.new (after_front (front ++ items) []) }
-        ensures going { IsGoing self.old → IsGoing self.new }
+            → MaskStands P.ways self.old (after_messages front items)
+            → MaskStands P.ways self.new (after_messages (front ++ items) []) }
+        ensures going { HasMemory self.old → HasMemory self.new }
     {
         self.writer.clear();
     }

@@ -13,7 +13,8 @@ use Rattle.masking3.specs.Ways.{way_of}
 -- by the places of the classes
 abbrev pub tables_in : {S H : Type 0} → ClassTables S H → List (List ℕ)
 tables_in t =
-    t.times ∷ t.stamps ∷ t.space ∷ t.ids ∷ t.fsids ∷ t.cookies ∷ t.cookie_verifiers ∷ t.create_verifiers ∷ t.owners ∷ []
+    t.times ∷ t.stamps ∷ t.space ∷ t.ids ∷ t.fsids ∷ t.cookies ∷ t.cookie_verifiers
+    ∷ t.create_verifiers ∷ t.owners ∷ []
 
 -- the table at a place holds these values
 abbrev pub HoldsAt : List (List ℕ) → ℕ → List ℕ → Type 0
@@ -21,4 +22,5 @@ HoldsAt tables place seen = HoldsDistinct nat_eq (get_or tables place []) seen
 
 -- the table of each class that is numbered holds its values among these items
 abbrev pub HoldsValues : Ways → List (List ℕ) → List Item → Type 0
-HoldsValues ways tables items = (class : Class) → way_of ways class ≡ Number → HoldsAt tables (position class) (values items class)
+HoldsValues ways tables items = (class : Class) → way_of ways class ≡ Number
+    → HoldsAt tables (position class) (values items class)

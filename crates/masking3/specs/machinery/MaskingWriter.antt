@@ -12,28 +12,31 @@ use Rattle.masking3.specs.declared.ways.Ways.{Ways}
 use Rattle.masking3.specs.Masked.{masked_items, values}
 use Rattle.masking3.specs.machinery.ClassTables.{HoldsValues, tables_in}
 
--- The items of the messages before stand in front of the message's own, and how many these are in front of all.
-abbrev pub after_front : (front items : List Item) → List Item
-after_front front items = Word [] (length front) ∷ (front ++ items)
+-- The items of the messages before stand in front of the message's own, and how many these are
+-- in front of all.
+abbrev pub after_messages : (front items : List Item) → List Item
+after_messages front items = Word [] (length front) ∷ (front ++ items)
 
 -- a message under way, after these items
-pub record HasMessageUnderWay {P S H : Type 0} (ways : Ways) (w : MaskingWriter P S H) (front items : List Item) : Type 0 where
+pub record HasMaskedUnderWay {P S H : Type 0} (ways : Ways) (w : MaskingWriter P S H)
+    (front items : List Item) : Type 0 where
   pub ways_are : w.classes.ways ≡ ways
   pub tables : HoldsValues ways (tables_in w.classes) (front ++ items)
   pub handles : Gathers w.handles (front ++ items)
   pub written : w.writer ≡ zero_spelling (masked_items ways (values (front ++ items)) items)
 
 -- memory did not run out
-abbrev pub IsGoing : {P S H : Type 0} → MaskingWriter P S H → Type 0
-IsGoing w = w.failed ≡ false
+abbrev pub HasMemory : {P S H : Type 0} → MaskingWriter P S H → Type 0
+HasMemory w = w.failed ≡ false
 
 -- nothing is said of one that has failed
 abbrev pub MaskStands : {P S H : Type 0} → Ways → MaskingWriter P S H → List Item → Type 0
-MaskStands ways w all = IsGoing w → (front : List Item) × (items : List Item) × (all ≡ after_front front items) × HasMessageUnderWay ways w front items
+MaskStands ways w all = HasMemory w → (front : List Item) × (items : List Item)
+    × (all ≡ after_messages front items) × HasMaskedUnderWay ways w front items
 
 -- what stands for entries that were written
-abbrev pub items_before : List Entry → List Item
-items_before entries = after_front (all_items entries) []
+abbrev pub told_before : List Entry → List Item
+told_before entries = after_messages (all_items entries) []
 
 -- the word 0, the word 1, or a message with this body
 abbrev pub written_as : Kind → List ℕ → List ℕ

@@ -4,9 +4,9 @@ use Rattle.capture3.specs.Entry.{items_of}
 use Rattle.capture3.proofs.PassedOn.{error_is}
 use Rattle.canon3.specs.machinery.Summary.{all_items}
 use Rattle.canon3.proofs.SummaryLemmas.{items_with_last}
-use Rattle.masking3.specs.machinery.MaskingWriter.{after_front, MaskStands}
+use Rattle.masking3.specs.machinery.MaskingWriter.{after_messages, MaskStands}
 use Rattle.masking3.proofs.FormLemmas.{all_written, cut_in_entry, cut_in_magic, entry_is, nothing_more}
-use Rattle.masking3.proofs.WriterLemmas.{after_front-append, is_after}
+use Rattle.masking3.proofs.WriterLemmas.{after_messages-append, is_after}
 use Rattle.masking3.specs.machinery.MaskingWriter.{written_as}
 use Rattle.masking3.proofs.masked_form.MaskingWriterEntryWriter.write.Goals as goal
 
@@ -23,7 +23,7 @@ returns-in_err-open-clause-writes g c old entries one of first few came told wri
 
 pub returns-in_err-write_entry-clause-writes : goal.returns-in_err-write_entry-clause-writes
 returns-in_err-write_entry-clause-writes g c old entries one of first few came told written =
-    let stands = subst (MaskStands g.P.Plan.ways c.args.self.now) (after_front-append (all_items entries) [] (items_of one)) told in
+    let stands = subst (MaskStands g.P.Plan.ways c.args.self.now) (after_messages-append (all_items entries) [] (items_of one)) told in
     let is = is_after g.P.Plan.ways c.args.self.now (all_items entries) (items_of one) c.if-self.false stands in
     rw (error_is _ _ c.from_residual-in_err-write_entry.ensures)
     (cut_in_entry g.P.Plan.ways old (g.W.Sink.written c.args.sink.now) (g.W.Sink.written c.open.new.sink) (g.W.Sink.written c.write_entry.new.sink) entries one c.args.passed.now.progress.connections first came.progress.connections_are written
@@ -31,10 +31,10 @@ returns-in_err-write_entry-clause-writes g c old entries one of first few came t
 
 pub returns-clause-writes : goal.returns-clause-writes
 returns-clause-writes g c old entries one of first few came told written =
-    let stands = subst (MaskStands g.P.Plan.ways c.args.self.now) (after_front-append (all_items entries) [] (items_of one)) told in
+    let stands = subst (MaskStands g.P.Plan.ways c.args.self.now) (after_messages-append (all_items entries) [] (items_of one)) told in
     let is = is_after g.P.Plan.ways c.args.self.now (all_items entries) (items_of one) c.if-self.false stands in (
       c.begin_message.ensures.going c.if-self.false,
-      subst (λ (l : List Item). MaskStands g.P.Plan.ways c.begin_message.new.self (after_front l [])) (sym (items_with_last entries one)) (c.begin_message.ensures.stands (all_items entries) (items_of one) stands),
+      subst (λ (l : List Item). MaskStands g.P.Plan.ways c.begin_message.new.self (after_messages l [])) (sym (items_with_last entries one)) (c.begin_message.ensures.stands (all_items entries) (items_of one) stands),
       all_written g.P.Plan.ways old (g.W.Sink.written c.args.sink.now) (g.W.Sink.written c.open.new.sink) (g.W.Sink.written c.write_entry.new.sink) entries one c.args.passed.now.progress.connections first came.progress.connections_are written
           (written_as c.args.kind c.args.self.now.writer) (entry_is g.P.Plan.ways c.args.self.now.writer c.args.kind entries one of is.written) c.in_ok-open.ensures.ok c.in_ok-write_entry.ensures.ok,
     )
