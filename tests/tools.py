@@ -14,6 +14,7 @@ import subprocess
 import sys
 import tempfile
 
+import pages
 from captures import SMALL, capture_in, rows_of
 from rooms import in_the_wrong_room, long_lines, of_private_fields, of_several_meanings
 from running import try_all, words_of
@@ -256,10 +257,15 @@ def rooms_stand_apart(tools):
     tools.want('long lines of clauses', long_lines(), [])
 
 
+def pages_are_plain(tools):
+    """No sentence, bullet or section of a page is too long."""
+    tools.want('pages', pages.long_ones(), [])
+
+
 STRINGS = ('name', 'path', 'machinename', 'dirpath', 'hostname', 'directory')
 TESTS = [explained, explained_as_documented, layouts_agree_with_the_listing, commands_of_the_readme,
          lines_for_many_captures, examples_are_used, answers_of_the_examples, examples_are_made_alike, pages_agree, pages_of_the_tools,
-         what_is_believed, rooms_stand_apart]
+         what_is_believed, rooms_stand_apart, pages_are_plain]
 
 
 def tried(program, test):

@@ -1,0 +1,61 @@
+"""How long the sentences, bullets and sections of the pages are. Code, tables and the targets of links do not count."""
+import pathlib
+import re
+
+TOP = pathlib.Path(__file__).resolve().parent.parent
+PAGES = ('README.md', 'CONTRIBUTING.md', 'CHANGELOG.md', 'docs/ARCHITECTURE.md', 'docs/DECISIONS.md', 'docs/FORMATS.md',
+         'docs/PERFORMANCE.md', 'docs/PROOFS.md', 'examples/README.md', 'tests/README.md')
+MOST_WORDS_OF_A_SENTENCE = 40
+MOST_WORDS_OF_A_BULLET = 60
+MOST_BULLETS = 12  # in a row of bullets under one heading
+# A condition is `if`; `where` is for places.
+MOST_WHERES = 8
+BULLET = re.compile(r'\s*(?:- |\d+\. )')
+SENTENCE_ENDS = re.compile(r'(?<=[.:?!])\s+(?=[A-Z*`\[(])')
+
+
+def plain(text: str) -> str:
+    """Returns the text without code, tables and link targets; a code span is one word."""
+    text = re.sub(r'```.*?```', '', text, flags=re.S)
+    text = re.sub(r'^(?:    |\|).*$', '', text, flags=re.M)
+    text = re.sub(r'`[^`]*`', 'X', text)
+    return re.sub(r'\]\([^)]*\)', ']', text)
+
+
+def blocks(text: str) -> list[str]:
+    """Returns the paragraphs and bullets, each as one line."""
+    found: list[str] = []
+    goes_on = False
+    for line in plain(text).splitlines():
+        if not line.strip() or line.startswith('#'):
+            goes_on = False
+        elif goes_on and not BULLET.match(line):
+            found[-1] += ' ' + line
+        else:
+            found.append(line)
+            goes_on = True
+    return found
+
+
+def faults(text: str) -> list[str]:
+    """What of a page is too long, by its first words."""
+    wrong: list[str] = []
+    for block in blocks(text):
+        if BULLET.match(block) and len(block.split()) > MOST_WORDS_OF_A_BULLET:
+            wrong.append('a bullet of %d words: %s' % (len(block.split()), block[:60]))
+        for sentence in SENTENCE_ENDS.split(block.strip()):
+            if len(sentence.split()) > MOST_WORDS_OF_A_SENTENCE:
+                wrong.append('a sentence of %d words: %s' % (len(sentence.split()), sentence[:60]))
+    for section in re.split(r'^#+ .*$', text, flags=re.M):
+        bullets = len(re.findall(r'^- ', section, re.M))
+        if bullets > MOST_BULLETS:
+            wrong.append('%d bullets under one heading' % bullets)
+    wheres = len(re.findall(r'\bwhere\b', plain(text)))
+    if wheres > MOST_WHERES:
+        wrong.append('`where` %d times' % wheres)
+    return wrong
+
+
+def long_ones() -> list[str]:
+    """What is too long on any page."""
+    return ['%s: %s' % (page, fault) for page in PAGES for fault in faults((TOP / page).read_text())]
