@@ -4,7 +4,7 @@ import re
 
 TOP = pathlib.Path(__file__).resolve().parent.parent
 PAGES = ('README.md', 'CONTRIBUTING.md', 'CHANGELOG.md', 'docs/ARCHITECTURE.md', 'docs/DECISIONS.md', 'docs/FORMATS.md',
-         'docs/PERFORMANCE.md', 'docs/PROOFS.md', 'examples/README.md', 'tests/README.md')
+         'docs/PERFORMANCE.md', 'docs/PROOFS.md', 'docs/SECURITY.md', 'examples/README.md', 'tests/README.md')
 MOST_WORDS_OF_A_SENTENCE = 40
 MOST_WORDS_OF_A_BULLET = 60
 MOST_BULLETS = 12  # in a row of bullets under one heading
