@@ -1,11 +1,11 @@
-// Attributes (RFC 1813, sections 2.5 and 2.6).
+//! Attributes (RFC 1813, sections 2.5 and 2.6).
 
 use crate::kind::FileKind;
 use crate::time::{Time, Times};
 use std::alloc::{AllocError, Global};
 use xdr3::{Field, GetError, Input, Visit, Walk, Xdr, get_optional, walk_fields, walk_optional};
 
-/// A file's attributes, 84 bytes, an fattr3 (RFC 1813, section 2.5). Sizes are in bytes.
+/// A file's attributes: `fattr3`, 84 bytes (RFC 1813, section 2.5). Sizes are in bytes.
 #[derive(Clone, Copy, Debug, PartialEq, Eq)]
 pub struct Fattr {
     pub kind: FileKind,
@@ -92,7 +92,7 @@ impl Walk for Fattr {
     }
 }
 
-/// Attributes that a reply may tell, a post_op_attr (RFC 1813, section 2.6).
+/// The attributes of a file, which a reply may leave out: `post_op_attr` (RFC 1813, section 2.6).
 #[derive(Clone, Copy, Debug, PartialEq, Eq)]
 pub struct PostOpAttr {
     pub attr: Option<Fattr>,
@@ -121,8 +121,8 @@ impl Walk for PostOpAttr {
     }
 }
 
-/// The attributes of a file before a change that tell whether another client changed it, a wcc_attr
-/// (RFC 1813, section 2.6).
+/// A file's size and times before a change, by which a client sees whether another one changed the
+/// file: `wcc_attr` (RFC 1813, section 2.6).
 #[derive(Clone, Copy, Debug, PartialEq, Eq)]
 pub struct WccAttr {
     pub size: u64,
@@ -162,7 +162,8 @@ impl Walk for WccAttr {
     }
 }
 
-/// What a reply may tell of a file before and after a change, a wcc_data (RFC 1813, section 2.6).
+/// A file's attributes before and after a change, each of which a reply may leave out: `wcc_data`
+/// (RFC 1813, section 2.6).
 #[derive(Clone, Copy, Debug, PartialEq, Eq)]
 pub struct Wcc {
     pub before: Option<WccAttr>,

@@ -1,10 +1,10 @@
-// Names in directories, and handles that a reply may tell (RFC 1813, section 2.6).
+//! Names in directories, and optional handles (RFC 1813, section 2.6).
 
 use crate::handle::Handle;
 use std::alloc::{AllocError, Global};
 use xdr3::{Field, GetError, Input, Visit, Walk, Xdr, get_optional, walk_fields, walk_optional};
 
-/// A name in a directory, a diropargs3 (RFC 1813, section 2.6). The name borrows from the record.
+/// A name in a directory: `diropargs3` (RFC 1813, section 2.6). The name borrows from the record.
 #[derive(Clone, Copy)]
 pub struct DirOp<'a> {
     pub dir: Handle,
@@ -39,7 +39,7 @@ impl<'a> Walk for DirOp<'a> {
     }
 }
 
-/// A handle that a reply may tell, a post_op_fh3 (RFC 1813, section 2.6).
+/// A file handle, which a reply may leave out: `post_op_fh3` (RFC 1813, section 2.6).
 #[derive(Clone, Copy, PartialEq, Eq)]
 pub struct PostOpFh {
     pub handle: Option<Handle>,

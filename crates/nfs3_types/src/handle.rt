@@ -1,4 +1,4 @@
-// File handles (RFC 1813, section 2.5).
+//! File handles (RFC 1813, section 2.5).
 
 ghost use Rattle.std.specs.Prelude.{◌≡◌, ◌≤◌, ◌<◌, ◌↔◌, [], ◌∷◌, IfSome, IsNone, IsTrue, Some, bytes_eq, length, refl};
 ghost use Rattle.std.proofs.Common.{rules};
@@ -12,8 +12,8 @@ use std::cmp::Ordering;
 use std::hash::{Hash, Hasher};
 use xdr3::{Field, GetError, Input, Visit, Walk, Xdr, walk_fields};
 
-/// A file handle: 0 to 64 bytes (RFC 1813, section 2.5). Equality, order and hash are those of its
-/// bytes.
+/// A file handle of 0 to 64 bytes (RFC 1813, section 2.5). Equality, order and hash are those of
+/// its bytes.
 #[derive(Clone, Copy, Debug)]
 pub struct Handle {
     bytes: [u8; 64],
@@ -24,7 +24,7 @@ pub struct Handle {
 impl Handle {
     ghost use Rattle.nfs3_types.specs.Handle.{handle_bytes};
 
-    /// None over 64 bytes.
+    /// Returns the handle of these bytes, or `None` if there are more than 64.
     pub fn new(bytes: &[u8]) -> Option<Handle>
         ensures long { IsNone result ↔ (64 < length bytes.now) }
         ensures bytes { IfSome result (λ handle. handle_bytes handle ≡ bytes.now) }
@@ -36,7 +36,7 @@ impl Handle {
         }
     }
 
-    /// The handle of these bytes, of which there are at most 64.
+    /// Returns the handle of these bytes, which are at most 64.
     pub fn from_short(bytes: &[u8]) -> Handle
         requires { length bytes.now ≤ 64 }
         ensures { handle_bytes result ≡ bytes.now }
@@ -49,7 +49,7 @@ impl Handle {
         }
     }
 
-    /// Its bytes, at most 64.
+    /// Returns its bytes, at most 64.
     pub fn as_slice(&self) -> &[u8]
         ensures bytes { result.now ≡ handle_bytes self.now }
         ensures short { length result.now ≤ 64 }
@@ -57,7 +57,7 @@ impl Handle {
         &self.bytes[..self.len as usize]
     }
 
-    /// Whether it is the public handle, which has no bytes.
+    /// Returns whether it is the public file handle, which has no bytes.
     pub fn is_public(&self) -> bool
         ensures { IsTrue result ↔ (handle_bytes self.now ≡ []) }
     {

@@ -1,4 +1,4 @@
-// Kinds of files (RFC 1813, section 2.5).
+//! Types of files (RFC 1813, section 2.5).
 
 ghost use Rattle.std.specs.Prelude.{◌≡◌, ◌↔◌, IfSome, IsSome, IsTrue};
 ghost use Rattle.xdr3.specs.Reading.{word_at};
@@ -8,29 +8,29 @@ ghost use Rattle.xdr3.specs.View.{Answers, MovesOn};
 use std::alloc::{AllocError, Global};
 use xdr3::{Field, GetError, Input, Reason, Stop, Visit, Walk, Xdr, walk_fields};
 
-/// What a file is, an ftype3 (RFC 1813, section 2.5): 1 to 7.
+/// The type of a file: `ftype3`, 1 to 7 (RFC 1813, section 2.5).
 #[derive(Clone, Copy, Debug, PartialEq, Eq)]
 pub enum FileKind {
-    /// A regular file.
+    /// `NF3REG` (1): a regular file.
     Reg,
-    /// A directory.
+    /// `NF3DIR` (2): a directory.
     Dir,
-    /// A block special device.
+    /// `NF3BLK` (3): a block special device.
     Blk,
-    /// A character special device.
+    /// `NF3CHR` (4): a character special device.
     Chr,
-    /// A symbolic link.
+    /// `NF3LNK` (5): a symbolic link.
     Lnk,
-    /// A socket.
+    /// `NF3SOCK` (6): a socket.
     Sock,
-    /// A named pipe.
+    /// `NF3FIFO` (7): a named pipe.
     Fifo,
 }
 
 impl FileKind {
     ghost use Rattle.nfs3_types.specs.FileKind.{file_kind_number, file_kind_words};
 
-    /// Its number.
+    /// Returns its number.
     pub fn number(self) -> u32
         ensures { result ≡ file_kind_number self }
     {
@@ -45,8 +45,8 @@ impl FileKind {
         }
     }
 
-    /// Takes the next word, which is the number of a kind of file. `BadEnum` at it where it is any other, `Short`
-    /// where it is not whole.
+    /// Reads a file type from the next word. `BadEnum` if the word is not a file type, `Short` if
+    /// fewer than four bytes are left.
     pub fn take(input: &mut Input) -> Result<FileKind, Stop>
         ensures read { Answers file_kind_number result input.new.at
             (word_at (is_listed file_kind_words) Reason.BadEnum input.old.body input.old.at) }
@@ -60,7 +60,7 @@ impl FileKind {
         })
     }
 
-    /// The one with this number, if there is one.
+    /// Returns the type with this number, if there is one.
     fn of_number(n: u32) -> Option<FileKind>
         ensures number { IfSome result (λ kind. file_kind_number kind ≡ n) }
         ensures listed { IsSome result ↔ IsTrue (is_listed file_kind_words n) }

@@ -12,35 +12,35 @@ use xdr3::{
     walk_fields, walk_linked,
 };
 
-/// What a call of MNT answers, a mountstat3 (RFC 1813, section 5.1.5). 10 numbers are listed.
+/// The status of an MNT call: `mountstat3` (RFC 1813, section 5.1.5).
 #[derive(Clone, Copy, Debug, PartialEq, Eq)]
 pub enum MountStatus {
-    /// Done.
+    /// `MNT3_OK` (0): the call succeeded.
     Ok,
-    /// Not owner.
+    /// `MNT3ERR_PERM` (1): the caller is not the owner.
     Perm,
-    /// No such file or directory.
+    /// `MNT3ERR_NOENT` (2): no such file or directory.
     NoEnt,
-    /// I/O error.
+    /// `MNT3ERR_IO` (5): an I/O error.
     Io,
-    /// Permission denied.
+    /// `MNT3ERR_ACCES` (13): permission denied.
     Acces,
-    /// Not a directory.
+    /// `MNT3ERR_NOTDIR` (20): not a directory.
     NotDir,
-    /// Invalid argument.
+    /// `MNT3ERR_INVAL` (22): an invalid argument.
     Inval,
-    /// The name was too long.
+    /// `MNT3ERR_NAMETOOLONG` (63): the name is too long.
     NameTooLong,
-    /// The operation is not supported.
+    /// `MNT3ERR_NOTSUPP` (10004): the operation is not supported.
     NotSupp,
-    /// A fault of the server.
+    /// `MNT3ERR_SERVERFAULT` (10006): an error in the server.
     ServerFault,
 }
 
 impl MountStatus {
     ghost use Rattle.nfs3_types.specs.MountStatus.{mount_status_number, mount_status_words};
 
-    /// Its number.
+    /// Returns its number.
     pub fn number(self) -> u32
         ensures { result ≡ mount_status_number self }
     {
@@ -58,8 +58,8 @@ impl MountStatus {
         }
     }
 
-    /// Takes the next word, which is the number of a status. `BadEnum` at it where it is any other, `Short`
-    /// where it is not whole.
+    /// Reads a status from the next word. `BadEnum` if the word is not a status, `Short` if fewer
+    /// than four bytes are left.
     pub fn take(input: &mut Input) -> Result<MountStatus, Stop>
         ensures read { Answers mount_status_number result input.new.at
             (word_at (is_listed mount_status_words) Reason.BadEnum input.old.body input.old.at) }
@@ -73,7 +73,7 @@ impl MountStatus {
         })
     }
 
-    /// The one with this number, if there is one.
+    /// Returns the status with this number, if there is one.
     fn of_number(n: u32) -> Option<MountStatus>
         ensures number { IfSome result (λ status. mount_status_number status ≡ n) }
         ensures listed { IsSome result ↔ IsTrue (is_listed mount_status_words n) }
@@ -117,7 +117,7 @@ impl Walk for MountStatus {
     }
 }
 
-/// An authentication flavor that a server takes (RFC 1813, section 5.2.1).
+/// An authentication flavor that a server accepts (RFC 1813, section 5.2.1).
 #[derive(Clone, Copy, Debug, PartialEq, Eq)]
 pub struct Flavor {
     pub number: u32,
@@ -146,7 +146,7 @@ impl Walk for Flavor {
     }
 }
 
-/// What a successful call of MNT gives, a mountres3_ok (RFC 1813, section 5.2.1).
+/// The results of a successful MNT: `mountres3_ok` (RFC 1813, section 5.2.1).
 #[derive(Drop)]
 pub struct MountOk {
     pub handle: Handle,
@@ -179,8 +179,9 @@ impl Walk for MountOk {
     }
 }
 
-/// A mount that a server remembers: a client's host name of at most 255 bytes, and the directory that
-/// it mounted, at most 1,024 bytes (RFC 1813, section 5.2.2). Both borrow from the record.
+/// A mount that a server remembers: `mountbody` (RFC 1813, section 5.2.2). It has a client's host
+/// name of at most 255 bytes, and the directory that it mounted, of at most 1,024 bytes. Both
+/// borrow from the record.
 #[derive(Clone, Copy)]
 pub struct Mounted<'a> {
     pub hostname: &'a [u8],
@@ -218,7 +219,7 @@ impl<'a> Walk for Mounted<'a> {
     }
 }
 
-/// The mounts that a server remembers, a mountlist (RFC 1813, section 5.2.2).
+/// The mounts that a server remembers: `mountlist` (RFC 1813, section 5.2.2).
 #[derive(Drop)]
 pub struct MountList<'a> {
     pub entries: Vec<Mounted<'a>>,
@@ -247,8 +248,8 @@ impl<'a> Walk for MountList<'a> {
     }
 }
 
-/// A group that may mount a directory: a name of at most 255 bytes (RFC 1813, section 5.2.5). It
-/// borrows from the record.
+/// A group that may mount a directory, by a name of at most 255 bytes: `groupnode` (RFC 1813,
+/// section 5.2.5). The name borrows from the record.
 #[derive(Clone, Copy)]
 pub struct Group<'a> {
     pub name: &'a [u8],
@@ -277,8 +278,8 @@ impl<'a> Walk for Group<'a> {
     }
 }
 
-/// A directory of at most 1,024 bytes that a server exports, and the groups that may mount it
-/// (RFC 1813, section 5.2.5).
+/// A directory of at most 1,024 bytes that a server exports, and the groups that may mount it:
+/// `exportnode` (RFC 1813, section 5.2.5).
 #[derive(Drop)]
 pub struct Export<'a> {
     pub directory: &'a [u8],
@@ -311,7 +312,7 @@ impl<'a> Walk for Export<'a> {
     }
 }
 
-/// The directories that a server exports (RFC 1813, section 5.2.5).
+/// The directories that a server exports: `exports` (RFC 1813, section 5.2.5).
 #[derive(Drop)]
 pub struct Exports<'a> {
     pub entries: Vec<Export<'a>>,

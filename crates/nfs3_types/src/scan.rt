@@ -1,4 +1,4 @@
-// Parts that a visitor is told as they are read (RFC 1813, sections 2.5, 2.6 and 5).
+//! Parts that are passed to a visitor as they are read (RFC 1813, sections 2.5, 2.6 and 5).
 
 ghost use Rattle.std.specs.Prelude.{IfErr, OnOk};
 ghost use Rattle.nfs3_types.specs.machinery.AttributeTails.{after_type, settable_times};
@@ -26,7 +26,7 @@ impl Scan for Void {
 
     #[tactic(auto, using(xdr3::proofs::ScanLemmas::scans))]
     fn scan<V: Visit>(input: &mut Input, _visitor: &mut V) -> Result<(), GetError> {
-        // The prover takes from this that the place is within the body.
+        // The prover concludes from this that the position is within the body.
         input.at();
         Ok(())
     }
@@ -73,7 +73,8 @@ impl Scan for PostOpFh {
 
 // ---- times and attributes
 
-/// A time, an nfstime3 (RFC 1813, section 2.5). Its words are named after the time that it is.
+/// Reads and visits a time: `nfstime3` (RFC 1813, section 2.5). Its words are named after the time
+/// that it is.
 #[inline]
 #[tactic(auto, using(xdr3::proofs::ScanLemmas::scans), unfolding(crate::specs::Shapes::time))]
 fn scan_time<V: Visit>(
@@ -91,7 +92,7 @@ fn scan_time<V: Visit>(
     Ok(())
 }
 
-/// The attributes after a file's type (RFC 1813, section 2.5).
+/// Reads and visits the attributes after a file's type (RFC 1813, section 2.5).
 const ATTRIBUTES: [PlainField; 16] = [
     PlainField::Word("mode"),
     PlainField::Word("nlink"),
@@ -145,7 +146,7 @@ impl Scan for PostOpAttr {
     }
 }
 
-/// A file's attributes before a change (RFC 1813, section 2.6).
+/// Reads and visits a file's attributes before a change (RFC 1813, section 2.6).
 const ATTRIBUTES_BEFORE: [PlainField; 5] = [
     PlainField::Hyper("size"),
     PlainField::Word("mtime_sec"),
@@ -179,7 +180,7 @@ impl Scan for Wcc {
 
 // ---- attributes that a caller sets
 
-/// A word that is set or not (RFC 1813, section 2.6).
+/// Reads and visits an optional word (RFC 1813, section 2.6).
 #[inline]
 #[tactic(auto, using(xdr3::proofs::ScanLemmas::scans), unfolding(crate::specs::Shapes::set_word, xdr3::specs::Shape::optional))]
 fn scan_set_word<V: Visit>(
@@ -198,7 +199,7 @@ fn scan_set_word<V: Visit>(
     Ok(())
 }
 
-/// A number of eight bytes that is set or not (RFC 1813, section 2.6).
+/// Reads and visits an optional hyper (RFC 1813, section 2.6).
 #[inline]
 #[tactic(auto, using(xdr3::proofs::ScanLemmas::scans), unfolding(crate::specs::Shapes::set_hyper, xdr3::specs::Shape::optional))]
 fn scan_set_hyper<V: Visit>(
@@ -219,7 +220,7 @@ fn scan_set_hyper<V: Visit>(
     }
 }
 
-/// How a time is set, and on 2 the time (RFC 1813, section 2.6).
+/// Reads and visits how a time is set, and the time if the word is 2 (RFC 1813, section 2.6).
 #[inline]
 #[tactic(auto, using(xdr3::proofs::ScanLemmas::scans), unfolding(crate::specs::Shapes::time_how))]
 fn scan_time_how<V: Visit>(
@@ -307,7 +308,7 @@ impl<T: Scan, F: Scan> Scan for Res<T, F> {
 
 // ---- MOUNT version 3
 
-/// A path of at most 1,024 bytes (RFC 1813, section 5.1.2).
+/// Reads and visits a path of at most 1,024 bytes (RFC 1813, section 5.1.2).
 #[inline]
 pub fn scan_path<V: Visit>(
     name: &'static str,

@@ -1,4 +1,4 @@
-// Attributes that a caller sets (RFC 1813, sections 2.6 and 3.3.2).
+//! Attributes that a caller sets (RFC 1813, sections 2.6 and 3.3.2).
 
 ghost use Rattle.std.specs.Prelude.{ℕ, List, OnErr, OnOk};
 ghost use Rattle.xdr3.specs.Reading.{reading};
@@ -11,7 +11,7 @@ use crate::time::{Time, TimeHow};
 use std::alloc::{AllocError, Global};
 use xdr3::{Field, GetError, Input, Stop, Visit, Walk, Xdr, walk_fields};
 
-/// Attributes to set, each where it is there, a sattr3 (RFC 1813, section 2.6).
+/// Attributes to be set, each of them optional: `sattr3` (RFC 1813, section 2.6).
 #[derive(Clone, Copy, Debug, PartialEq, Eq)]
 pub struct Sattr {
     pub mode: Option<u32>,
@@ -65,7 +65,7 @@ impl Walk for Sattr {
     }
 }
 
-/// A word 1 and a word, or a word 0 alone.
+/// Reads a bool, and a word if it is true.
 #[tactic(auto, unfolding(xdr3::specs::Reading::reading, xdr3::specs::Shape::optional, crate::specs::Shapes::set_word))]
 fn set_word(input: &mut Input) -> Result<Option<u32>, Stop>
     ensures read { (set name : List ℕ)
@@ -81,7 +81,7 @@ fn set_word(input: &mut Input) -> Result<Option<u32>, Stop>
     }
 }
 
-/// A word 1 and eight bytes that are a number, or a word 0 alone.
+/// Reads a bool, and a hyper if it is true.
 #[tactic(auto, unfolding(xdr3::specs::Reading::reading, xdr3::specs::Shape::optional, crate::specs::Shapes::set_hyper))]
 fn set_hyper(input: &mut Input) -> Result<Option<u64>, Stop>
     ensures read { (set name : List ℕ)
@@ -133,8 +133,8 @@ fn walk_set_hyper<V: Visit>(
     }
 }
 
-/// The ctime that a file must have for its attributes to be set, if it is checked, a sattrguard3
-/// (RFC 1813, section 3.3.2).
+/// The ctime that a file must have for its attributes to be set, if that is to be checked:
+/// `sattrguard3` (RFC 1813, section 3.3.2).
 #[derive(Clone, Copy, Debug, PartialEq, Eq)]
 pub struct Guard {
     pub check: Option<Time>,

@@ -1,4 +1,4 @@
-// How far written data has to be (RFC 1813, section 3.3.7).
+//! How written data is committed (RFC 1813, section 3.3.7).
 
 ghost use Rattle.std.specs.Prelude.{◌≡◌, ◌↔◌, IfSome, IsSome, IsTrue};
 ghost use Rattle.xdr3.specs.Reading.{word_at};
@@ -7,21 +7,22 @@ ghost use Rattle.xdr3.specs.View.{Answers, MovesOn};
 
 use xdr3::{Input, Reason, Stop};
 
-/// How far written data is to be, or is, on stable storage, a stable_how (RFC 1813, section 3.3.7): 0 to 2.
+/// Which of the written data must be, or are, on stable storage: `stable_how`, 0 to 2 (RFC 1813,
+/// section 3.3.7).
 #[derive(Clone, Copy, Debug, PartialEq, Eq)]
 pub enum Stable {
-    /// It need not be.
+    /// `UNSTABLE` (0): nothing need be.
     Unstable,
-    /// The data are, and what is needed to find them.
+    /// `DATA_SYNC` (1): the data, and the metadata that is needed to find them.
     DataSync,
-    /// The data and all of the file's attributes are.
+    /// `FILE_SYNC` (2): the data and all of the file's metadata.
     FileSync,
 }
 
 impl Stable {
     ghost use Rattle.nfs3_types.specs.Stable.{stable_number, stable_words};
 
-    /// Its number.
+    /// Returns its number.
     pub fn number(self) -> u32
         ensures { result ≡ stable_number self }
     {
@@ -32,8 +33,8 @@ impl Stable {
         }
     }
 
-    /// Takes the next word, which is the number of one of these. `BadEnum` at it where it is any other, `Short`
-    /// where it is not whole.
+    /// Reads a `stable_how` from the next word. `BadEnum` if the word is none, `Short` if fewer
+    /// than four bytes are left.
     pub fn take(input: &mut Input) -> Result<Stable, Stop>
         ensures read { Answers stable_number result input.new.at
             (word_at (is_listed stable_words) Reason.BadEnum input.old.body input.old.at) }
@@ -47,7 +48,7 @@ impl Stable {
         })
     }
 
-    /// The one with this number, if there is one.
+    /// Returns the one with this number, if there is one.
     fn of_number(n: u32) -> Option<Stable>
         ensures number { IfSome result (λ stable. stable_number stable ≡ n) }
         ensures listed { IsSome result ↔ IsTrue (is_listed stable_words n) }

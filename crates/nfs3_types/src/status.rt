@@ -1,4 +1,4 @@
-// What a call answers: a status, and results by it (RFC 1813, section 2.6).
+//! Statuses, and results that depend on them (RFC 1813, section 2.6).
 
 ghost use Rattle.std.specs.Prelude.{◌≡◌, ◌≢◌, ◌↔◌, IfSome, IsSome, IsTrue};
 ghost use Rattle.xdr3.specs.Reading.{word_at};
@@ -8,80 +8,80 @@ ghost use Rattle.xdr3.specs.View.{Answers, MovesOn};
 use std::alloc::{AllocError, Global};
 use xdr3::{Field, GetError, Input, Reason, Stop, Visit, Walk, Xdr, walk_fields};
 
-/// What a call of an NFS procedure answers, an nfsstat3 (RFC 1813, section 2.6). 29 numbers are listed.
+/// The status of a call of an NFS procedure: `nfsstat3`, one of 29 numbers (RFC 1813, section 2.6).
 #[derive(Clone, Copy, Debug, PartialEq, Eq)]
 pub enum Status {
-    /// Done, 0.
+    /// `NFS3_OK` (0): the call succeeded.
     Ok,
-    /// Not done, one of the other 28 numbers.
+    /// The call failed: one of the other 28 numbers.
     Failed(Failure),
 }
 
-/// Why a call of an NFS procedure failed: an nfsstat3 that is not 0 (RFC 1813, section 2.6).
+/// Why a call of an NFS procedure failed: an `nfsstat3` other than 0 (RFC 1813, section 2.6).
 #[derive(Clone, Copy, Debug, PartialEq, Eq)]
 pub enum Failure {
-    /// Not owner.
+    /// `NFS3ERR_PERM` (1): the caller is not the owner.
     Perm,
-    /// No such file or directory.
+    /// `NFS3ERR_NOENT` (2): no such file or directory.
     NoEnt,
-    /// I/O error.
+    /// `NFS3ERR_IO` (5): an I/O error.
     Io,
-    /// No such device or address.
+    /// `NFS3ERR_NXIO` (6): no such device or address.
     Nxio,
-    /// Permission denied.
+    /// `NFS3ERR_ACCES` (13): permission denied.
     Acces,
-    /// The file exists.
+    /// `NFS3ERR_EXIST` (17): the file exists.
     Exist,
-    /// A hard link across devices.
+    /// `NFS3ERR_XDEV` (18): a hard link across devices.
     XDev,
-    /// No such device.
+    /// `NFS3ERR_NODEV` (19): no such device.
     NoDev,
-    /// Not a directory.
+    /// `NFS3ERR_NOTDIR` (20): not a directory.
     NotDir,
-    /// Is a directory.
+    /// `NFS3ERR_ISDIR` (21): a directory, where none is allowed.
     IsDir,
-    /// Invalid argument.
+    /// `NFS3ERR_INVAL` (22): an invalid argument.
     Inval,
-    /// File too large.
+    /// `NFS3ERR_FBIG` (27): the file is too large.
     FBig,
-    /// No space left on device.
+    /// `NFS3ERR_NOSPC` (28): no space is left on the device.
     NoSpc,
-    /// Read-only file system.
+    /// `NFS3ERR_ROFS` (30): the file system is read-only.
     RoFs,
-    /// Too many hard links.
+    /// `NFS3ERR_MLINK` (31): too many hard links.
     MLink,
-    /// The name was too long.
+    /// `NFS3ERR_NAMETOOLONG` (63): the name is too long.
     NameTooLong,
-    /// The directory is not empty.
+    /// `NFS3ERR_NOTEMPTY` (66): the directory is not empty.
     NotEmpty,
-    /// The quota is exceeded.
+    /// `NFS3ERR_DQUOT` (69): the quota is exceeded.
     DQuot,
-    /// Invalid file handle: its file is gone.
+    /// `NFS3ERR_STALE` (70): the handle's file is gone.
     Stale,
-    /// Too many levels of remote in the path.
+    /// `NFS3ERR_REMOTE` (71): too many levels of remote in the path.
     Remote,
-    /// Illegal file handle.
+    /// `NFS3ERR_BADHANDLE` (10001): the file handle is not valid.
     BadHandle,
-    /// The guard of SETATTR does not fit the file's ctime.
+    /// `NFS3ERR_NOT_SYNC` (10002): the guard of SETATTR differs from the file's ctime.
     NotSync,
-    /// Stale cookie of READDIR or READDIRPLUS.
+    /// `NFS3ERR_BAD_COOKIE` (10003): the cookie of READDIR or READDIRPLUS is stale.
     BadCookie,
-    /// The operation is not supported.
+    /// `NFS3ERR_NOTSUPP` (10004): the operation is not supported.
     NotSupp,
-    /// Buffer or request is too small.
+    /// `NFS3ERR_TOOSMALL` (10005): the buffer or the request is too small.
     TooSmall,
-    /// A fault of the server.
+    /// `NFS3ERR_SERVERFAULT` (10006): an error in the server that no other status describes.
     ServerFault,
-    /// A type of object that the server does not support.
+    /// `NFS3ERR_BADTYPE` (10007): a type of object that the server does not support.
     BadType,
-    /// The server works on it: try again later.
+    /// `NFS3ERR_JUKEBOX` (10008): the server has begun the work; the caller tries again later.
     Jukebox,
 }
 
 impl Status {
     ghost use Rattle.nfs3_types.specs.Status.{status_number, status_words};
 
-    /// Its number.
+    /// Returns its number.
     pub fn number(self) -> u32
         ensures { result ≡ status_number self }
     {
@@ -91,8 +91,8 @@ impl Status {
         }
     }
 
-    /// Takes the next word, which is the number of a status. `BadEnum` at it where it is any other, `Short`
-    /// where it is not whole.
+    /// Reads a status from the next word. `BadEnum` if the word is not a status, `Short` if fewer
+    /// than four bytes are left.
     pub fn take(input: &mut Input) -> Result<Status, Stop>
         ensures read { Answers status_number result input.new.at
             (word_at (is_listed status_words) Reason.BadEnum input.old.body input.old.at) }
@@ -106,7 +106,7 @@ impl Status {
         })
     }
 
-    /// The one with this number, if there is one.
+    /// Returns the status with this number, if there is one.
     fn of_number(n: u32) -> Option<Status>
         ensures number { IfSome result (λ status. status_number status ≡ n) }
         ensures listed { IsSome result ↔ IsTrue (is_listed status_words n) }
@@ -121,7 +121,7 @@ impl Status {
 impl Failure {
     ghost use Rattle.nfs3_types.specs.Status.{failure_number, status_words};
 
-    /// Its number.
+    /// Returns its number.
     pub fn number(self) -> u32
         ensures { result ≡ failure_number self }
     {
@@ -157,7 +157,7 @@ impl Failure {
         }
     }
 
-    /// The one with this number, if there is one.
+    /// Returns the failure with this number, if there is one.
     fn of_number(n: u32) -> Option<Failure>
         ensures number { IfSome result (λ failure. failure_number failure ≡ n) }
         ensures listed { IsSome result ↔ (IsTrue (is_listed status_words n) × (n ≢ 0)) }
@@ -219,8 +219,8 @@ impl Walk for Status {
     }
 }
 
-/// The results of a call of an NFS procedure, by the status: what was done, or what is told of the failure
-/// (RFC 1813, section 3.3).
+/// The results of a call of an NFS procedure, which depend on its status: those of a success, or
+/// those of a failure (RFC 1813, section 3.3).
 #[derive(Clone, Copy, Debug, PartialEq, Eq, Drop)]
 pub enum Res<T, F> {
     Done(T),

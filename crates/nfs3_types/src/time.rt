@@ -1,4 +1,4 @@
-// Times (RFC 1813, sections 2.5 and 2.6). Their items are named after the place where they stand.
+//! Times (RFC 1813, sections 2.5 and 2.6). Their items are named after the time that they are.
 
 ghost use Rattle.std.specs.Prelude.{ℕ, List, OnErr, OnOk};
 ghost use Rattle.xdr3.specs.Reading.{reading};
@@ -8,7 +8,7 @@ ghost use Rattle.xdr3.specs.Visit.{Adds, AddsSome, AreWithinLimit};
 use std::alloc::AllocError;
 use xdr3::{Field, Input, Stop, Visit, walk_fields};
 
-/// A time: seconds and nanoseconds since 1970-01-01 00:00 UTC, an nfstime3 (RFC 1813, section 2.5).
+/// A time: seconds and nanoseconds since 1970-01-01 00:00 UTC, `nfstime3` (RFC 1813, section 2.5).
 #[derive(Clone, Copy, Debug, PartialEq, Eq)]
 pub struct Time {
     pub sec: u32,
@@ -19,7 +19,7 @@ impl Time {
     ghost use Rattle.nfs3_types.specs.Shapes.{time};
     ghost use Rattle.nfs3_types.specs.Times.{time_items};
 
-    /// Takes the next two words. `Short` at the one that is not whole.
+    /// Reads a time from the next two words. `Short` at the one that is not whole.
     #[tactic(auto, unfolding(xdr3::specs::Reading::reading, crate::specs::Shapes::time))]
     pub fn take(input: &mut Input) -> Result<Time, Stop>
         ensures read { (sec nsec : List ℕ)
@@ -33,8 +33,8 @@ impl Time {
     }
 }
 
-/// How a time is set (RFC 1813, section 2.6): it is kept (0), it becomes the server's time (1), or the
-/// one that the caller gives (2).
+/// How a time is set (RFC 1813, section 2.6): not at all (0), to the server's time (1), or to the
+/// time that the caller gives (2).
 #[derive(Clone, Copy, Debug, PartialEq, Eq)]
 pub enum TimeHow {
     Keep,
@@ -46,7 +46,8 @@ impl TimeHow {
     ghost use Rattle.nfs3_types.specs.Shapes.{time_how};
     ghost use Rattle.nfs3_types.specs.Times.{time_how_items};
 
-    /// Takes the next word, and on 2 a time. `BadEnum` at a word over 2, `Short` where one is not whole.
+    /// Reads a word, and a time if it is 2. `BadEnum` at a word over 2, `Short` at a word that is
+    /// not whole.
     #[tactic(auto, unfolding(xdr3::specs::Reading::reading, crate::specs::Shapes::time_how))]
     pub fn take(input: &mut Input) -> Result<TimeHow, Stop>
         ensures read { (name sec nsec : List ℕ)
@@ -64,7 +65,7 @@ impl TimeHow {
         }
     }
 
-    /// Visits the word, and on 2 the time's words.
+    /// Visits the word, and the time's words if it is 2.
     pub(crate) fn walk<V: Visit>(
         self,
         name: &'static str,
@@ -105,7 +106,7 @@ impl Times {
     ghost use Rattle.nfs3_types.specs.Shapes.{times};
     ghost use Rattle.nfs3_types.specs.machinery.Times.{times_items};
 
-    /// Takes the next six words. `Short` at the one that is not whole.
+    /// Reads the times from the next six words. `Short` at the one that is not whole.
     #[tactic(auto, unfolding(xdr3::specs::Reading::reading, crate::specs::Shapes::times))]
     pub fn take(input: &mut Input) -> Result<Times, Stop>
         ensures read { Answers times_items result input.new.at

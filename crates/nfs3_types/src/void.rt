@@ -1,4 +1,4 @@
-// No data.
+//! No data.
 
 use std::alloc::{AllocError, Global};
 use xdr3::{GetError, Input, Visit, Walk, Xdr, walk_fields};
@@ -14,7 +14,7 @@ impl<'a> Xdr<'a> for Void {
 
     #[tactic(auto, unfolding(xdr3::specs::Reading::reading))]
     fn get(_alloc: Global, input: &mut Input<'a>) -> Result<Void, GetError> {
-        // The prover takes from this that the place is within the body.
+        // The prover concludes from this that the position is within the body.
         input.at();
         Ok(Void)
     }

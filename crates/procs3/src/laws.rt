@@ -7,15 +7,15 @@ ghost use Rattle.xdr3.specs.Item.{AreBytes};
 ghost use Rattle.xdr3.specs.Laws.{IsDecided};
 ghost use Rattle.xdr3.specs.Layout.{ReadsLayout, RefusesLayout};
 
-/// For each procedure and each list of bytes one holds: they begin with arguments in one way, or they
-/// are refused at one place for one reason.
+/// For each procedure and each list of bytes exactly one holds: the bytes begin with arguments, in
+/// one way only; or they are refused at one position for one reason.
 pub fn arguments_decided()
     ensures { (id : ProcId) (bytes : List ℕ) → AreBytes bytes
         → IsDecided (ReadsLayout (arguments_of id)) (RefusesLayout (arguments_of id)) bytes }
 {}
 
-/// For each procedure and each list of bytes one holds: they begin with results in one way, or they
-/// are refused at one place for one reason.
+/// For each procedure and each list of bytes exactly one holds: the bytes begin with results, in
+/// one way only; or they are refused at one position for one reason.
 pub fn results_decided()
     ensures { (id : ProcId) (bytes : List ℕ) → AreBytes bytes
         → IsDecided (ReadsLayout (results_of id)) (RefusesLayout (results_of id)) bytes }

@@ -1,4 +1,5 @@
-//! Arguments and results by procedure, told as they are read (RFC 1813, sections 3.3 and 5.2).
+//! Arguments and results by procedure, which are passed to a visitor as they are read (RFC 1813,
+//! sections 3.3 and 5.2).
 #![tactic(auto)]
 
 pub mod laws;

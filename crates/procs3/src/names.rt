@@ -1,12 +1,12 @@
-// The names of procedures.
+//! The names of procedures.
 
 ghost use Rattle.std.specs.Prelude.{◌≡◌, IfSome, IsNone, Some, None};
 ghost use Rattle.procs3.specs.Names.{mount_name, name_of_procedure, nfs_name};
 
 use rpc_head::ProcId;
 
-/// The name of a procedure of NFS version 3 or MOUNT version 3 (RFC 1813, sections 3.3 and 5.2), and none
-/// of any other.
+/// Returns the name of a procedure of NFS version 3 or MOUNT version 3, and `None` for any other
+/// (RFC 1813, sections 3.3 and 5.2).
 pub fn proc_name(id: ProcId) -> Option<&'static str>
     ensures name { IfSome result (λ name. name_of_procedure id ≡ Some name.now) }
     ensures none { IsNone result → name_of_procedure id ≡ None }
@@ -18,7 +18,7 @@ pub fn proc_name(id: ProcId) -> Option<&'static str>
     }
 }
 
-/// The name of a procedure of NFS version 3.
+/// Returns the name of a procedure of NFS version 3.
 fn nfs_name(proc_no: u32) -> Option<&'static str>
     ensures name { IfSome result (λ name. nfs_name proc_no ≡ Some name.now) }
     ensures none { IsNone result → nfs_name proc_no ≡ None }
@@ -50,7 +50,7 @@ fn nfs_name(proc_no: u32) -> Option<&'static str>
     }
 }
 
-/// The name of a procedure of MOUNT version 3.
+/// Returns the name of a procedure of MOUNT version 3.
 fn mount_name(proc_no: u32) -> Option<&'static str>
     ensures name { IfSome result (λ name. mount_name proc_no ≡ Some name.now) }
     ensures none { IsNone result → mount_name proc_no ≡ None }

@@ -1,4 +1,5 @@
-// Arguments and results that a visitor is told as they are read (RFC 1813, sections 3.3 and 5.2).
+//! Arguments and results that are passed to a visitor as they are read (RFC 1813, sections 3.3 and
+//! 5.2).
 
 ghost use Rattle.std.specs.Prelude.{IfErr, OnOk};
 ghost use Rattle.procs3.specs.machinery.ShapeTails.{directory_counts, fsinfo_numbers, fsinfo_parts, fsstat_numbers, fsstat_parts, pathconf_limits, pathconf_names, pathconf_parts, range, range_parts, write_parts, written};

@@ -1,5 +1,5 @@
-// Items with long names, told as they are read: the prover follows a function's name, and not so many letters
-// (RFC 1813, sections 3.3.7 to 3.3.20).
+//! Items with long names, passed to a visitor as they are read: the prover follows a function's
+//! name, and not that many letters (RFC 1813, sections 3.3.7 to 3.3.20).
 
 ghost use Rattle.std.specs.Prelude.{IfErr, IfOk, OnOk};
 ghost use Rattle.nfs3_types.specs.Names.{names};

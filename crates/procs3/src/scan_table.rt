@@ -1,4 +1,5 @@
-// Arguments and results by procedure, told as they are read (RFC 1813, sections 3.3 and 5.2).
+//! Arguments and results by procedure, passed to a visitor as they are read (RFC 1813, sections 3.3
+//! and 5.2).
 
 ghost use Rattle.std.specs.Prelude.{◌≤◌, IfErr, OnOk};
 ghost use Rattle.procs3.specs.Table.{arguments_of, mount_arguments, mount_results_of, nfs_arguments, nfs_results, results_of};
@@ -15,13 +16,14 @@ use nfs3_types::{DirOp, Fattr, Handle, PostOpAttr, Res, Void, Wcc};
 use rpc_head::ProcId;
 use xdr3::{GetError, Input, Scan, Visit, scan_rest};
 
-/// Reads the arguments of a call of this procedure, as its layout says, and tells each
-/// item to the visitor as it is read (RFC 1813, sections 3.3 and 5.2). Of a procedure of any other
-/// program it is all bytes that are left. After an error what the visitor holds is open.
+/// Reads the arguments of a call of this procedure, and passes each item to the visitor as it is
+/// read (RFC 1813, sections 3.3 and 5.2). For a procedure of any other program, all bytes that are
+/// left are one item. After an error the contents of the visitor are unspecified.
 ///
 /// # Errors
 ///
-/// `Stop` with the place and the reason of the first fault, and `Memory` where the visitor ran out of it.
+/// - `Stop` with the position and the reason of the first fault.
+/// - `Memory` if the visitor fails.
 #[tactic(auto, using(xdr3::proofs::ScanLemmas::layouts), unfolding(crate::specs::Table::arguments_of, nfs3_types::specs::Names::names))]
 pub fn scan_arguments<V: Visit>(
     id: ProcId,
@@ -39,7 +41,7 @@ pub fn scan_arguments<V: Visit>(
     }
 }
 
-/// Of a procedure of NFS version 3 (RFC 1813, section 3.3).
+/// Those of a procedure of NFS version 3 (RFC 1813, section 3.3).
 #[tactic(auto, using(xdr3::proofs::ScanLemmas::layouts), unfolding(nfs3_types::specs::Names::names))]
 fn scan_nfs_arguments<V: Visit>(
     proc_no: u32,
@@ -63,7 +65,7 @@ fn scan_nfs_arguments<V: Visit>(
     }
 }
 
-/// Of CREATE, or a procedure after it.
+/// Those of CREATE, or a procedure after it.
 #[tactic(auto, using(xdr3::proofs::ScanLemmas::layouts), unfolding(nfs3_types::specs::Names::names))]
 fn scan_nfs_arguments_from_create<V: Visit>(
     proc_no: u32,
@@ -87,7 +89,7 @@ fn scan_nfs_arguments_from_create<V: Visit>(
     }
 }
 
-/// Of LINK, or a procedure after it.
+/// Those of LINK, or a procedure after it.
 #[tactic(auto, using(xdr3::proofs::ScanLemmas::layouts), unfolding(nfs3_types::specs::Names::names))]
 fn scan_nfs_arguments_from_link<V: Visit>(
     proc_no: u32,
@@ -111,7 +113,7 @@ fn scan_nfs_arguments_from_link<V: Visit>(
     }
 }
 
-/// Of a procedure of MOUNT version 3 (RFC 1813, section 5.2).
+/// Those of a procedure of MOUNT version 3 (RFC 1813, section 5.2).
 #[tactic(auto, using(xdr3::proofs::ScanLemmas::layouts), unfolding(nfs3_types::specs::Names::names))]
 fn scan_mount_arguments<V: Visit>(
     proc_no: u32,
@@ -133,13 +135,14 @@ fn scan_mount_arguments<V: Visit>(
     }
 }
 
-/// Reads the results of a successful call of this procedure, as its layout says, and tells each
-/// item to the visitor as it is read (RFC 1813, sections 3.3 and 5.2). Of a procedure of any other
-/// program it is all bytes that are left. After an error what the visitor holds is open.
+/// Reads the results of a successful call of this procedure, and passes each item to the visitor as
+/// it is read (RFC 1813, sections 3.3 and 5.2). For a procedure of any other program, all bytes
+/// that are left are one item. After an error the contents of the visitor are unspecified.
 ///
 /// # Errors
 ///
-/// `Stop` with the place and the reason of the first fault, and `Memory` where the visitor ran out of it.
+/// - `Stop` with the position and the reason of the first fault.
+/// - `Memory` if the visitor fails.
 #[tactic(auto, using(xdr3::proofs::ScanLemmas::layouts), unfolding(crate::specs::Table::results_of, nfs3_types::specs::Names::names))]
 pub fn scan_results<V: Visit>(
     id: ProcId,
@@ -157,7 +160,7 @@ pub fn scan_results<V: Visit>(
     }
 }
 
-/// Of a procedure of NFS version 3 (RFC 1813, section 3.3).
+/// Those of a procedure of NFS version 3 (RFC 1813, section 3.3).
 #[tactic(auto, using(xdr3::proofs::ScanLemmas::layouts), unfolding(nfs3_types::specs::Names::names))]
 fn scan_nfs_results<V: Visit>(
     proc_no: u32,
@@ -181,7 +184,7 @@ fn scan_nfs_results<V: Visit>(
     }
 }
 
-/// Of CREATE, or a procedure after it.
+/// Those of CREATE, or a procedure after it.
 #[tactic(auto, using(xdr3::proofs::ScanLemmas::layouts), unfolding(nfs3_types::specs::Names::names))]
 fn scan_nfs_results_from_create<V: Visit>(
     proc_no: u32,
@@ -205,7 +208,7 @@ fn scan_nfs_results_from_create<V: Visit>(
     }
 }
 
-/// Of LINK, or a procedure after it.
+/// Those of LINK, or a procedure after it.
 #[tactic(auto, using(xdr3::proofs::ScanLemmas::layouts), unfolding(nfs3_types::specs::Names::names))]
 fn scan_nfs_results_from_link<V: Visit>(
     proc_no: u32,
@@ -229,7 +232,7 @@ fn scan_nfs_results_from_link<V: Visit>(
     }
 }
 
-/// Of a procedure of MOUNT version 3 (RFC 1813, section 5.2).
+/// Those of a procedure of MOUNT version 3 (RFC 1813, section 5.2).
 #[tactic(auto, using(xdr3::proofs::ScanLemmas::layouts), unfolding(nfs3_types::specs::Names::names))]
 fn scan_mount_results<V: Visit>(
     proc_no: u32,

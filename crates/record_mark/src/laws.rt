@@ -5,8 +5,8 @@ ghost use Rattle.record_mark.specs.Machine.{Next, Run, after, Runs, Stops};
 ghost use Rattle.record_mark.specs.RecordMark.{IsRecord, IsTooLong, IsUnfinished, HasBody, Marks};
 ghost use Rattle.record_mark.specs.Joining.{Joining, Joined, Between, Whole, TooLong, join_next, HasJoined, EndsRecord};
 
-/// The machine that joins fragments ends a record exactly where it is whole, refuses it exactly where
-/// it is too long, and runs exactly where one has begun (RFC 5531, section 11).
+/// The state machine that joins fragments ends a record exactly when it is whole, refuses it
+/// exactly when it is too long, and goes on exactly while one has begun (RFC 5531, section 11).
 pub fn joining()
     ensures whole { (bytes body : List ℕ)
         → IsRecord bytes body ↔ (after join_next (Runs Between) bytes ≡ Stops (Whole body)) }
@@ -16,7 +16,8 @@ pub fn joining()
         → HasJoined bytes s ↔ (after join_next (Runs Between) bytes ≡ Runs s) }
 {}
 
-/// Bytes are at most one of these, and with one body or place: a record, too long, or unfinished.
+/// A list of bytes is at most one of these, with one body or position: a record, too long, or
+/// unfinished.
 pub fn one_outcome()
     ensures body { (bytes body other : List ℕ) → HasBody bytes body → HasBody bytes other
         → body ≡ other }
@@ -26,8 +27,8 @@ pub fn one_outcome()
     ensures long { (bytes body : List ℕ) (at : ℕ) → IsTooLong bytes at → HasBody bytes body → ⊥ }
 {}
 
-/// Unfinished bytes are what a record begins with, or what one begins with that is too long, short of
-/// its last byte.
+/// Unfinished bytes are what a record begins with, or what one that is too long begins with, short
+/// of its last byte.
 pub fn beginnings()
     ensures goes_on { (bytes body : List ℕ) → IsUnfinished bytes body → (more : List ℕ)
         × (end : Joined) × EndsRecord (bytes ++ more) end }
@@ -35,13 +36,13 @@ pub fn beginnings()
         → EndsRecord (front ++ byte ∷ back) end → (body : List ℕ) × IsUnfinished front body }
 {}
 
-/// The pieces in which the bytes come play no part, for this machine and for every other.
+/// The pieces in which the bytes come do not matter, for this state machine and for any other.
 pub fn pieces<S, X>()
     ensures { (next : S → ℕ → Next S X) (run : Run S X) (front back : List ℕ)
         → after next run (front ++ back) ≡ after next (after next run front) back }
 {}
 
-/// A stream is records in one way at most: it has at most one list of bodies.
+/// A stream is a sequence of records in at most one way: it has at most one list of bodies.
 pub fn one_list()
     ensures { (stream : List ℕ) (bodies others : List (List ℕ)) → Marks stream bodies
         → Marks stream others → bodies ≡ others }

@@ -1,10 +1,11 @@
-// Words that may be cut between two pieces.
+//! Words that may be cut between two pieces.
 
 ghost use Rattle.std.specs.Prelude.{◌≡◌, ◌≤◌, ◌<◌, ◌+◌, ◌++◌, [], length, take};
 
 use byteorder::{BigEndian, ByteOrder};
 
-/// The bytes of a word so far, fewer than four. A word is four bytes, big-endian (RFC 4506, section 4.2).
+/// The bytes of a word so far, fewer than four. A word has four bytes, the highest first (RFC 4506,
+/// section 4.2).
 #[derive(Clone, Copy)]
 pub struct WordPart {
     // Its first bytes, as the highest of a number: a number is copied at once, in an enum too.
@@ -24,15 +25,15 @@ pub enum Word {
 impl WordPart {
     ghost use Rattle.record_mark.specs.WordPart.{bytes_so_far, TakesWord};
 
-    /// Before a word's first byte.
+    /// Returns a word without its first byte.
     pub fn new() -> WordPart
         ensures { bytes_so_far result ≡ [] }
     {
         WordPart { word: 0, count: 0 }
     }
 
-    /// Takes bytes of `rest`, which has some, up to the word's end: how many, and the part or the whole
-    /// word that they make.
+    /// Takes bytes of `rest`, which has some, up to the word's end. Returns how many, and the part
+    /// or the whole word that they make.
     #[inline(always)]
     pub fn taken(self, rest: &[u8]) -> (usize, Word)
         requires { 0 < length rest.now }
@@ -47,7 +48,7 @@ impl WordPart {
         self.continued(rest)
     }
 
-    /// The same, for a word that may be cut.
+    /// Does the same for a word that may be cut.
     fn continued(self, rest: &[u8]) -> (usize, Word)
         requires { 0 < length rest.now }
         ensures some { 0 < result.0 }
@@ -68,7 +69,7 @@ impl WordPart {
     }
 }
 
-/// The word with its first `count` bytes kept and `more` after them.
+/// Returns the first `count` bytes of the word, followed by `more`.
 fn with_more(mut word: [u8; 4], count: usize, more: &[u8]) -> [u8; 4]
     requires { count + length more.now ≤ 4 }
     ensures { take (count + length more.now) result ≡ take count word ++ more.now }

@@ -1,11 +1,11 @@
-// The head of a call (RFC 5531, section 9).
+//! The head of a call (RFC 5531, section 9).
 
 use crate::credential::{Cred, Verf};
 use crate::word::listed_or;
 use std::alloc::{AllocError, Global};
 use xdr3::{Field, GetError, Input, Reason, Visit, Walk, Xdr, walk_fields};
 
-/// Which procedure a call is for: the program's number, its version, and the procedure's number.
+/// A procedure: its program's number and version, and its own number.
 #[derive(Clone, Copy, Debug, PartialEq, Eq, Hash)]
 pub struct ProcId {
     pub prog: u32,
@@ -14,7 +14,7 @@ pub struct ProcId {
 }
 
 /// The head of a call, from the RPC version to the verifier. A version other than 2 is refused as
-/// `RpcVersion` at its word.
+/// `RpcVersion`, at its word.
 #[derive(Clone, Copy)]
 pub struct CallHead<'a> {
     pub id: ProcId,

@@ -1,4 +1,4 @@
-// Credentials and verifiers (RFC 5531, sections 8.2, 9 and appendix A).
+//! Credentials and verifiers (RFC 5531, sections 8.2, 9 and appendix A).
 
 ghost use Rattle.std.specs.Prelude.{◌≡◌, ◌≤◌, length, OnErr, OnOk};
 ghost use Rattle.xdr3.specs.Reading.{reading};
@@ -23,7 +23,7 @@ impl Gids {
     ghost use Rattle.rpc_head.specs.Shapes.{gids};
     ghost use Rattle.xdr3.specs.View.{Answers};
 
-    /// The groups in order.
+    /// Returns the groups in order.
     pub fn as_slice(&self) -> &[u32]
         ensures words { result.now ≡ groups_of self.now }
         ensures few { length result.now ≤ 16 }
@@ -64,11 +64,11 @@ impl Gids {
     }
 }
 
-/// The credential of flavor AUTH_SYS from its length word on: a stamp, the caller's machine name (0 to
-/// 255 bytes), its user, its group and at most 16 further groups.
+/// The credential of flavor AUTH_SYS, from its length word on: a stamp, the caller's machine name
+/// (0 to 255 bytes), its user, its group and at most 16 further groups.
 ///
-/// The body has just as many bytes as the length word says, at most 400. A part that is not whole in
-/// these, and a byte that is left over, are `AuthLength`.
+/// The body has exactly as many bytes as the length word says, at most 400. If a part passes the
+/// last of these bytes, or if a byte is left over, that is `AuthLength`.
 #[derive(Clone, Copy)]
 pub struct AuthSys<'a> {
     pub stamp: u32,
@@ -83,7 +83,7 @@ impl AuthSys<'_> {
     ghost use Rattle.xdr3.specs.Item.{zero_spelling};
     ghost use Rattle.rpc_head.specs.Credentials.{parameter_items};
 
-    /// How many bytes the body has.
+    /// Returns how many bytes the body has.
     fn body_len(&self) -> u32
         requires { AreWithinLimit (parameter_items self.now) }
         ensures { result ≡ length (zero_spelling (parameter_items self.now)) }
@@ -120,7 +120,7 @@ impl<'a> Walk for AuthSys<'a> {
     }
 }
 
-/// What stands in the body of an AUTH_SYS credential.
+/// The parameters in the body of an AUTH_SYS credential.
 #[derive(Clone, Copy)]
 pub(crate) struct Parameters<'a>(AuthSys<'a>);
 
@@ -165,8 +165,8 @@ impl<'a> Walk for Parameters<'a> {
     }
 }
 
-/// A credential, by its flavor: the body of AUTH_NONE (0), at most 400 bytes, or that of AUTH_SYS (1).
-/// Any other flavor is refused as `Flavor` at its word.
+/// A credential: a body of at most 400 bytes for AUTH_NONE (0), or the parameters of AUTH_SYS (1).
+/// Any other flavor is refused as `Flavor`, at its word.
 #[derive(Clone, Copy)]
 pub enum Cred<'a> {
     Plain(&'a [u8]),
@@ -213,8 +213,8 @@ impl<'a> Walk for Cred<'a> {
     }
 }
 
-/// A verifier of flavor AUTH_NONE (0): a body of at most 400 bytes. Any other flavor is refused as
-/// `Flavor` at its word.
+/// A verifier of flavor AUTH_NONE (0), with a body of at most 400 bytes. Any other flavor is
+/// refused as `Flavor`, at its word.
 #[derive(Clone, Copy)]
 pub struct Verf<'a> {
     pub body: &'a [u8],

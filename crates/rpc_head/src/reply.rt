@@ -1,4 +1,4 @@
-// The head of a reply (RFC 5531, section 9).
+//! The head of a reply (RFC 5531, section 9).
 
 use crate::credential::Verf;
 use std::alloc::{AllocError, Global};
@@ -63,8 +63,8 @@ impl Walk for Accept {
     }
 }
 
-/// Why a call was denied: the RPC versions that the server has (reject_stat 0), or what is wrong with
-/// the caller's credential (reject_stat 1), an auth_stat of 0 to 14.
+/// Why a call was denied: the RPC versions that the server has (reject_stat 0), or what is wrong
+/// with the caller's credential (reject_stat 1), an auth_stat of 0 to 14.
 #[derive(Clone, Copy, Debug, PartialEq, Eq)]
 pub enum Deny {
     RpcMismatch { low: u32, high: u32 },
@@ -117,8 +117,8 @@ impl Walk for Deny {
     }
 }
 
-/// The head of a reply, from its reply_stat up to the results: accepted (0) with the server's verifier,
-/// or denied (1).
+/// The head of a reply, from its reply_stat up to the results: accepted (0) with the server's
+/// verifier, or denied (1).
 #[derive(Clone, Copy)]
 pub enum ReplyHead<'a> {
     Accepted(Verf<'a>, Accept),

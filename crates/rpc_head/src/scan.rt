@@ -1,4 +1,5 @@
-// Parts of heads that a visitor is told as they are read (RFC 5531, sections 8.2 and 9, appendix A).
+//! Parts of heads that are passed to a visitor as they are read (RFC 5531, sections 8.2 and 9,
+//! appendix A).
 
 ghost use Rattle.std.specs.Prelude.{IfErr, IfOk, OnOk};
 ghost use Rattle.rpc_head.specs.HeadScan.{ScansCallHead, ScansReplyHead};
@@ -18,7 +19,8 @@ use xdr3::{
     scan_var, scan_word,
 };
 
-/// One of these words; any other is refused for the reason.
+/// Reads a word that must be one of these, and visits it. Any other is refused for the given
+/// reason.
 #[inline]
 #[tactic(auto, unfolding(xdr3::specs::Scan::ScansWord, xdr3::specs::Scan::StopsWord))]
 pub(crate) fn scan_listed_or<V: Visit>(
@@ -171,7 +173,7 @@ impl Scan for Group {
     }
 }
 
-/// At most 16 groups (RFC 5531, appendix A).
+/// Reads at most 16 groups and visits them (RFC 5531, appendix A).
 #[inline(always)]
 #[tactic(auto, unfolding(crate::specs::Shapes::gids, crate::specs::Names::head_names))]
 fn scan_gids<V: Visit>(input: &mut Input, visitor: &mut V) -> Result<(), GetError>
@@ -272,14 +274,16 @@ impl Scan for Deny {
     }
 }
 
-// ---- heads, which also answer what chooses the rest of their message
+// ---- heads, which also return what chooses the rest of their message
 
-/// The head of a call, from the RPC version to the verifier, and its procedure (RFC 5531, section 9).
-/// After an error what the visitor holds is open.
+/// Reads the head of a call, from the RPC version to the verifier, passes its items to the visitor,
+/// and returns its procedure (RFC 5531, section 9). After an error the contents of the visitor are
+/// unspecified.
 ///
 /// # Errors
 ///
-/// `Stop` with the place and the reason of the first fault, and `Memory` where the visitor ran out of it.
+/// - `Stop` with the position and the reason of the first fault.
+/// - `Memory` if the visitor fails.
 #[tactic(auto, using(xdr3::proofs::ScanLemmas::scans, crate::proofs::HeadScanLemmas::tails), unfolding(crate::specs::Shapes::call_head, crate::specs::Names::head_names))]
 pub fn scan_call_head<V: Visit>(input: &mut Input, visitor: &mut V) -> Result<ProcId, GetError>
     ensures ok { IfOk result
@@ -309,12 +313,14 @@ fn scan_credentials<V: Visit>(input: &mut Input, visitor: &mut V) -> Result<(), 
     Verf::scan(input, visitor)
 }
 
-/// The head of a reply, from its reply_stat up to the results, and whether results follow: those of an
-/// accepted success (RFC 5531, section 9). After an error what the visitor holds is open.
+/// Reads the head of a reply, from its reply_stat up to the results, and passes its items to the
+/// visitor. Returns whether results follow, as they do after an accepted success (RFC 5531, section
+/// 9). After an error the contents of the visitor are unspecified.
 ///
 /// # Errors
 ///
-/// `Stop` with the place and the reason of the first fault, and `Memory` where the visitor ran out of it.
+/// - `Stop` with the position and the reason of the first fault.
+/// - `Memory` if the visitor fails.
 #[tactic(auto, using(xdr3::proofs::ScanLemmas::scans), unfolding(crate::specs::Shapes::reply_head, crate::specs::Shapes::verifier))]
 pub fn scan_reply_head<V: Visit>(input: &mut Input, visitor: &mut V) -> Result<bool, GetError>
     ensures ok { IfOk result (λ success. ScansReplyHead V.stands success input.old input.new
@@ -332,7 +338,8 @@ pub fn scan_reply_head<V: Visit>(input: &mut Input, visitor: &mut V) -> Result<b
     Ok(stat == 0)
 }
 
-/// What became of an accepted call, and its accept_stat (RFC 5531, section 9).
+/// Reads and visits what became of an accepted call, and returns its accept_stat (RFC 5531, section
+/// 9).
 #[inline(always)]
 #[tactic(auto, using(xdr3::proofs::ScanLemmas::scans), unfolding(crate::specs::Shapes::accept, crate::specs::Names::head_names))]
 fn scan_accept<V: Visit>(input: &mut Input, visitor: &mut V) -> Result<u32, GetError>

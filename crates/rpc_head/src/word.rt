@@ -1,4 +1,4 @@
-// Words that are refused for a reason of their own.
+//! Words that are refused for a reason of their own.
 
 ghost use Rattle.xdr3.specs.Reading.{word_at};
 ghost use Rattle.xdr3.specs.Shape.{is_listed};
@@ -6,7 +6,7 @@ ghost use Rattle.xdr3.specs.View.{Answers, MovesOn};
 
 use xdr3::{Input, Reason, Stop};
 
-/// The next word, which is one of these; any other is refused for the reason.
+/// Reads a word that must be one of these. Any other is refused for the given reason.
 pub(crate) fn listed_or(input: &mut Input, words: &[u32], reason: Reason) -> Result<u32, Stop>
     ensures read { Answers (λ n. n) result input.new.at
         (word_at (is_listed words.now) reason input.old.body input.old.at) }

@@ -1,4 +1,4 @@
-// The arguments of calls.
+//! The arguments of calls.
 
 ghost use Rattle.std.specs.Prelude.{◌≡◌, ◌≤◌, IfOk};
 ghost use Rattle.typed3.specs.Items.{args_items};
@@ -83,9 +83,9 @@ pub enum Args<'a> {
 }
 
 impl<'a> Args<'a> {
-    /// Reads the arguments of a call of this procedure, as its layout says: their items stand between
-    /// the old place and the new one, or the error says where and why the bytes are refused.
-    /// What was read is of this procedure's variant, and can be walked.
+    /// Reads the arguments of a call of this procedure, as its layout says. Their items are between
+    /// the old position and the new one; otherwise the error says where and why the bytes are
+    /// refused. The result is of this procedure's variant, and can be visited.
     pub fn get(alloc: Global, id: ProcId, input: &mut Input<'a>) -> Result<Args<'a>, GetError>
         ensures read { Gives args_items result input.new.at
             (reading_layout (arguments_of id) input.old.body input.old.at) }
@@ -95,7 +95,7 @@ impl<'a> Args<'a> {
         ensures limit { IfOk result (λ args. AreWithinLimit (args_items args)) }
         ensures moves { MovesOn input.old input.new }
     {
-        // The prover takes from this that the place is within the body.
+        // The prover concludes from this that the position is within the body.
         input.at();
         Args::of_procedure(alloc, id, input)
     }
@@ -107,7 +107,7 @@ impl<'a> Args<'a> {
         ensures variant { IfOk result (λ args. args_name args ≡ name_of_procedure id) }
         ensures moves { MovesOn input.old input.new }
     {
-        // The prover takes from this that the place is within the body.
+        // The prover concludes from this that the position is within the body.
         input.at();
         match (id.prog, id.vers) {
             (100_003, 3) => Args::get_nfs(alloc, id.proc_no, input),
@@ -116,7 +116,7 @@ impl<'a> Args<'a> {
         }
     }
 
-    /// Of a procedure of NFS version 3.
+    /// Those of a procedure of NFS version 3.
     #[tactic(auto, unfolding(xdr3::specs::Reading::reading, xdr3::specs::Layout::reading_layout))]
     fn get_nfs(alloc: Global, proc_no: u32, input: &mut Input<'a>) -> Result<Args<'a>, GetError>
         ensures read { Gives args_items result input.new.at
@@ -124,7 +124,7 @@ impl<'a> Args<'a> {
         ensures variant { IfOk result (λ args. args_name args ≡ nfs_name proc_no) }
         ensures moves { MovesOn input.old input.new }
     {
-        // The prover takes from this that the place is within the body.
+        // The prover concludes from this that the position is within the body.
         input.at();
         match proc_no {
             0 => Ok(Args::Null),
@@ -139,7 +139,7 @@ impl<'a> Args<'a> {
         }
     }
 
-    /// Of CREATE, or a procedure after it.
+    /// Those of CREATE, or a procedure after it.
     #[tactic(auto, unfolding(xdr3::specs::Reading::reading, xdr3::specs::Layout::reading_layout))]
     fn get_nfs_from_create(
         alloc: Global,
@@ -152,7 +152,7 @@ impl<'a> Args<'a> {
         ensures variant { IfOk result (λ args. args_name args ≡ nfs_name proc_no) }
         ensures moves { MovesOn input.old input.new }
     {
-        // The prover takes from this that the place is within the body.
+        // The prover concludes from this that the position is within the body.
         input.at();
         match proc_no {
             8 => Ok(Args::Create(CreateArgs::get(alloc, input)?)),
@@ -166,7 +166,7 @@ impl<'a> Args<'a> {
         }
     }
 
-    /// Of LINK, or a procedure after it.
+    /// Those of LINK, or a procedure after it.
     #[tactic(auto, unfolding(xdr3::specs::Reading::reading, xdr3::specs::Layout::reading_layout))]
     fn get_nfs_from_link(
         alloc: Global,
@@ -179,7 +179,7 @@ impl<'a> Args<'a> {
         ensures variant { IfOk result (λ args. args_name args ≡ nfs_name proc_no) }
         ensures moves { MovesOn input.old input.new }
     {
-        // The prover takes from this that the place is within the body.
+        // The prover concludes from this that the position is within the body.
         input.at();
         match proc_no {
             15 => Ok(Args::Link(LinkArgs::get(alloc, input)?)),
@@ -193,7 +193,7 @@ impl<'a> Args<'a> {
         }
     }
 
-    /// Of a procedure of MOUNT version 3.
+    /// Those of a procedure of MOUNT version 3.
     #[tactic(auto, unfolding(xdr3::specs::Reading::reading, xdr3::specs::Layout::reading_layout))]
     fn get_mount(alloc: Global, proc_no: u32, input: &mut Input<'a>) -> Result<Args<'a>, GetError>
         ensures read { Gives args_items result input.new.at
@@ -201,7 +201,7 @@ impl<'a> Args<'a> {
         ensures variant { IfOk result (λ args. args_name args ≡ mount_name proc_no) }
         ensures moves { MovesOn input.old input.new }
     {
-        // The prover takes from this that the place is within the body.
+        // The prover concludes from this that the position is within the body.
         input.at();
         match proc_no {
             0 => Ok(Args::MountNull),

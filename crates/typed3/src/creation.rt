@@ -1,11 +1,11 @@
-// Arguments and results of the procedures that make a file (RFC 1813, sections 3.3.8 to 3.3.11).
+//! Arguments and results of the procedures that make a file (RFC 1813, sections 3.3.8 to 3.3.11).
 
 use crate::tagged::walk_tagged;
 use nfs3_types::{DirOp, PostOpAttr, PostOpFh, Sattr, Wcc};
 use std::alloc::{AllocError, Global};
 use xdr3::{Field, GetError, Input, Visit, Walk, Xdr, walk_fields};
 
-/// The arguments of CREATE (RFC 1813, section 3.3.8).
+/// The arguments of CREATE: `CREATE3args` (RFC 1813, section 3.3.8).
 #[derive(Clone, Copy)]
 pub struct CreateArgs<'a> {
     pub place: DirOp<'a>,
@@ -38,7 +38,7 @@ impl<'a> Walk for CreateArgs<'a> {
     }
 }
 
-/// The arguments of MKDIR (RFC 1813, section 3.3.9).
+/// The arguments of MKDIR: `MKDIR3args` (RFC 1813, section 3.3.9).
 #[derive(Clone, Copy)]
 pub struct MkDirArgs<'a> {
     pub place: DirOp<'a>,
@@ -71,7 +71,8 @@ impl<'a> Walk for MkDirArgs<'a> {
     }
 }
 
-/// The arguments of SYMLINK: the path borrows from the record (RFC 1813, section 3.3.10).
+/// The arguments of SYMLINK: `SYMLINK3args` (RFC 1813, section 3.3.10). The path borrows from the
+/// record.
 #[derive(Clone, Copy)]
 pub struct SymLinkArgs<'a> {
     pub place: DirOp<'a>,
@@ -107,7 +108,8 @@ impl<'a> Walk for SymLinkArgs<'a> {
     }
 }
 
-/// A device that MKNOD makes: its attributes and its numbers (RFC 1813, section 3.3.11).
+/// A device that MKNOD makes, by its attributes and its numbers: `devicedata3` (RFC 1813, section
+/// 3.3.11).
 #[derive(Clone, Copy, PartialEq, Eq)]
 pub struct Device {
     pub attr: Sattr,
@@ -146,7 +148,7 @@ impl Walk for Device {
     }
 }
 
-/// The arguments of MKNOD (RFC 1813, section 3.3.11).
+/// The arguments of MKNOD: `MKNOD3args` (RFC 1813, section 3.3.11).
 #[derive(Clone, Copy)]
 pub struct MkNodArgs<'a> {
     pub place: DirOp<'a>,
@@ -179,7 +181,8 @@ impl<'a> Walk for MkNodArgs<'a> {
     }
 }
 
-/// What a successful CREATE, MKDIR, SYMLINK or MKNOD gives (RFC 1813, sections 3.3.8 to 3.3.11).
+/// The results of a successful CREATE, MKDIR, SYMLINK or MKNOD (RFC 1813, sections 3.3.8 to
+/// 3.3.11).
 #[derive(Clone, Copy, PartialEq, Eq)]
 pub struct CreateOk {
     pub handle: PostOpFh,
@@ -215,8 +218,8 @@ impl Walk for CreateOk {
     }
 }
 
-/// How CREATE treats a file that is there (RFC 1813, section 3.3.8): it is kept (0), the call fails (1),
-/// or the call fails where the file was not made with this verifier (2).
+/// What CREATE does if the file exists: `createhow3` (RFC 1813, section 3.3.8). It keeps the file
+/// (0), fails (1), or fails unless the file was made with this verifier (2).
 #[derive(Clone, Copy, PartialEq, Eq)]
 pub enum CreateHow {
     Unchecked(Sattr),
@@ -266,8 +269,9 @@ impl Walk for CreateHow {
     }
 }
 
-/// What MKNOD makes (RFC 1813, section 3.3.11): a device, a socket or a named pipe, with its
-/// attributes. A regular file, a directory and a symbolic link have none, since MKNOD makes none.
+/// What MKNOD makes: `mknoddata3` (RFC 1813, section 3.3.11). A device, a socket and a named pipe
+/// have attributes; a regular file, a directory and a symbolic link have none, since MKNOD makes
+/// none.
 #[derive(Clone, Copy, PartialEq, Eq)]
 pub enum MkNodWhat {
     Reg,

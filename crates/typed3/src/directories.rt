@@ -1,11 +1,11 @@
-// Arguments and results of the procedures on names in directories (RFC 1813, section 3.3).
+//! Arguments and results of the procedures on names in directories (RFC 1813, section 3.3).
 
 use nfs3_types::{DirOp, Handle, PostOpAttr, PostOpFh, Wcc};
 use std::alloc::{AllocError, Global};
 use xdr3::{Field, GetError, Input, Visit, Walk, Xdr, get_linked, walk_fields, walk_linked};
 
-/// What a successful LOOKUP gives: the attributes of what was found, and those of the directory (RFC
-/// 1813, section 3.3.3).
+/// The results of a successful LOOKUP: `LOOKUP3resok` (RFC 1813, section 3.3.3). It has the
+/// attributes of what was found, and those of the directory.
 #[derive(Clone, Copy, PartialEq, Eq)]
 pub struct LookupOk {
     pub handle: Handle,
@@ -41,7 +41,7 @@ impl Walk for LookupOk {
     }
 }
 
-/// The arguments of RENAME (RFC 1813, section 3.3.14).
+/// The arguments of RENAME: `RENAME3args` (RFC 1813, section 3.3.14).
 #[derive(Clone, Copy)]
 pub struct RenameArgs<'a> {
     pub from: DirOp<'a>,
@@ -74,7 +74,8 @@ impl<'a> Walk for RenameArgs<'a> {
     }
 }
 
-/// What RENAME tells of both directories, also where it fails (RFC 1813, section 3.3.14).
+/// The attributes of both directories before and after a RENAME, which a failed reply contains too
+/// (RFC 1813, section 3.3.14).
 #[derive(Clone, Copy, PartialEq, Eq)]
 pub struct RenameWcc {
     pub from: Wcc,
@@ -107,7 +108,7 @@ impl Walk for RenameWcc {
     }
 }
 
-/// The arguments of LINK (RFC 1813, section 3.3.15).
+/// The arguments of LINK: `LINK3args` (RFC 1813, section 3.3.15).
 #[derive(Clone, Copy)]
 pub struct LinkArgs<'a> {
     pub handle: Handle,
@@ -140,7 +141,8 @@ impl<'a> Walk for LinkArgs<'a> {
     }
 }
 
-/// What LINK tells of the file and of the directory, also where it fails (RFC 1813, section 3.3.15).
+/// The attributes of the file, and those of the directory before and after a LINK, which a failed
+/// reply contains too (RFC 1813, section 3.3.15).
 #[derive(Clone, Copy, PartialEq, Eq)]
 pub struct LinkWcc {
     pub attr: PostOpAttr,
@@ -173,7 +175,7 @@ impl Walk for LinkWcc {
     }
 }
 
-/// The arguments of READDIR (RFC 1813, section 3.3.16).
+/// The arguments of READDIR: `READDIR3args` (RFC 1813, section 3.3.16).
 #[derive(Clone, Copy, PartialEq, Eq)]
 pub struct ReadDirArgs {
     pub handle: Handle,
@@ -219,7 +221,7 @@ impl Walk for ReadDirArgs {
     }
 }
 
-/// A name in a directory, which borrows from the record (RFC 1813, section 3.3.16).
+/// A name in a directory: `entry3` (RFC 1813, section 3.3.16). It borrows from the record.
 #[derive(Clone, Copy)]
 pub struct Entry<'a> {
     pub fileid: u64,
@@ -261,7 +263,7 @@ impl<'a> Walk for Entry<'a> {
     }
 }
 
-/// What a successful READDIR gives (RFC 1813, section 3.3.16).
+/// The results of a successful READDIR: `READDIR3resok` (RFC 1813, section 3.3.16).
 #[derive(Drop)]
 pub struct ReadDirOk<'a> {
     pub attr: PostOpAttr,
@@ -305,7 +307,7 @@ impl<'a> Walk for ReadDirOk<'a> {
     }
 }
 
-/// The arguments of READDIRPLUS (RFC 1813, section 3.3.17).
+/// The arguments of READDIRPLUS: `READDIRPLUS3args` (RFC 1813, section 3.3.17).
 #[derive(Clone, Copy, PartialEq, Eq)]
 pub struct ReadDirPlusArgs {
     pub handle: Handle,
@@ -355,8 +357,8 @@ impl Walk for ReadDirPlusArgs {
     }
 }
 
-/// A name in a directory, which borrows from the record, with its attributes and its handle (RFC 1813,
-/// section 3.3.17).
+/// A name in a directory with its attributes and its handle: `entryplus3` (RFC 1813, section
+/// 3.3.17). It borrows from the record.
 #[derive(Clone, Copy)]
 pub struct EntryPlus<'a> {
     pub fileid: u64,
@@ -407,7 +409,7 @@ impl<'a> Walk for EntryPlus<'a> {
     }
 }
 
-/// What a successful READDIRPLUS gives (RFC 1813, section 3.3.17).
+/// The results of a successful READDIRPLUS: `READDIRPLUS3resok` (RFC 1813, section 3.3.17).
 #[derive(Drop)]
 pub struct ReadDirPlusOk<'a> {
     pub attr: PostOpAttr,

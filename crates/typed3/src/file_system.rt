@@ -1,11 +1,11 @@
-// What is told of a file system (RFC 1813, sections 3.3.18 to 3.3.20).
+//! The results of the procedures on a file system (RFC 1813, sections 3.3.18 to 3.3.20).
 
 use nfs3_types::{PostOpAttr, Time};
 use std::alloc::{AllocError, Global};
 use xdr3::{Field, GetError, Input, Visit, Walk, Xdr, walk_fields};
 
-/// What a successful FSSTAT gives: sizes in bytes, numbers of files, and seconds (RFC 1813, section
-/// 3.3.18).
+/// The results of a successful FSSTAT: `FSSTAT3resok` (RFC 1813, section 3.3.18). It has sizes in
+/// bytes, numbers of files, and seconds.
 #[derive(Clone, Copy, PartialEq, Eq)]
 pub struct FsStatOk {
     pub attr: PostOpAttr,
@@ -68,7 +68,8 @@ impl Walk for FsStatOk {
     }
 }
 
-/// What a successful FSINFO gives: sizes in bytes (RFC 1813, section 3.3.19).
+/// The results of a successful FSINFO: `FSINFO3resok` (RFC 1813, section 3.3.19). Sizes are in
+/// bytes.
 #[derive(Clone, Copy, PartialEq, Eq)]
 pub struct FsInfoOk {
     pub attr: PostOpAttr,
@@ -144,7 +145,7 @@ impl Walk for FsInfoOk {
     }
 }
 
-/// What a successful PATHCONF gives (RFC 1813, section 3.3.20).
+/// The results of a successful PATHCONF: `PATHCONF3resok` (RFC 1813, section 3.3.20).
 #[derive(Clone, Copy, PartialEq, Eq)]
 pub struct PathConfOk {
     pub attr: PostOpAttr,

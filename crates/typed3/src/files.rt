@@ -1,10 +1,10 @@
-// Arguments and results of the procedures on a file (RFC 1813, section 3.3).
+//! Arguments and results of the procedures on a file (RFC 1813, section 3.3).
 
 use nfs3_types::{Guard, Handle, PostOpAttr, Sattr, Stable, Wcc};
 use std::alloc::{AllocError, Global};
 use xdr3::{Field, GetError, Input, Visit, Walk, Xdr, walk_fields};
 
-/// The arguments of SETATTR (RFC 1813, section 3.3.2).
+/// The arguments of SETATTR: `SETATTR3args` (RFC 1813, section 3.3.2).
 #[derive(Clone, Copy, PartialEq, Eq)]
 pub struct SetAttrArgs {
     pub handle: Handle,
@@ -44,7 +44,7 @@ impl Walk for SetAttrArgs {
     }
 }
 
-/// The arguments of ACCESS (RFC 1813, section 3.3.4).
+/// The arguments of ACCESS: `ACCESS3args` (RFC 1813, section 3.3.4).
 #[derive(Clone, Copy, PartialEq, Eq)]
 pub struct AccessArgs {
     pub handle: Handle,
@@ -79,7 +79,7 @@ impl Walk for AccessArgs {
     }
 }
 
-/// What a successful ACCESS gives (RFC 1813, section 3.3.4).
+/// The results of a successful ACCESS: `ACCESS3resok` (RFC 1813, section 3.3.4).
 #[derive(Clone, Copy, PartialEq, Eq)]
 pub struct AccessOk {
     pub attr: PostOpAttr,
@@ -112,7 +112,8 @@ impl Walk for AccessOk {
     }
 }
 
-/// What a successful READLINK gives: the path borrows from the record (RFC 1813, section 3.3.5).
+/// The results of a successful READLINK: `READLINK3resok` (RFC 1813, section 3.3.5). The path
+/// borrows from the record.
 #[derive(Clone, Copy)]
 pub struct ReadLinkOk<'a> {
     pub attr: PostOpAttr,
@@ -145,7 +146,7 @@ impl<'a> Walk for ReadLinkOk<'a> {
     }
 }
 
-/// A part of a file, in bytes: the arguments of READ and of COMMIT (RFC 1813, sections 3.3.6 and
+/// A range of a file, in bytes: the arguments of READ and of COMMIT (RFC 1813, sections 3.3.6 and
 /// 3.3.21).
 #[derive(Clone, Copy, PartialEq, Eq)]
 pub struct FileRange {
@@ -188,7 +189,8 @@ impl Walk for FileRange {
     }
 }
 
-/// What a successful READ gives: the content borrows from the record (RFC 1813, section 3.3.6).
+/// The results of a successful READ: `READ3resok` (RFC 1813, section 3.3.6). The data borrow from
+/// the record.
 #[derive(Clone, Copy)]
 pub struct ReadOk<'a> {
     pub attr: PostOpAttr,
@@ -235,7 +237,7 @@ impl<'a> Walk for ReadOk<'a> {
     }
 }
 
-/// The arguments of WRITE: the content borrows from the record (RFC 1813, section 3.3.7).
+/// The arguments of WRITE: `WRITE3args` (RFC 1813, section 3.3.7). The data borrow from the record.
 #[derive(Clone, Copy)]
 pub struct WriteArgs<'a> {
     pub handle: Handle,
@@ -285,7 +287,7 @@ impl<'a> Walk for WriteArgs<'a> {
     }
 }
 
-/// What a successful WRITE gives (RFC 1813, section 3.3.7).
+/// The results of a successful WRITE: `WRITE3resok` (RFC 1813, section 3.3.7).
 #[derive(Clone, Copy, PartialEq, Eq)]
 pub struct WriteOk {
     pub wcc: Wcc,
@@ -332,7 +334,7 @@ impl Walk for WriteOk {
     }
 }
 
-/// What a successful COMMIT gives (RFC 1813, section 3.3.21).
+/// The results of a successful COMMIT: `COMMIT3resok` (RFC 1813, section 3.3.21).
 #[derive(Clone, Copy, PartialEq, Eq)]
 pub struct CommitOk {
     pub wcc: Wcc,

@@ -1,4 +1,4 @@
-// Whole messages, item by item (RFC 5531, section 9).
+//! Whole messages, item by item (RFC 5531, section 9).
 
 use crate::args::Args;
 use crate::results::Results;
@@ -14,7 +14,7 @@ pub struct CallMsg<'a> {
     pub args: Args<'a>,
 }
 
-/// The xid first, then the mtype CALL, the head and the arguments (RFC 5531, section 9).
+/// Visits the xid first, then the mtype CALL, the head and the arguments (RFC 5531, section 9).
 impl Walk for CallMsg<'_> {
     ghost use Rattle.typed3.specs.Messages.{call_items};
 
@@ -32,8 +32,8 @@ impl Walk for CallMsg<'_> {
     }
 }
 
-/// A reply: its xid, its procedure, which is that of its call, its head, and its results where it is an
-/// accepted success. Head and results borrow from its body (RFC 5531, section 9).
+/// A reply: its xid, its procedure, which is that of its call, its head, and its results if it is
+/// an accepted success (RFC 5531, section 9). Head and results borrow from its body.
 #[derive(Drop)]
 pub struct ReplyMsg<'a> {
     pub xid: u32,
@@ -42,8 +42,8 @@ pub struct ReplyMsg<'a> {
     pub results: Option<Results<'a>>,
 }
 
-/// The xid first, then the mtype REPLY, the head, and the results where there are some (RFC 5531,
-/// section 9).
+/// Visits the xid first, then the mtype REPLY, the head, and the results if there are any (RFC
+/// 5531, section 9).
 impl Walk for ReplyMsg<'_> {
     ghost use Rattle.typed3.specs.Messages.{reply_items};
 

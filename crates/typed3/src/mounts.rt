@@ -1,12 +1,12 @@
-// Arguments and results of MOUNT's procedures (RFC 1813, section 5.2).
+//! Arguments and results of MOUNT's procedures (RFC 1813, section 5.2).
 
 use crate::tagged::walk_tagged;
 use nfs3_types::mount3::{MountOk, MountStatus};
 use std::alloc::{AllocError, Global};
 use xdr3::{Field, GetError, Input, Visit, Walk, Xdr, walk_fields};
 
-/// The arguments of MNT and of UMNT: a path of at most 1,024 bytes, which borrows from the record (RFC
-/// 1813, sections 5.2.1 and 5.2.3).
+/// The arguments of MNT and of UMNT: a path of at most 1,024 bytes, which borrows from the record
+/// (RFC 1813, sections 5.2.1 and 5.2.3).
 #[derive(Clone, Copy)]
 pub struct DirPath<'a> {
     pub dirpath: &'a [u8],
@@ -36,8 +36,8 @@ impl<'a> Walk for DirPath<'a> {
     }
 }
 
-/// The results of MNT: by the status, what was mounted (0), or nothing more after a status that is not
-/// 0 (RFC 1813, section 5.2.1).
+/// The results of MNT: `mountres3` (RFC 1813, section 5.2.1). What was mounted follows a status 0,
+/// and nothing follows any other.
 #[derive(Drop)]
 pub enum MountRes {
     Done(MountOk),

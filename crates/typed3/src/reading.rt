@@ -1,4 +1,4 @@
-// Lent messages, read as values.
+//! Borrowed messages, read as values.
 
 ghost use Rattle.std.specs.Prelude.{◌≡◌, ◌≤◌, length, is_some, IfErr, IfOk, IfSome};
 ghost use Rattle.xdr3.specs.Visit.{body_limit};
@@ -20,12 +20,12 @@ use rpc_head::{Accept, CallHead, ProcId, ReplyHead, start};
 use std::alloc::{AllocError, Global};
 use xdr3::{GetError, Input, Reason, Stop, Xdr};
 
-/// The call that a lent call's body spells, with the arguments of its procedure (RFC 5531, section 9).
-/// It borrows from the body.
+/// Returns the call that a borrowed call's body encodes, with the arguments of its procedure (RFC
+/// 5531, section 9). It borrows from the body.
 ///
 /// # Errors
 ///
-/// `AllocError`, only where memory ran out.
+/// `AllocError` only if an allocation failed.
 pub fn read_call<'a>(alloc: Global, call: CallRef<'a>) -> Result<CallMsg<'a>, AllocError>
     ensures call { IfOk result (λ message. IsCall call.entry.body.now (call_items message)) }
     ensures procedure { IfOk result (λ message. message.head.id ≡ call.entry.id) }
@@ -40,12 +40,12 @@ pub fn read_call<'a>(alloc: Global, call: CallRef<'a>) -> Result<CallMsg<'a>, Al
     }
 }
 
-/// The reply that a lent reply's body spells, with the results of its procedure exactly where it is an
-/// accepted success (RFC 5531, section 9). It borrows from the body.
+/// Returns the reply that a borrowed reply's body encodes, with the results of its procedure if and
+/// only if it is an accepted success (RFC 5531, section 9). It borrows from the body.
 ///
 /// # Errors
 ///
-/// `AllocError`, only where memory ran out.
+/// `AllocError` only if an allocation failed.
 pub fn read_reply<'a>(alloc: Global, reply: ReplyRef<'a>) -> Result<ReplyMsg<'a>, AllocError>
     ensures reply { IfOk result
         (λ message. IsReply reply.entry.body.now (answered_items message)) }
@@ -111,7 +111,7 @@ fn reply_in<'a>(alloc: Global, id: ProcId, body: &'a [u8]) -> Result<ReplyMsg<'a
     })
 }
 
-/// The results after a reply's head: none but after an accepted success.
+/// Reads the results after a reply's head: none after any but an accepted success.
 #[tactic(auto, unfolding(xdr3::specs::Layout::reading_layout, xdr3::specs::Reading::reading))]
 fn results_in<'a>(
     alloc: Global,
@@ -126,7 +126,7 @@ fn results_in<'a>(
         (λ results. IfSome results (λ results. results_name results ≡ name_of_procedure id)) }
     ensures moves { MovesOn input.old input.new }
 {
-    // The prover takes from this that the place is within the body.
+    // The prover concludes from this that the position is within the body.
     input.at();
     match head {
         ReplyHead::Accepted(_, Accept::Success) => {
@@ -137,7 +137,7 @@ fn results_in<'a>(
     }
 }
 
-/// The refusal of a reply among calls, or of a call among replies.
+/// Returns the refusal of a reply among calls, or of a call among replies.
 fn wrong_side() -> GetError
     ensures { result ≡ GetError.Stop (record { at = 4; reason = Reason.WrongSide }) }
 {

@@ -1,4 +1,4 @@
-// The results of accepted calls.
+//! The results of accepted calls.
 
 ghost use Rattle.std.specs.Prelude.{◌≡◌, ◌≤◌, IfOk};
 ghost use Rattle.typed3.specs.Items.{results_items};
@@ -85,9 +85,9 @@ pub enum Results<'a> {
 }
 
 impl<'a> Results<'a> {
-    /// Reads the results of a successful call of this procedure, as its layout says: their items stand
-    /// between the old place and the new one, or the error says where and why the bytes are refused.
-    /// What was read is of this procedure's variant, and can be walked.
+    /// Reads the results of a successful call of this procedure, as its layout says. Their items
+    /// are between the old position and the new one; otherwise the error says where and why the
+    /// bytes are refused. The result is of this procedure's variant, and can be visited.
     pub fn get(alloc: Global, id: ProcId, input: &mut Input<'a>) -> Result<Results<'a>, GetError>
         ensures read { Gives results_items result input.new.at
             (reading_layout (results_of id) input.old.body input.old.at) }
@@ -97,7 +97,7 @@ impl<'a> Results<'a> {
         ensures limit { IfOk result (λ results. AreWithinLimit (results_items results)) }
         ensures moves { MovesOn input.old input.new }
     {
-        // The prover takes from this that the place is within the body.
+        // The prover concludes from this that the position is within the body.
         input.at();
         Results::of_procedure(alloc, id, input)
     }
@@ -113,7 +113,7 @@ impl<'a> Results<'a> {
         ensures variant { IfOk result (λ results. results_name results ≡ name_of_procedure id) }
         ensures moves { MovesOn input.old input.new }
     {
-        // The prover takes from this that the place is within the body.
+        // The prover concludes from this that the position is within the body.
         input.at();
         match (id.prog, id.vers) {
             (100_003, 3) => Results::get_nfs(alloc, id.proc_no, input),
@@ -122,7 +122,7 @@ impl<'a> Results<'a> {
         }
     }
 
-    /// Of a procedure of NFS version 3.
+    /// Those of a procedure of NFS version 3.
     #[tactic(auto, unfolding(xdr3::specs::Reading::reading, xdr3::specs::Layout::reading_layout))]
     fn get_nfs(alloc: Global, proc_no: u32, input: &mut Input<'a>) -> Result<Results<'a>, GetError>
         ensures read { Gives results_items result input.new.at
@@ -130,7 +130,7 @@ impl<'a> Results<'a> {
         ensures variant { IfOk result (λ results. results_name results ≡ nfs_name proc_no) }
         ensures moves { MovesOn input.old input.new }
     {
-        // The prover takes from this that the place is within the body.
+        // The prover concludes from this that the position is within the body.
         input.at();
         match proc_no {
             0 => Ok(Results::Null),
@@ -145,7 +145,7 @@ impl<'a> Results<'a> {
         }
     }
 
-    /// Of CREATE, or a procedure after it.
+    /// Those of CREATE, or a procedure after it.
     #[tactic(auto, unfolding(xdr3::specs::Reading::reading, xdr3::specs::Layout::reading_layout))]
     fn get_nfs_from_create(
         alloc: Global,
@@ -158,7 +158,7 @@ impl<'a> Results<'a> {
         ensures variant { IfOk result (λ results. results_name results ≡ nfs_name proc_no) }
         ensures moves { MovesOn input.old input.new }
     {
-        // The prover takes from this that the place is within the body.
+        // The prover concludes from this that the position is within the body.
         input.at();
         match proc_no {
             8 => Ok(Results::Create(Res::get(alloc, input)?)),
@@ -172,7 +172,7 @@ impl<'a> Results<'a> {
         }
     }
 
-    /// Of LINK, or a procedure after it.
+    /// Those of LINK, or a procedure after it.
     #[tactic(auto, unfolding(xdr3::specs::Reading::reading, xdr3::specs::Layout::reading_layout))]
     fn get_nfs_from_link(
         alloc: Global,
@@ -185,7 +185,7 @@ impl<'a> Results<'a> {
         ensures variant { IfOk result (λ results. results_name results ≡ nfs_name proc_no) }
         ensures moves { MovesOn input.old input.new }
     {
-        // The prover takes from this that the place is within the body.
+        // The prover concludes from this that the position is within the body.
         input.at();
         match proc_no {
             15 => Ok(Results::Link(Res::get(alloc, input)?)),
@@ -199,7 +199,7 @@ impl<'a> Results<'a> {
         }
     }
 
-    /// Of a procedure of MOUNT version 3.
+    /// Those of a procedure of MOUNT version 3.
     #[tactic(auto, unfolding(xdr3::specs::Reading::reading, xdr3::specs::Layout::reading_layout))]
     fn get_mount(
         alloc: Global,
@@ -211,7 +211,7 @@ impl<'a> Results<'a> {
         ensures variant { IfOk result (λ results. results_name results ≡ mount_name proc_no) }
         ensures moves { MovesOn input.old input.new }
     {
-        // The prover takes from this that the place is within the body.
+        // The prover concludes from this that the position is within the body.
         input.at();
         match proc_no {
             0 => Ok(Results::MountNull),

@@ -1,4 +1,4 @@
-// A word and the value that it chooses.
+//! A word and the value that it chooses.
 
 ghost use Rattle.std.specs.Prelude.{OnErr, OnOk};
 ghost use Rattle.xdr3.specs.Visit.{Adds, AddsSome, AreWithinLimit};

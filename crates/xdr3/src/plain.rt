@@ -1,4 +1,4 @@
-// Runs of words and numbers of eight bytes.
+//! Runs of words and hypers of any value, which are visited at once.
 
 ghost use Rattle.std.specs.Prelude.{◌≡◌, ◌+◌, ◌<◌, IfErr, OnOk, length, Err};
 ghost use Rattle.xdr3.specs.Plain.{run_shape, run_size, width};
@@ -9,7 +9,7 @@ use crate::input::Input;
 use crate::reason::{GetError, Reason, Stop};
 use crate::visit::Visit;
 
-/// A word of any value, or a number of eight bytes, with its name (RFC 4506, sections 4.1 and 4.5).
+/// A word of any value, or a hyper, with its name (RFC 4506, sections 4.1 and 4.5).
 #[derive(Clone, Copy)]
 pub enum PlainField {
     Word(&'static str),
@@ -17,7 +17,7 @@ pub enum PlainField {
 }
 
 impl PlainField {
-    /// How many bytes it has.
+    /// Returns how many bytes it has.
     fn width(self) -> u32
         ensures { result ≡ width self }
     {
@@ -28,12 +28,13 @@ impl PlainField {
     }
 }
 
-/// Fields that stand one after another in `size` bytes. Where all of them stand, the visitor is told
-/// them at once; where they do not, it is told none.
+/// Reads fields that follow one another in `size` bytes. If all of them are there, they are passed
+/// to the visitor at once; otherwise none is.
 ///
 /// # Errors
 ///
-/// `Short` at the first field that is not whole, and `Memory` where the visitor ran out of it.
+/// - `Short` at the first field that is not whole.
+/// - `Memory` if the visitor fails.
 #[inline]
 #[tactic(auto, using(crate::proofs::PlainLemmas::runs), unfolding(crate::specs::Scan::Stops))]
 pub fn scan_plain<V: Visit>(
@@ -54,7 +55,7 @@ pub fn scan_plain<V: Visit>(
     Ok(())
 }
 
-/// The stop at the first field that is not whole. Not all of them are.
+/// Returns the stop at the first field that is not whole. There must be one.
 fn first_short(fields: &[PlainField], input: &Input) -> Stop
     requires { length input.now.body < input.now.at + run_size fields.now }
     ensures { reading (run_shape fields.now) input.now.body input.now.at ≡ Err result }

@@ -1,4 +1,4 @@
-// Items that a visitor is told as they are read.
+//! Items that are passed to a visitor as they are read.
 
 ghost use Rattle.std.specs.Prelude.{◌≡◌, ◌<◌, IfErr, IfOk, OnOk};
 ghost use Rattle.std.specs.Int.{from_bool};
@@ -12,25 +12,25 @@ use crate::input::Input;
 use crate::reason::{GetError, Reason, Stop};
 use crate::visit::Visit;
 
-/// Items of one shape, which are read and told in one pass: no value is made of them.
+/// Items of one shape, which are read and passed to a visitor in one pass. No value is built.
 pub trait Scan {
     /// Which items.
     ghost shape: { Shape };
 
-    /// Reads the items of the shape, and tells each to the visitor as it is read. After an error what
-    /// the visitor holds is open.
+    /// Reads the items of the shape, and passes each to the visitor as it is read. After an error
+    /// the contents of the visitor are unspecified.
     ///
     /// # Errors
     ///
-    /// `Stop` with the place and the reason of the shape's first fault, and `Memory` where the visitor
-    /// ran out of it.
+    /// - `Stop` with the position and the reason of the shape's first fault.
+    /// - `Memory` if the visitor fails.
     fn scan<V: Visit>(input: &mut Input, visitor: &mut V) -> Result<(), GetError>
         ensures ok { OnOk result
             (Scans V.stands shape input.old input.new visitor.old visitor.new) }
         ensures err { IfErr result (λ error. Stops shape input.old error) };
 }
 
-/// Any word (RFC 4506, sections 4.1 and 4.2).
+/// Reads a word and visits it (RFC 4506, sections 4.1 and 4.2).
 #[inline]
 #[tactic(auto, unfolding(crate::specs::Scan::ScansWord, crate::specs::Scan::StopsWord))]
 pub fn scan_word<V: Visit>(
@@ -47,7 +47,7 @@ pub fn scan_word<V: Visit>(
     Ok(n)
 }
 
-/// One of these words (RFC 4506, section 4.3).
+/// Reads a word that must be one of these, and visits it (RFC 4506, section 4.3).
 #[inline]
 #[tactic(auto, unfolding(crate::specs::Scan::ScansWord, crate::specs::Scan::StopsWord))]
 pub fn scan_listed<V: Visit>(
@@ -67,7 +67,7 @@ pub fn scan_listed<V: Visit>(
     Ok(n)
 }
 
-/// The word 0 or 1 (RFC 4506, section 4.4).
+/// Reads a bool and visits it (RFC 4506, section 4.4).
 #[inline]
 #[tactic(auto, unfolding(crate::specs::Scan::ScansWord, crate::specs::Scan::StopsWord))]
 pub fn scan_boolean<V: Visit>(
@@ -86,7 +86,7 @@ pub fn scan_boolean<V: Visit>(
     Ok(is)
 }
 
-/// A length or a count (RFC 4506, sections 4.10 and 4.13).
+/// Reads a length or a count of at most `max`, and visits it (RFC 4506, sections 4.10 and 4.13).
 #[inline]
 #[tactic(auto, unfolding(crate::specs::Scan::ScansWord, crate::specs::Scan::StopsWord))]
 fn scan_at_most<V: Visit>(
@@ -105,7 +105,7 @@ fn scan_at_most<V: Visit>(
     Ok(n)
 }
 
-/// A number of eight bytes (RFC 4506, section 4.5).
+/// Reads a hyper and visits it (RFC 4506, section 4.5).
 #[inline]
 #[tactic(auto, unfolding(crate::specs::Scan::Scans, crate::specs::Scan::Stops, crate::specs::Reading::reading))]
 pub fn scan_hyper<V: Visit>(
@@ -122,7 +122,7 @@ pub fn scan_hyper<V: Visit>(
     Ok(())
 }
 
-/// Eight bytes of opaque data (RFC 4506, section 4.9).
+/// Reads eight bytes of opaque data and visits them (RFC 4506, section 4.9).
 #[inline]
 #[tactic(auto, unfolding(crate::specs::Scan::Scans, crate::specs::Scan::Stops, crate::specs::Reading::reading))]
 pub fn scan_fixed<V: Visit>(
@@ -139,7 +139,7 @@ pub fn scan_fixed<V: Visit>(
     Ok(())
 }
 
-/// Eight bytes that are a write verifier (RFC 4506, section 4.9).
+/// Reads a write verifier of eight bytes and visits it (RFC 4506, section 4.9).
 #[inline]
 #[tactic(auto, unfolding(crate::specs::Scan::Scans, crate::specs::Scan::Stops, crate::specs::Reading::reading))]
 pub fn scan_write_verf<V: Visit>(
@@ -156,7 +156,7 @@ pub fn scan_write_verf<V: Visit>(
     Ok(())
 }
 
-/// Opaque data of at most `max` bytes (RFC 4506, section 4.10).
+/// Reads opaque data of at most `max` bytes and visits it (RFC 4506, section 4.10).
 #[inline]
 #[tactic(auto, unfolding(crate::specs::Scan::Scans, crate::specs::Scan::Stops, crate::specs::Reading::reading))]
 pub fn scan_var<V: Visit>(
@@ -174,7 +174,7 @@ pub fn scan_var<V: Visit>(
     Ok(())
 }
 
-/// A string of at most `max` bytes (RFC 4506, section 4.11).
+/// Reads a string of at most `max` bytes and visits it (RFC 4506, section 4.11).
 #[inline]
 #[tactic(auto, unfolding(crate::specs::Scan::Scans, crate::specs::Scan::Stops, crate::specs::Reading::reading))]
 pub fn scan_text<V: Visit>(
@@ -192,7 +192,7 @@ pub fn scan_text<V: Visit>(
     Ok(())
 }
 
-/// A file handle, at most 64 bytes (RFC 1813, section 2.4).
+/// Reads a file handle of at most 64 bytes and visits it (RFC 1813, section 2.4).
 #[inline]
 #[tactic(auto, unfolding(crate::specs::Scan::Scans, crate::specs::Scan::Stops, crate::specs::Reading::reading))]
 pub fn scan_handle<V: Visit>(
@@ -209,7 +209,7 @@ pub fn scan_handle<V: Visit>(
     Ok(())
 }
 
-/// All bytes that are left, also none.
+/// Visits all bytes that are left, also none.
 #[inline]
 #[tactic(auto, unfolding(crate::specs::Scan::ScansLayout, crate::specs::Layout::reading_layout))]
 pub fn scan_rest<V: Visit>(
@@ -226,7 +226,7 @@ pub fn scan_rest<V: Visit>(
     Ok(())
 }
 
-/// The word 0, or the word 1 and the shape (optional data, RFC 4506, section 4.19).
+/// Reads a bool, and the shape if it is true (optional data, RFC 4506, section 4.19).
 #[inline(always)]
 #[tactic(auto, using(crate::proofs::ScanLemmas::scans), unfolding(crate::specs::Shape::optional))]
 pub fn scan_optional<T: Scan, V: Visit>(
@@ -245,8 +245,8 @@ pub fn scan_optional<T: Scan, V: Visit>(
     }
 }
 
-/// The word 1 and the shape, any number of times, and then the word 0 (a list by optional data, RFC
-/// 4506, section 4.19).
+/// Reads a list by optional data: a word 1 before each part, and a word 0 at the end (RFC 4506,
+/// section 4.19).
 #[tactic(auto, using(crate::proofs::LinkedScanLemmas::links))]
 pub fn scan_linked<T: Scan, V: Visit>(
     name: &'static str,
@@ -257,7 +257,7 @@ pub fn scan_linked<T: Scan, V: Visit>(
         visitor.old visitor.new) }
     ensures err { IfErr result (λ error. Stops (linked name.now T.shape) input.old error) }
 {
-    // The prover takes from this that the place is within the body.
+    // The prover concludes from this that the position is within the body.
     input.at();
     'links: while scan_boolean(name, input, visitor)? {
         T::scan(input, visitor)?;
@@ -265,7 +265,8 @@ pub fn scan_linked<T: Scan, V: Visit>(
     Ok(())
 }
 
-/// A count of at most `max`, and the shape that many times (RFC 4506, section 4.13).
+/// Reads an array: a count of at most `max`, and the shape that many times (RFC 4506, section
+/// 4.13).
 #[inline(always)]
 pub fn scan_counted<T: Scan, V: Visit>(
     name: &'static str,
@@ -284,9 +285,9 @@ pub fn scan_counted<T: Scan, V: Visit>(
     Ok(())
 }
 
-/// The number of bytes of what follows, at most 400, and the shape in just these (an opaque body that is
-/// looked into, RFC 5531, section 8.2). `AuthLength` where an item is not whole in these bytes or some
-/// are left over.
+/// Reads a length of at most 400, and the shape in exactly that many bytes: the body of a
+/// credential (RFC 5531, section 8.2). `AuthLength` if an item passes the last of these bytes, or
+/// if some are left over.
 #[inline(always)]
 #[tactic(auto, using(crate::proofs::SizedScanLemmas::sizes))]
 pub fn scan_sized<T: Scan, V: Visit>(
@@ -303,7 +304,7 @@ pub fn scan_sized<T: Scan, V: Visit>(
     scan_inside::<T, V>(&mut window, visitor)
 }
 
-/// The shape in all that is left of a window.
+/// Reads the shape, which must fill the rest of a window.
 #[inline(always)]
 #[tactic(auto, unfolding(crate::specs::Scan::Scans, crate::specs::machinery::Scan::ScansInside, crate::specs::Scan::Stops, crate::specs::machinery::Scan::StopsInside))]
 fn scan_inside<T: Scan, V: Visit>(window: &mut Input, visitor: &mut V) -> Result<(), GetError>
