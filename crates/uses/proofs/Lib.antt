@@ -1,0 +1,3 @@
+pub mod Reading
+pub mod CountingLemmas
+pub mod SummingLemmas

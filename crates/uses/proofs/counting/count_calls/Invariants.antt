@@ -1,0 +1,18 @@
+use Rattle.std.proofs.Common.{◌≡◌, ◌≤◌, ◌+◌, None, count_by}
+use Rattle.capture3.specs.Entries.{failure_of, source_of}
+use Rattle.capture3.specs.machinery.Entries.{entries_left}
+use Rattle.capture3.specs.Laws.{most_entries}
+use Rattle.uses.specs.Counting.{is_call_of}
+use Rattle.uses.proofs.Reading.{HasReturned}
+use Rattle.uses.proofs.counting.count_calls.Given as goal
+
+abbrev pub invariant-loop-entries : goal.invariant-loop-entries
+invariant-loop-entries g l = record {
+  going : failure_of l.entries ≡ None;
+  room : l.count + entries_left l.entries ≤ most_entries;
+  returned : HasReturned g.R.Source.left (g.R.Source.left (source_of l.initial.entries)) l.entries
+      (λ handed. l.count ≡ count_by (is_call_of l.procedure) handed);
+}
+
+abbrev pub decreases-loop-entries : goal.decreases-loop-entries
+decreases-loop-entries g l = entries_left l.entries

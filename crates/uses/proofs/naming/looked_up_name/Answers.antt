@@ -1,0 +1,11 @@
+use Rattle.std.proofs.Common.{refl}
+use Rattle.uses.proofs.naming.looked_up_name.Goals as goal
+
+pub returns-in-Lookup : goal.returns-in-Lookup
+returns-in-Lookup g = record {
+  message = g.in_ok-wanted.field-0;
+  what = g.in-Lookup.wanted;
+  is = g.in_ok-wanted.ensures.call;
+  arguments = g.in-Lookup.is;
+  named = refl;
+}

@@ -1,0 +1,3 @@
+pub mod Counting
+pub mod Naming
+pub mod Summing

@@ -1,0 +1,15 @@
+-- The name that a LOOKUP call looks up.
+use Rattle.std.specs.Prelude.{◌≡◌, ℕ, List}
+use Rattle.nfs3_types.specs.declared.directory.DirOp.{DirOp}
+use Rattle.capture3.specs.Bodies.{IsCall}
+use Rattle.typed3.specs.declared.args.Args.TheVariants.{Lookup}
+use Rattle.typed3.specs.declared.message.CallMsg.{CallMsg}
+use Rattle.typed3.specs.Messages.{call_items}
+
+-- the body is a LOOKUP call's, and the name that of its arguments (RFC 1813, section 3.3.3)
+pub record LooksUp (body name : List ℕ) : Type 0 where
+  pub message : CallMsg
+  pub what : DirOp
+  pub is : IsCall body (call_items message)
+  pub arguments : message.args ≡ Lookup what
+  pub named : what.name.now ≡ name

@@ -1,0 +1,13 @@
+//! Small callers of the libraries, to copy from. Each is proved with the contracts that the libraries publish,
+//! and nothing else of them.
+#![tactic(auto)]
+
+mod counting;
+mod naming;
+mod packing;
+mod summing;
+
+pub use counting::{GETATTR, count_calls};
+pub use naming::looked_up_name;
+pub use packing::pack_two;
+pub use summing::{WRITE, bytes_to_write};
