@@ -14,6 +14,7 @@ import subprocess
 import sys
 import tempfile
 
+import crate_pages
 import pages
 from captures import SMALL, capture_in, rows_of
 from rooms import in_the_wrong_room, long_lines, of_private_fields, of_several_meanings
@@ -262,10 +263,18 @@ def pages_are_plain(tools):
     tools.want('pages', pages.long_ones(), [])
 
 
+def pages_of_the_crates(tools):
+    """Each library has a page, which quotes proved code and names files that exist; and the page of what they export is current."""
+    tools.want('crates without a page', crate_pages.without_a_page(), [])
+    tools.want('code that no proved caller has', crate_pages.not_quoted(), [])
+    tools.want('files that are not there', crate_pages.files_not_there(), [])
+    tools.want('docs/API.md is what tools/api prints', crate_pages.exports_are_current(), True)
+
+
 STRINGS = ('name', 'path', 'machinename', 'dirpath', 'hostname', 'directory')
 TESTS = [explained, explained_as_documented, layouts_agree_with_the_listing, commands_of_the_readme,
          lines_for_many_captures, examples_are_used, answers_of_the_examples, examples_are_made_alike, pages_agree, pages_of_the_tools,
-         what_is_believed, rooms_stand_apart, pages_are_plain]
+         what_is_believed, rooms_stand_apart, pages_are_plain, pages_of_the_crates]
 
 
 def tried(program, test):
