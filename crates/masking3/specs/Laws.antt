@@ -1,11 +1,13 @@
 -- What the laws say of the masked form.
-use Rattle.std.specs.Prelude.{◌≡◌, ◌<◌, ◌^◌, List, ◌++◌, length}
+use Rattle.std.specs.Prelude.{◌≡◌, ◌↔◌, ◌<◌, ◌^◌, List, ◌++◌, length}
 use Rattle.std.specs.List.{flat_map}
 use Rattle.capture3.specs.Entry.{Entry, items_of}
+use Rattle.canon3.specs.Renaming.{Same}
 use Rattle.masking3.specs.declared.class.Class.{Class}
 use Rattle.masking3.specs.declared.ways.Way.TheVariants.{Keep}
 use Rattle.masking3.specs.declared.ways.Ways.{Ways}
 use Rattle.masking3.specs.Masked.{masked, values}
+use Rattle.masking3.specs.SameBut.{SameBut}
 use Rattle.masking3.specs.Ways.{way_of}
 
 -- the number of each value has room in eight bytes
@@ -24,3 +26,7 @@ KeepsAll ways = (class : Class) → way_of ways class ≡ Keep
 -- the form of the first entries is the first entries of the form
 abbrev pub MasksFronts : Ways → List Entry → List Entry → Type 0
 MasksFronts ways a b = (more : List Entry) × (masked ways (a ++ b) ≡ masked ways a ++ more)
+
+-- the masked forms are the same exactly if the captures are the same but for what is masked
+abbrev pub IsDecided : Ways → List Entry → List Entry → Type 0
+IsDecided ways a b = Same (masked ways a) (masked ways b) ↔ SameBut ways a b
