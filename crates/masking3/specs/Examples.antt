@@ -84,8 +84,8 @@ abbrev pub MasksStamps : Type 0
 MasksStamps = AreMaskedAs (stamped_null 7 123456 ∷ []) (stamped_null 7 0 ∷ [])
 
 -- GETATTRs of two files: their ids, and the seconds of their times
-abbrev pub two_files : (first second sec : ℕ) → List Entry
-two_files first second sec =
+abbrev pub getattrs_of_two : (first second sec : ℕ) → List Entry
+getattrs_of_two first second sec =
     one (getattr 5 aa ∷ getattr 6 bb ∷ [])
     (getattr_reply 5 0 9 first sec 0 ∷ getattr_reply 6 0 9 second sec 0 ∷ [])
 
@@ -97,9 +97,9 @@ AreTold a b = SameBut usual a b → ⊥
 
 pub record ComparesRuns : Type 0 where
   -- other ids and other times
-  pub renamed : SameBut usual (two_files 77 78 1700000000) (two_files 6 5 1800000000)
+  pub renamed : SameBut usual (getattrs_of_two 77 78 1700000000) (getattrs_of_two 6 5 1800000000)
   -- two ids become one, or one becomes two
-  pub merged : AreTold (two_files 77 78 1700000000) (two_files 5 5 1700000000)
-  pub split : AreTold (two_files 77 77 1700000000) (two_files 5 6 1700000000)
+  pub merged : AreTold (getattrs_of_two 77 78 1700000000) (getattrs_of_two 5 5 1700000000)
+  pub split : AreTold (getattrs_of_two 77 77 1700000000) (getattrs_of_two 5 6 1700000000)
   -- the first cookie is no other one
   pub first_cookie : AreTold (list_from 0) (list_from 512)

@@ -2,6 +2,8 @@
 use Rattle.std.specs.Prelude.{◌≡◌, ◌↔◌, ◌<◌, ◌^◌, List, ◌++◌, length}
 use Rattle.std.specs.List.{flat_map}
 use Rattle.capture3.specs.Entry.{Entry, items_of}
+use Rattle.canon3.specs.Bytes.{bytes_of}
+use Rattle.canon3.specs.Canonical.{canonical}
 use Rattle.canon3.specs.Renaming.{Same}
 use Rattle.masking3.specs.declared.class.Class.{Class}
 use Rattle.masking3.specs.declared.ways.Way.TheVariants.{Keep}
@@ -28,5 +30,11 @@ abbrev pub MasksFronts : Ways → List Entry → List Entry → Type 0
 MasksFronts ways a b = (more : List Entry) × (masked ways (a ++ b) ≡ masked ways a ++ more)
 
 -- the masked forms are the same exactly if the captures are the same but for what is masked
-abbrev pub IsDecided : Ways → List Entry → List Entry → Type 0
-IsDecided ways a b = Same (masked ways a) (masked ways b) ↔ SameBut ways a b
+abbrev pub MaskedFormsDecide : Ways → List Entry → List Entry → Type 0
+MaskedFormsDecide ways a b = Same (masked ways a) (masked ways b) ↔ SameBut ways a b
+
+-- so do the bytes of their canonical forms
+abbrev pub MaskedBytesDecide : Ways → List Entry → List Entry → Type 0
+MaskedBytesDecide ways a b =
+    (bytes_of (canonical (masked ways a)) ≡ bytes_of (canonical (masked ways b)))
+    ↔ SameBut ways a b

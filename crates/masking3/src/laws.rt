@@ -6,15 +6,16 @@ ghost use Rattle.capture3.specs.Entry.{Entry};
 ghost use Rattle.capture3.specs.Typed.{Typed};
 ghost use Rattle.canon3.specs.Laws.{AreFirst, AreOfTheirBytes};
 ghost use Rattle.canon3.specs.Renaming.{Same};
-ghost use Rattle.masking3.specs.Laws.{HasRoomForNumbers, IsDecided, KeepsAll, MasksFronts, StaysMasked};
+ghost use Rattle.masking3.specs.Laws.{HasRoomForNumbers, KeepsAll, MaskedBytesDecide, MaskedFormsDecide, MasksFronts, StaysMasked};
 ghost use Rattle.masking3.specs.Masked.{masked};
 ghost use Rattle.masking3.specs.SameBut.{SameBut};
 ghost use Rattle.masking3.specs.declared.ways.Ways.{Ways};
 
-/// Masking again changes nothing.
+/// Masking again changes nothing, if the number of each value has room; in a well-formed file each has.
 pub fn masking_again()
-    ensures { (ways : Ways) (entries : List Entry) → HasRoomForNumbers entries
+    ensures again { (ways : Ways) (entries : List Entry) → HasRoomForNumbers entries
         → StaysMasked ways entries }
+    ensures room { (entries : List Entry) → AreFirst entries → HasRoomForNumbers entries }
 {}
 
 /// Nothing changes if every class stays as it is.
@@ -30,18 +31,25 @@ pub fn masked_forms_of_prefixes()
 {}
 
 /// The masked form of the entries of a well-formed file is well formed: its bytes are a file with just
-/// these entries, which has no more stream bytes than the file.
+/// these entries, which has no more stream bytes than the file. The masked form of the first entries of
+/// one is the first entries of one.
 pub fn masked_form_is_a_file()
-    ensures { (ways : Ways) (file : List ℕ) (entries : List Entry) (typed : Typed file entries)
+    ensures whole { (ways : Ways) (file : List ℕ) (entries : List Entry)
+        (typed : Typed file entries)
         → AreOfTheirBytes (masked ways entries) (total_size typed.connections) }
+    ensures first { (ways : Ways) (entries : List Entry) → AreFirst entries
+        → AreFirst (masked ways entries) }
 {}
 
 /// Two masked captures, or the first entries of two, are the same exactly if the captures are the same
-/// but for the values that are masked. Captures that are the same are the same but for these too, and if
-/// no class is masked there is no difference.
+/// but for the values that are masked. The bytes of the canonical forms of the masked ones decide it.
+/// Captures that are the same are the same but for these values too, and if no class is masked there is
+/// no difference.
 pub fn masked_captures_are_the_same()
     ensures masked { (ways : Ways) (a b : List Entry) → AreFirst a → AreFirst b
-        → IsDecided ways a b }
+        → MaskedFormsDecide ways a b }
+    ensures bytes { (ways : Ways) (a b : List Entry) → AreFirst a → AreFirst b
+        → MaskedBytesDecide ways a b }
     ensures weaker { (ways : Ways) (a b : List Entry) → AreFirst a → AreFirst b
         → Same a b → SameBut ways a b }
     ensures unmasked { (ways : Ways) (a b : List Entry) → KeepsAll ways
