@@ -59,7 +59,7 @@ class_stays (WriteVerf name bytes) (Some m) = refl
 class_stays (Opaque kind name bytes) (Some m) = refl
 class_stays (Rest name bytes) (Some m) = refl
 
-value_put : (i : Item) (m : ℕ) (d : Class) → m < 2 ^ 64 → class_of i ≡ Some d → class_value (with_value i (Some m)) ≡ m
+pub value_put : (i : Item) (m : ℕ) (d : Class) → m < 2 ^ 64 → class_of i ≡ Some d → class_value (with_value i (Some m)) ≡ m
 value_put (Word name n) m d small is = refl
 value_put (Hyper name n) m d small is = refl
 value_put (Fixed name bytes) m d small is = ap (big_number 8) (sym (append-nil (big_bytes 8 m))) ∙ big_number-reads_back 8 m [] small
@@ -81,10 +81,10 @@ and_false : (b : Bool) → (b && false) ≡ false
 and_false true = refl
 and_false false = refl
 
-zero_still : (d : Class) (n : ℕ) → is_zero_that_stays d n ≡ true → is_zero_that_stays d 0 ≡ true
+pub zero_still : (d : Class) (n : ℕ) → is_zero_that_stays d n ≡ true → is_zero_that_stays d 0 ≡ true
 zero_still d n e = by_test (zero_stays d) (λ t. rw t refl) (λ f. absurd (cc (rw f at e)))
 
-no_zero : (d : Class) (m : ℕ) → is_zero_that_stays d (1 + m) ≡ false
+pub no_zero : (d : Class) (m : ℕ) → is_zero_that_stays d (1 + m) ≡ false
 no_zero d m = by_test (1 + m == 0)
     (λ t. let none : 1 + m ≡ 0 = (Decides-eqb (1 + m) 0).0 t in absurd (omega arith))
     (λ f. rw f (and_false (zero_stays d)))
@@ -92,7 +92,7 @@ no_zero d m = by_test (1 + m == 0)
 -- ---- numbers of numbers
 
 module _ (all : List Item) (d : Class) where
-  is_seen : (i : Item) → Member i all → class_of i ≡ Some d → is_zero_that_stays d (class_value i) ≡ false → Member (class_value i) (values all d)
+  pub is_seen : (i : Item) → Member i all → class_of i ≡ Some d → is_zero_that_stays d (class_value i) ≡ false → Member (class_value i) (values all d)
   is_seen i m is f = member_among (value_in d) m (subst (Member (class_value i)) (sym (ap (λ o. value_where d o (class_value i)) is ∙ value_given d (class_value i) f)) here)
 
   seen_too : {n x : ℕ} {l : List ℕ} → Member n l → Member x (n ∷ l) → Member x l
@@ -106,7 +106,7 @@ module _ (all : List Item) (d : Class) where
       rw f (rw (no_zero d _) (rank-map nat_eq Decides-eqb nat_eq Decides-eqb (λ n. rank nat_eq n (values all d)) (class_value i) (values all d)
       (λ x y mx my e. same_rank nat_eq Decides-eqb (seen_too among mx) (seen_too among my) e))))
 
-  small : length (values all d) < 2 ^ 64 → (i : Item) → Member i all → class_of i ≡ Some d → number_among (values all d) d (class_value i) < 2 ^ 64
+  pub small : length (values all d) < 2 ^ 64 → (i : Item) → Member i all → class_of i ≡ Some d → number_among (values all d) d (class_value i) < 2 ^ 64
   small few i m is = by_test (is_zero_that_stays d (class_value i))
       (λ t. rw t (omega arith))
       (λ f. let low = rank-le-length nat_eq Decides-eqb (is_seen i m is f) in rw f (omega (arith, few, low)))
@@ -119,7 +119,7 @@ module _ (all : List Item) (d : Class) where
       (λ f. rw (value_given d (class_value i) f) (rw f (value_given d _ (no_zero d _))))
 
 module _ (ways : Ways) (all : List Item) (room : (c : Class) → length (values all c) < 2 ^ 64) where
-  by_class : (i : Item) (d : Class) (w : Way) → class_of i ≡ Some d → way_of ways d ≡ w → masked_item ways (values all) i ≡ with_value i (by_way w (values all d) d (class_value i))
+  pub by_class : (i : Item) (d : Class) (w : Way) → class_of i ≡ Some d → way_of ways d ≡ w → masked_item ways (values all) i ≡ with_value i (by_way w (values all d) d (class_value i))
   by_class i d w is way = ap (λ o. with_value i (substitute ways (values all) o (class_value i))) is ∙ ap (λ v. with_value i (by_way v (values all d) d (class_value i))) way
 
   class_of_masked : (i : Item) → class_of (masked_item ways (values all) i) ≡ class_of i

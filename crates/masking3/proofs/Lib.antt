@@ -4,3 +4,9 @@ pub mod MaskedLemmas
 pub mod WriterLemmas
 pub mod FormLemmas
 pub mod AgainLemmas
+pub mod FewValues
+pub mod MaskedShapes
+pub mod MaskedMessages
+pub mod MaskedFiles
+pub mod SameButLemmas
+pub mod FirstEntries

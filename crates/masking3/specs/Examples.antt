@@ -2,8 +2,9 @@
 use Rattle.std.specs.Prelude.{◌≡◌, ℕ, List, [], ◌∷◌, codes}
 use Rattle.xdr3.specs.Item.{Item, Word, Hyper, Fixed, Opaque, Text, Var, Handle}
 use Rattle.capture3.specs.Entry.{Entry, Call}
-use Rattle.canon3.specs.Examples.{call_of, success_reply}
+use Rattle.canon3.specs.Examples.{aa, bb, call_of, getattr, one, success_reply}
 use Rattle.masking3.specs.Masked.{masked}
+use Rattle.masking3.specs.SameBut.{SameBut}
 use Rattle.masking3.specs.Ways.{usual}
 
 -- the entries are masked as these
@@ -81,3 +82,24 @@ stamped_null xid stamp =
 
 abbrev pub MasksStamps : Type 0
 MasksStamps = AreMaskedAs (stamped_null 7 123456 ∷ []) (stamped_null 7 0 ∷ [])
+
+-- GETATTRs of two files: their ids, and the seconds of their times
+abbrev pub getattrs_of_two : (first second sec : ℕ) → List Entry
+getattrs_of_two first second sec =
+    one (getattr 5 aa ∷ getattr 6 bb ∷ [])
+    (getattr_reply 5 0 9 first sec 0 ∷ getattr_reply 6 0 9 second sec 0 ∷ [])
+
+abbrev pub list_from : ℕ → List Entry
+list_from cookie = one (readdir 7 cookie zeros ∷ []) []
+
+abbrev pub AreTold : List Entry → List Entry → Type 0
+AreTold a b = SameBut usual a b → ⊥
+
+pub record ComparesRuns : Type 0 where
+  -- other ids and other times
+  pub renamed : SameBut usual (getattrs_of_two 77 78 1700000000) (getattrs_of_two 6 5 1800000000)
+  -- two ids become one, or one becomes two
+  pub merged : AreTold (getattrs_of_two 77 78 1700000000) (getattrs_of_two 5 5 1700000000)
+  pub split : AreTold (getattrs_of_two 77 77 1700000000) (getattrs_of_two 5 6 1700000000)
+  -- the first cookie is no other one
+  pub first_cookie : AreTold (list_from 0) (list_from 512)

@@ -1,11 +1,15 @@
 -- What the laws say of the masked form.
-use Rattle.std.specs.Prelude.{◌≡◌, ◌<◌, ◌^◌, List, ◌++◌, length}
+use Rattle.std.specs.Prelude.{◌≡◌, ◌↔◌, ◌<◌, ◌^◌, List, ◌++◌, length}
 use Rattle.std.specs.List.{flat_map}
 use Rattle.capture3.specs.Entry.{Entry, items_of}
+use Rattle.canon3.specs.Bytes.{bytes_of}
+use Rattle.canon3.specs.Canonical.{canonical}
+use Rattle.canon3.specs.Renaming.{Same}
 use Rattle.masking3.specs.declared.class.Class.{Class}
 use Rattle.masking3.specs.declared.ways.Way.TheVariants.{Keep}
 use Rattle.masking3.specs.declared.ways.Ways.{Ways}
 use Rattle.masking3.specs.Masked.{masked, values}
+use Rattle.masking3.specs.SameBut.{SameBut}
 use Rattle.masking3.specs.Ways.{way_of}
 
 -- the number of each value has room in eight bytes
@@ -24,3 +28,13 @@ KeepsAll ways = (class : Class) → way_of ways class ≡ Keep
 -- the form of the first entries is the first entries of the form
 abbrev pub MasksFronts : Ways → List Entry → List Entry → Type 0
 MasksFronts ways a b = (more : List Entry) × (masked ways (a ++ b) ≡ masked ways a ++ more)
+
+-- the masked forms are the same exactly if the captures are the same but for what is masked
+abbrev pub MaskedFormsDecide : Ways → List Entry → List Entry → Type 0
+MaskedFormsDecide ways a b = Same (masked ways a) (masked ways b) ↔ SameBut ways a b
+
+-- so do the bytes of their canonical forms
+abbrev pub MaskedBytesDecide : Ways → List Entry → List Entry → Type 0
+MaskedBytesDecide ways a b =
+    (bytes_of (canonical (masked ways a)) ≡ bytes_of (canonical (masked ways b)))
+    ↔ SameBut ways a b

@@ -2,6 +2,7 @@
 pub mod Classes
 pub mod Ways
 pub mod Masked
+pub mod SameBut
 pub mod Laws
 pub mod Examples
 pub mod machinery

@@ -1,7 +1,7 @@
 //! Small captures worked by hand. Each function ensures what the definitions say of some entries, and its
 //! proof computes it.
 
-ghost use Rattle.masking3.specs.Examples.{MasksGetattrs, MasksReaddirs, MasksStamps};
+ghost use Rattle.masking3.specs.Examples.{ComparesRuns, MasksGetattrs, MasksReaddirs, MasksStamps};
 
 /// Three GETATTR replies: times and space are 0, and ids of files and of file systems are numbered apart.
 pub fn getattr_replies()
@@ -16,4 +16,10 @@ pub fn readdir_cookies()
 /// An AUTH_SYS credential: the stamp is 0.
 pub fn system_stamp()
     ensures { MasksStamps }
+{}
+
+/// Two runs that differ in times and in ids, one to one, are the same but for what is masked. Runs in which
+/// two ids are one in the other run, or in which the first cookie is another one, are not.
+pub fn compared_runs()
+    ensures { ComparesRuns }
 {}

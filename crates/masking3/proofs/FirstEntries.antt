@@ -1,0 +1,81 @@
+-- The first entries of a well-formed file have xids of no class, and room for the numbers of their values.
+use Rattle.std.proofs.Common.{◌<◌, ◌^◌, List, [], ◌∷◌, ◌++◌, length, sym, subst, arith, ap, ◌∙◌}
+use Rattle.std.specs.List.{AllByRecursion}
+use Rattle.xdr3.specs.Item.{Item}
+use Rattle.capture3.specs.Bodies.{ReplyItems}
+use Rattle.capture3.specs.Entry.{Entry}
+use Rattle.canon3.specs.Bytes.{bytes_of}
+use Rattle.canon3.specs.Laws.{AreFirst}
+use Rattle.canon3.specs.Renaming.{Same}
+use Rattle.canon3.specs.machinery.Summary.{all_items}
+use Rattle.canon3.proofs.Conversations.{IsSpelledCall, IsSpelledReply}
+use Rattle.canon3.proofs.Equality.{same_reflexive, same_symmetric, same_transitive}
+use Rattle.canon3.proofs.Files.{all_entries, holds}
+use Rattle.canon3.proofs.First.{first_in_order, same_from_bytes}
+use Rattle.canon3.proofs.Messages.{is_headed_call, is_headed_reply}
+use Rattle.canon3.proofs.OneFormLemmas.{canonical-same}
+use Rattle.masking3.specs.declared.class.Class.{Class}
+use Rattle.masking3.specs.declared.ways.Ways.{Ways}
+use Rattle.masking3.specs.Laws.{MaskedBytesDecide, MaskedFormsDecide}
+use Rattle.masking3.specs.Masked.{masked, values}
+use Rattle.masking3.specs.SameBut.{SameBut}
+use Rattle.masking3.proofs.FewValues.{few_of_first}
+use Rattle.masking3.proofs.MaskedFiles.{masked_is_file}
+use Rattle.masking3.proofs.MaskedLemmas.{after, masked-append}
+use Rattle.masking3.proofs.MaskedShapes.{xid_free}
+use Rattle.masking3.proofs.SameButLemmas.{HasFreeXid, StartsFree, same_but_from_same, same_from_same_but, same_masked}
+
+free_call : (m : List Item) → IsSpelledCall m → StartsFree m
+free_call m s = let h = is_headed_call m s.0.0 in subst StartsFree (sym h.is) xid_free
+
+free_reply : (r : ReplyItems) → IsSpelledReply r → StartsFree r.items
+free_reply r s = let h = is_headed_reply r.id r.items s.0.0 in subst StartsFree (sym h.is) xid_free
+
+all_in_front : (P : Entry → Type 0) (a b : List Entry) → AllByRecursion P (a ++ b) → AllByRecursion P a
+all_in_front P [] b h = tt
+all_in_front P (e ∷ a) b h = (h.0, all_in_front P a b h.1)
+
+xids_free : (a : List Entry) → AreFirst a → AllByRecursion HasFreeXid a
+xids_free a first =
+    let h = holds first.file first.all first.typed in
+    let all : AllByRecursion HasFreeXid first.all = subst (AllByRecursion HasFreeXid) (sym h.is) (all_entries HasFreeXid free_call free_reply tt tt tt tt h.cs h.are.converse) in
+    all_in_front HasFreeXid a first.more (subst (AllByRecursion HasFreeXid) first.split all)
+
+pub room_of : (a : List Entry) → AreFirst a → (d : Class) → length (values (all_items a) d) < 2 ^ 64
+room_of a first d = omega (arith, few_of_first d a first)
+
+pub decided : (ways : Ways) (a b : List Entry) → AreFirst a → AreFirst b → MaskedFormsDecide ways a b
+decided ways a b first second = (same_but_from_same ways a b (room_of a first) (room_of b second) (xids_free a first), same_from_same_but ways a b (xids_free a first))
+
+-- ---- masked entries are first entries too
+
+pub masked_first : (ways : Ways) (a : List Entry) → AreFirst a → AreFirst (masked ways a)
+masked_first ways a first = record {
+  file = bytes_of (masked ways first.all);
+  all = masked ways first.all;
+  more = after ways a first.more;
+  typed = (masked_is_file ways first.file first.all first.typed).0;
+  split = ap (masked ways) first.split ∙ masked-append ways a first.more;
+}
+
+pub bytes_decide : (ways : Ways) (a b : List Entry) → AreFirst a → AreFirst b → MaskedBytesDecide ways a b
+bytes_decide ways a b first second = (
+  (λ e. (decided ways a b first second).0 (same_from_bytes (masked ways a) (masked ways b) (masked_first ways a first) (masked_first ways b second) e)),
+  (λ s. ap bytes_of (canonical-same ((decided ways a b first second).1 s))),
+)
+
+-- ---- up to less
+
+pub same_but_from_all : (ways : Ways) (a b : List Entry) → AreFirst a → AreFirst b → Same a b → SameBut ways a b
+same_but_from_all ways a b first second s = (decided ways a b first second).0 (same_masked ways a b (xids_free a first) s)
+
+pub same_but_reflexive : (ways : Ways) (a : List Entry) → AreFirst a → SameBut ways a a
+same_but_reflexive ways a first = same_but_from_all ways a a first first (same_reflexive a (first_in_order a first))
+
+pub same_but_symmetric : (ways : Ways) (a b : List Entry) → AreFirst a → AreFirst b → SameBut ways a b → SameBut ways b a
+same_but_symmetric ways a b first second s =
+    (decided ways b a second first).0 (same_symmetric (masked ways a) (masked ways b) ((decided ways a b first second).1 s))
+
+pub same_but_transitive : (ways : Ways) (a b c : List Entry) → AreFirst a → AreFirst b → AreFirst c → SameBut ways a b → SameBut ways b c → SameBut ways a c
+same_but_transitive ways a b c first second third s t =
+    (decided ways a c first third).0 (same_transitive (masked ways a) (masked ways b) (masked ways c) ((decided ways a b first second).1 s) ((decided ways b c second third).1 t))
