@@ -1,8 +1,9 @@
 // A source over bytes in memory.
 
-ghost use Rattle.std.specs.Prelude.{◌≡◌, ◌≤◌, ◌<◌, ◌-◌, ◌↔◌, length, min, Some, IfOk, IsErr};
-ghost use Rattle.std.specs.Io.KnownBytes.{ReadConsumes};
+ghost use Rattle.std.specs.Prelude.{◌≡◌, ◌≤◌, ◌<◌, ◌-◌, ◌↔◌, length, min, None, Some, IfOk, IsErr};
 ghost use Rattle.capture3.specs.Device.{Counts};
+ghost use Rattle.capture3.specs.MemSource.{told_in_memory};
+ghost use Rattle.capture3.specs.Told.{ReadGives};
 
 use crate::device::DeviceFailed;
 use crate::device::plan::FaultPlan;
@@ -54,14 +55,15 @@ impl<'a> MemSource<'a> {
 }
 
 impl Source for MemSource<'_> {
-    ghost left = { λ s. Some s.left };
+    ghost told = { told_in_memory };
 
     ghost failures = { λ s. s.failures };
 
     fn read_some(&mut self, buf: &mut [u8]) -> Result<usize, DeviceFailed>
         requires room { 0 < length buf.old }
         ensures within { IfOk result (λ n. n ≤ length buf.new) }
-        ensures bytes { ReadConsumes (Some self.old.left) (Some self.new.left) result buf.new }
+        ensures bytes { ReadGives (told_in_memory self.old) (told_in_memory self.new) result
+            buf.new }
         ensures count { Counts self.old.failures self.new.failures result }
 
         // How many bytes a call gives, and which call fails.
