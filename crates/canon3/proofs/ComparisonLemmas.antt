@@ -1,6 +1,7 @@
 -- A comparison of two captures, entry by entry.
 use Rattle.std.proofs.Common.{◌≡◌, ◌≢◌, ℕ, ◌<◌, ◌^◌, List, [], ◌∷◌, ◌++◌, length, append-nil, append_assoc, Option, None, Some, Result, Ok, Err, refl, sym, ap, ◌∙◌, subst, arith}
-use Rattle.std.specs.Io.KnownBytes.{Consumes, IsAtEnd}
+use Rattle.capture3.specs.Told.{IsSpent, Told}
+use Rattle.std.specs.Io.KnownBytes.{Consumes}
 use Rattle.std.specs.Option.{is_some, IsSomeAnd, MatchOption}
 use Rattle.std.proofs.KnownBytes.{Consumes-all, Consumes-trans}
 use Rattle.std.specs.declared.hash.BuildHasher as BuildHasher
@@ -80,15 +81,15 @@ module _ {S H : Type 0} (comparison : Comparison S H) (a b : List Entry) (n : Me
 
 -- ---- what a reader answers
 
-pub met_refused : (file given : List ℕ) (handed : List Entry) (left : Option (List ℕ)) (error : Error) → Consumes (Some file) left given → IsMetBy error left given handed → SaysOfFile file error
-met_refused file given handed left (errors.Refused fault) consumed met = met_is_first file given handed left fault consumed met
-met_refused file given handed left errors.Read consumed met = tt
-met_refused file given handed left errors.Write consumed met = tt
-met_refused file given handed left errors.Memory consumed met = tt
+pub met_refused : (file given : List ℕ) (handed : List Entry) (tells : Told) (error : Error) → Consumes (Some file) tells.left given → IsMetBy error tells given handed → SaysOfFile file error
+met_refused file given handed tells (errors.Refused fault) consumed met = met_is_first file given handed tells fault consumed met
+met_refused file given handed tells errors.Read consumed met = tt
+met_refused file given handed tells errors.Write consumed met = tt
+met_refused file given handed tells errors.Memory consumed met = tt
 
-pub all_typed : (file given : List ℕ) (handed : List Entry) (left : Option (List ℕ)) → Consumes (Some file) left given → IsAtEnd left → Typed given handed → Typed file handed
-all_typed file given handed left consumed ended typed =
-    let all : given ≡ file = Consumes-all (Some file) left given [] given consumed ended refl in
+pub all_typed : (file given : List ℕ) (handed : List Entry) (tells : Told) → Consumes (Some file) tells.left given → IsSpent tells → Typed given handed → Typed file handed
+all_typed file given handed tells consumed ended typed =
+    let all : given ≡ file = Consumes-all (Some file) tells.left given [] given consumed ended.1 refl in
     subst (λ (l : List ℕ). Typed l handed) all typed
 
 pub first_stops : (file other : List ℕ) (error : Error) → SaysOfFile file error → StopsComparing file other error First
@@ -105,52 +106,52 @@ second_stops file other errors.Memory whole met = tt
 
 -- ---- along a reader
 
-module _ {R S H V : Type 0} {builds : BuildHasher.Ghosts S H} {hashes : Hasher.Ghosts H} (left : R → Option (List ℕ)) (stands : V → List Item → Type 0) (file : List ℕ) (old new : Entries R S H builds hashes) (was now : V) (handed : List Entry) where
+module _ {R S H V : Type 0} {builds : BuildHasher.Ghosts S H} {hashes : Hasher.Ghosts H} (telling : R → Told) (stands : V → List Item → Type 0) (file : List ℕ) (old new : Entries R S H builds hashes) (was now : V) (handed : List Entry) where
   -- what a call of it says of the file, and of the visitor
   abbrev pub Hands : Result (Option Kind) Error → Type 0
-  Hands (Ok (Some kind)) = (entry : Entry) × IsOfKind kind entry × AreFirst (handed ++ entry ∷ []) × (length (handed ++ entry ∷ []) < 2 ^ 32) × Adds stands was now (items_of entry) × HasGiven left file new (handed ++ entry ∷ [])
-  Hands (Ok None) = Typed file handed × HasGiven left file new handed
+  Hands (Ok (Some kind)) = (entry : Entry) × IsOfKind kind entry × AreFirst (handed ++ entry ∷ []) × (length (handed ++ entry ∷ []) < 2 ^ 32) × Adds stands was now (items_of entry) × HasGiven telling file new (handed ++ entry ∷ [])
+  Hands (Ok None) = Typed file handed × HasGiven telling file new handed
   Hands (Err error) = SaysOfFile file error
 
-  pub hands : (h : HasGiven left file old handed) (result : Result (Option Kind) Error) → HandsOutGiven left stands old new was now h.given handed result → Hands result
+  pub hands : (h : HasGiven telling file old handed) (result : Result (Option Kind) Error) → HandsOutGiven telling stands old new was now h.given handed result → Hands result
   hands h (Ok (Some kind)) a =
       let (entry, is, reached, adds, stands_for) = a.hands_out in
       let few : length (handed ++ entry ∷ []) < 2 ^ 32 = omega (arith, stands_for.few) in
-      (entry, is, first_reached (h.given ++ a.more) (handed ++ entry ∷ []) reached, few, adds, record { given = h.given ++ a.more; consumed = Consumes-trans (Some file) (left (source_of old)) (left (source_of new)) h.given a.more h.consumed a.consumed; stands = stands_for })
+      (entry, is, first_reached (h.given ++ a.more) (handed ++ entry ∷ []) reached, few, adds, record { given = h.given ++ a.more; consumed = Consumes-trans (Some file) (telling (source_of old)).left (telling (source_of new)).left h.given a.more h.consumed a.consumed.0; stands = stands_for })
   hands h (Ok None) a =
-      let consumed = Consumes-trans (Some file) (left (source_of old)) (left (source_of new)) h.given a.more h.consumed a.consumed in
+      let consumed = Consumes-trans (Some file) (telling (source_of old)).left (telling (source_of new)).left h.given a.more h.consumed a.consumed.0 in
       let (typed, ended, stands_for) = a.hands_out in
-      (all_typed file (h.given ++ a.more) handed (left (source_of new)) consumed ended typed, record { given = h.given ++ a.more; consumed = consumed; stands = stands_for })
+      (all_typed file (h.given ++ a.more) handed (telling (source_of new)) consumed ended typed, record { given = h.given ++ a.more; consumed = consumed; stands = stands_for })
   hands h (Err error) a =
-      met_refused file (h.given ++ a.more) handed (left (source_of new)) error (Consumes-trans (Some file) (left (source_of old)) (left (source_of new)) h.given a.more h.consumed a.consumed) a.hands_out.0
+      met_refused file (h.given ++ a.more) handed (telling (source_of new)) error (Consumes-trans (Some file) (telling (source_of old)).left (telling (source_of new)).left h.given a.more h.consumed a.consumed.0) a.hands_out.0
 
-module _ {R S H : Type 0} {builds : BuildHasher.Ghosts S H} {hashes : Hasher.Ghosts H} (left : R → Option (List ℕ)) (file : List ℕ) (reader : Entries R S H builds hashes) (handed : List Entry) where
-  pub given_on : HasGiven left file reader handed → HasGivenOn left file reader handed
-  given_on h = record { more = []; all = subst (HasGiven left file reader) (sym (append-nil handed)) h }
+module _ {R S H : Type 0} {builds : BuildHasher.Ghosts S H} {hashes : Hasher.Ghosts H} (telling : R → Told) (file : List ℕ) (reader : Entries R S H builds hashes) (handed : List Entry) where
+  pub given_on : HasGiven telling file reader handed → HasGivenOn telling file reader handed
+  given_on h = record { more = []; all = subst (HasGiven telling file reader) (sym (append-nil handed)) h }
 
 -- the next entry was handed out, if there is one
-pub read_on : {R S H V : Type 0} {builds : BuildHasher.Ghosts S H} {hashes : Hasher.Ghosts H} (left : R → Option (List ℕ)) (stands : V → List Item → Type 0) (file : List ℕ) (old new : Entries R S H builds hashes) (was now : V) (handed : List Entry) (h : HasGivenOn left file old handed) (next : Option Kind) → Hands left stands file old new was now (handed ++ h.more) (Ok next) → ReadsOn left file new handed (Ok (is_some next))
-read_on left stands file old new was now handed h (Some kind) (entry, is, first, few, adds, given) = record { more = h.more ++ entry ∷ []; all = subst (HasGiven left file new) (append_assoc handed h.more (entry ∷ [])) given }
-read_on left stands file old new was now handed h None (typed, given) = (h.more, typed)
+pub read_on : {R S H V : Type 0} {builds : BuildHasher.Ghosts S H} {hashes : Hasher.Ghosts H} (telling : R → Told) (stands : V → List Item → Type 0) (file : List ℕ) (old new : Entries R S H builds hashes) (was now : V) (handed : List Entry) (h : HasGivenOn telling file old handed) (next : Option Kind) → Hands telling stands file old new was now (handed ++ h.more) (Ok next) → ReadsOn telling file new handed (Ok (is_some next))
+read_on telling stands file old new was now handed h (Some kind) (entry, is, first, few, adds, given) = record { more = h.more ++ entry ∷ []; all = subst (HasGiven telling file new) (append_assoc handed h.more (entry ∷ [])) given }
+read_on telling stands file old new was now handed h None (typed, given) = (h.more, typed)
 
 -- a new reader
-pub fresh : {R S H : Type 0} {builds : BuildHasher.Ghosts S H} {hashes : Hasher.Ghosts H} (left : R → Option (List ℕ)) (file : List ℕ) (reader : Entries R S H builds hashes) → left (source_of reader) ≡ Some file → StandsFor left reader [] [] → HasGiven left file reader []
-fresh left file reader tells stands = record { given = []; consumed = subst (λ (o : Option (List ℕ)). Consumes (Some file) o []) (sym tells) refl; stands = stands }
+pub fresh : {R S H : Type 0} {builds : BuildHasher.Ghosts S H} {hashes : Hasher.Ghosts H} (telling : R → Told) (file : List ℕ) (reader : Entries R S H builds hashes) → (telling (source_of reader)).left ≡ Some file → StandsFor telling reader [] [] → HasGiven telling file reader []
+fresh telling file reader tells stands = record { given = []; consumed = subst (λ (o : Option (List ℕ)). Consumes (Some file) o []) (sym tells) refl; stands = stands }
 
 -- ---- along two readers
 
 pub turned : (a b : List Entry) → Agree a b → Agree b a
 turned a b g = record { many = sym g.many; bytes = sym g.bytes }
 
-module _ {R S H : Type 0} {builds : BuildHasher.Ghosts S H} {hashes : Hasher.Ghosts H} (left : R → Option (List ℕ)) (file other : List ℕ) (reader : Entries R S H builds hashes) (comparison : Comparison S H) (a b : List Entry) (e : Entry) where
-  pub refused_meets : (error : Error) → SaysOfFile other error → Meets left file other reader comparison a b e (met_second error)
+module _ {R S H : Type 0} {builds : BuildHasher.Ghosts S H} {hashes : Hasher.Ghosts H} (telling : R → Told) (file other : List ℕ) (reader : Entries R S H builds hashes) (comparison : Comparison S H) (a b : List Entry) (e : Entry) where
+  pub refused_meets : (error : Error) → SaysOfFile other error → Meets telling file other reader comparison a b e (met_second error)
   refused_meets (errors.Refused fault) met = met
   refused_meets errors.Read met = tt
   refused_meets errors.Write met = tt
   refused_meets errors.Memory met = tt
 
   -- an entry of the second came, and was compared
-  pub compared_meets : (f : Entry) → HasGiven left other reader (b ++ f ∷ []) → (place : Option Place) (finding : Option Finding) → MatchOption place (finding ≡ None) (λ p. IsSomeAnd finding (λ parted. parted ≡ findings.Parted p)) → Compares comparison a b e f place → Meets left file other reader comparison a b e (Ok finding)
+  pub compared_meets : (f : Entry) → HasGiven telling other reader (b ++ f ∷ []) → (place : Option Place) (finding : Option Finding) → MatchOption place (finding ≡ None) (λ p. IsSomeAnd finding (λ parted. parted ≡ findings.Parted p)) → Compares comparison a b e f place → Meets telling file other reader comparison a b e (Ok finding)
   compared_meets f given None finding is compared = rw is (record { f = f; given = given; compared = compared })
   compared_meets f given (Some p) None is parts = absurd is
   compared_meets f given (Some p) (Some parted) is parts = rw is (record { f = f; given = given; parts = parts })
@@ -161,22 +162,22 @@ module _ {R S H : Type 0} {builds : BuildHasher.Ghosts S H} {hashes : Hasher.Gho
       let none : e ∷ [] ≡ [] = no_more other b a (e ∷ []) typed first (turned a b g) in
       absurd (cc)
 
-module _ {A B S H : Type 0} {builds : BuildHasher.Ghosts S H} {hashes : Hasher.Ghosts H} (left : A → Option (List ℕ)) (left_other : B → Option (List ℕ)) (file other : List ℕ) (first : Entries A S H builds hashes) (second : Entries B S H builds hashes) (comparison : Comparison S H) where
-  pub stepped : (a b : List Entry) (e : Entry) → HasGiven left file first (a ++ e ∷ []) → (result : Result (Option Finding) SameError) → Meets left_other file other second comparison a b e result → StepsOn left left_other file other first second comparison result
+module _ {A B S H : Type 0} {builds : BuildHasher.Ghosts S H} {hashes : Hasher.Ghosts H} (telling : A → Told) (telling_other : B → Told) (file other : List ℕ) (first : Entries A S H builds hashes) (second : Entries B S H builds hashes) (comparison : Comparison S H) where
+  pub stepped : (a b : List Entry) (e : Entry) → HasGiven telling file first (a ++ e ∷ []) → (result : Result (Option Finding) SameError) → Meets telling_other file other second comparison a b e result → StepsOn telling telling_other file other first second comparison result
   stepped a b e given (Ok None) m = record { a = a ++ e ∷ []; b = b ++ m.f ∷ []; first_given = given; second_given = m.given; compared = m.compared }
   stepped a b e given (Ok (Some findings.Ended)) m = absurd m
   stepped a b e given (Ok (Some (findings.Parted place))) m = record { a = a; b = b; e = e; f = m.f; first_given = given; second_given = m.given; parts = m.parts }
   stepped a b e given (Ok (Some (findings.Refused fault))) m = ((a ++ e ∷ [], given), m)
   stepped a b e given (Err error) m = m
 
-module _ {A B S H : Type 0} {builds : BuildHasher.Ghosts S H} {hashes : Hasher.Ghosts H} (left : A → Option (List ℕ)) (left_other : B → Option (List ℕ)) (file other : List ℕ) (first : Entries A S H builds hashes) (second : Entries B S H builds hashes) where
-  pub first_of : (finding : Finding) → IsFound left left_other file other first second finding → (a : List Entry) × HasGiven left file first a
+module _ {A B S H : Type 0} {builds : BuildHasher.Ghosts S H} {hashes : Hasher.Ghosts H} (telling : A → Told) (telling_other : B → Told) (file other : List ℕ) (first : Entries A S H builds hashes) (second : Entries B S H builds hashes) where
+  pub first_of : (finding : Finding) → IsFound telling telling_other file other first second finding → (a : List Entry) × HasGiven telling file first a
   first_of findings.Ended found = (found.a, found.first_given)
   first_of (findings.Parted place) found = (found.a ++ found.e ∷ [], found.first_given)
   first_of (findings.Refused fault) found = found.0
 
   -- the second has no more either
-  pub ended_decides : (h : HaveEnded left left_other file other first second) (result : Result Verdict SameError) → IsReadAfter other h.b verdicts.Same result → DecidesSame file other result
+  pub ended_decides : (h : HaveEnded telling telling_other file other first second) (result : Result Verdict SameError) → IsReadAfter other h.b verdicts.Same result → DecidesSame file other result
   ended_decides h (Ok answer) (same, more, typed) =
       let none : more ≡ [] = no_more file h.a h.b more h.typed (typed_first other (h.b ++ more) [] (subst (Typed other) (sym (append-nil (h.b ++ more))) typed)) h.agree in
       let whole : Typed other h.b = subst (Typed other) (ap (λ (l : List Entry). h.b ++ l) none ∙ append-nil h.b) typed in
@@ -184,7 +185,7 @@ module _ {A B S H : Type 0} {builds : BuildHasher.Ghosts S H} {hashes : Hasher.G
       rw same (h.a, h.b, h.typed, whole, alike)
   ended_decides h (Err error) (is, met) = rw is (second_stops file other error.error (h.a, h.typed) met)
 
-  pub parted_decides : (place : Place) (h : HaveParted left left_other file other first second place) (result : Result Verdict SameError) → (more : List Entry) × Typed file ((h.a ++ h.e ∷ []) ++ more) → IsReadAfter other (h.b ++ h.f ∷ []) (verdicts.Differ place) result → DecidesSame file other result
+  pub parted_decides : (place : Place) (h : HaveParted telling telling_other file other first second place) (result : Result Verdict SameError) → (more : List Entry) × Typed file ((h.a ++ h.e ∷ []) ++ more) → IsReadAfter other (h.b ++ h.f ∷ []) (verdicts.Differ place) result → DecidesSame file other result
   parted_decides place h (Ok answer) (more, typed) (same, rest, other_typed) =
       rw same ((h.a ++ h.e ∷ []) ++ more, (h.b ++ h.f ∷ []) ++ rest, typed, other_typed, not_same file other h.a h.b h.e h.f more rest place h.parts typed other_typed, parting file other h.a h.b h.e h.f more rest place h.parts typed other_typed)
   parted_decides place h (Err error) (more, typed) (is, met) = rw is (second_stops file other error.error ((h.a ++ h.e ∷ []) ++ more, typed) met)

@@ -1,8 +1,10 @@
 -- What is written of the entries that a reader hands out.
 use Rattle.std.proofs.Common.{⊎_elim, ℕ, Bool, true, false, List, [], ◌∷◌, ◌++◌, refl, Option, Result, Ok, Err, IfErr, IfOk, arith}
 use Rattle.std.specs.Prelude.{IsTrue}
-use Rattle.std.specs.Io.KnownBytes.{Appends, Consumes}
-use Rattle.std.proofs.KnownBytes.{Appends-nil, Consumes-nil}
+use Rattle.capture3.specs.Told.{Gave, Told}
+use Rattle.capture3.proofs.ToldLemmas.{gave_none}
+use Rattle.std.specs.Io.KnownBytes.{Appends}
+use Rattle.std.proofs.KnownBytes.{Appends-nil}
 use Rattle.std.specs.declared.hash.BuildHasher as BuildHasher
 use Rattle.std.specs.declared.hash.Hasher as Hasher
 use Rattle.xdr3.specs.Item.{Item}
@@ -30,23 +32,23 @@ module _ (form : List Entry → List ℕ) (prefixes : KeepsPrefixes form) where
       (entries ++ more, reached, front_of_first old new (form entries) rest (form (entries ++ more)) is cut)
 
   -- the reader met an error
-  pub met_stops : (error : Error) (left old new : Option (List ℕ)) (given : List ℕ) (entries : List Entry) → IsMetBy error left given entries → Appends old new (form entries) → IsStoppedBy form error left given old new
-  met_stops (errors.Refused fault) left old new given entries met written = (entries, met, written)
-  met_stops errors.Read left old new given entries met written = (entries, met, written)
-  met_stops errors.Write left old new given entries met written = absurd met
-  met_stops errors.Memory left old new given entries met written = cut_reached old new given entries met (whole_front old new (form entries) written)
+  pub met_stops : (error : Error) (told : Told) (old new : Option (List ℕ)) (given : List ℕ) (entries : List Entry) → IsMetBy error told given entries → Appends old new (form entries) → IsStoppedBy form error told given old new
+  met_stops (errors.Refused fault) told old new given entries met written = (entries, met, written)
+  met_stops errors.Read told old new given entries met written = (entries, met, written)
+  met_stops errors.Write told old new given entries met written = absurd met
+  met_stops errors.Memory told old new given entries met written = cut_reached old new given entries met (whole_front old new (form entries) written)
 
   -- before any byte was read
-  pub nothing_written : (left old : Option (List ℕ)) → WritesGiven form left left old old (Err errors.Memory)
-  nothing_written left old = ([], Consumes-nil left, (_, reached_by_machine [] (λ k. omega arith), ([], _, refl, Appends-nil old)))
+  pub nothing_written : (told : Told) (old : Option (List ℕ)) → WritesGiven form told told old old (Err errors.Memory)
+  nothing_written told old = ([], gave_none told, (_, reached_by_machine [] (λ k. omega arith), ([], _, refl, Appends-nil old)))
 
   -- ---- along a reader
 
-  module _ {R S H T : Type 0} {builds : BuildHasher.Ghosts S H} {hashes : Hasher.Ghosts H} (before : List Entry → List Item) (stands : T → List Item → Type 0) (going : T → Type 0) (left : R → Option (List ℕ)) (first old : Option (List ℕ)) (reader : Entries R S H builds hashes) (writer : T) (passed : Passed) (new : Option (List ℕ)) where
+  module _ {R S H T : Type 0} {builds : BuildHasher.Ghosts S H} {hashes : Hasher.Ghosts H} (before : List Entry → List Item) (stands : T → List Item → Type 0) (going : T → Type 0) (told : R → Told) (first : Told) (old : Option (List ℕ)) (reader : Entries R S H builds hashes) (writer : T) (passed : Passed) (new : Option (List ℕ)) where
     -- an entry was handed out and written, or cut
     pub written_goes_on : (given : List ℕ) (handed : List Entry) (one : Entry) (result : Result Bool Error) → IfOk result IsTrue → IfErr result IsOfWriting
-        → Consumes first (left (source_of reader)) given → AreFirstReached given (handed ++ one ∷ []) → StandsFor left reader given (handed ++ one ∷ [])
-        → HasMore form before stands going writer passed old new (handed ++ one ∷ []) result → WritesOn form before stands going left first old reader writer passed new result
+        → Gave first (told (source_of reader)) given → AreFirstReached given (handed ++ one ∷ []) → StandsFor told reader given (handed ++ one ∷ [])
+        → HasMore form before stands going writer passed old new (handed ++ one ∷ []) result → WritesOn form before stands going told first old reader writer passed new result
     written_goes_on given handed one (Ok true) more error consumed reached reads writes = record { given = given; handed = handed ++ one ∷ []; consumed = consumed; reads = reads; writes = writes }
     written_goes_on given handed one (Ok false) more error consumed reached reads writes = absurd (cc)
     written_goes_on given handed one (Err errors.Memory) more error consumed reached reads cut = record { given = given; consumed = consumed; stopped = cut_reached old new given (handed ++ one ∷ []) reached cut }

@@ -2,8 +2,10 @@
 use Rattle.std.proofs.Common.{◌≡◌, ◌≤◌, inl, inr, ℕ, ◌+◌, Bool, cond, min, Option, None, Some, Result, Ok, Err, IfOk, List, [], ◌∷◌, ◌++◌, count_by, length, refl, sym, ap, subst, ◌∙◌, append-nil, arith}
 use Rattle.std.specs.Prelude.{bytes_eq}
 use Rattle.std.specs.Cmp.Lexicographic.{nat_list_eq_equiv}
+use Rattle.capture3.specs.Told.{Told}
+use Rattle.capture3.proofs.ToldLemmas.{gave_none}
 use Rattle.std.specs.Io.KnownBytes.{Consumes}
-use Rattle.std.proofs.KnownBytes.{Consumes-all, Consumes-nil}
+use Rattle.std.proofs.KnownBytes.{Consumes-all}
 use Rattle.std.proofs.lemmas.Grind.{flat_map-append}
 use Rattle.std.proofs.lemmas.List.Sums.{sum_by-append, sum_by-cons}
 use Rattle.xdr3.specs.Item.{Item}
@@ -101,29 +103,30 @@ summary_is bytes summary entries typed sums = record {
 }
 
 -- where all bytes are told
-pub summary_of : (bytes : List ℕ) (old new : Option (List ℕ)) (result : Result Summary Error) → old ≡ Some bytes → ConcludesGiven old new result → IfOk result (IsSummary bytes)
+pub summary_of : (bytes : List ℕ) (old new : Told) (result : Result Summary Error) → old.left ≡ Some bytes → ConcludesGiven old new result → IfOk result (IsSummary bytes)
 summary_of bytes old new (Ok summary) tells (given, consumed, (ended, is)) =
-    let all : given ≡ bytes = Consumes-all (Some bytes) new given [] given (subst (λ (o : Option (List ℕ)). Consumes o new given) tells consumed) ended refl in
+    let all : given ≡ bytes = Consumes-all (Some bytes) new.left given [] given (subst (λ (o : Option (List ℕ)). Consumes o new.left given) tells consumed.0) ended.1 refl in
     subst (λ (b : List ℕ). IsSummary b summary) all is
 summary_of bytes old new (Err error) tells c = tt
 
 -- the fault that is met is the first of all bytes
-pub met_is_first : (bytes given : List ℕ) (entries : List Entry) (left : Option (List ℕ)) (fault : Fault) → Consumes (Some bytes) left given → IsMetBy (errors.Refused fault) left given entries → FirstFault bytes fault
-met_is_first bytes given entries None fault consumed met = absurd consumed
-met_is_first bytes given entries (Some rest) fault consumed met =
-    elim met [
-      | inl shown ↦ rw consumed (shown rest).0
-      | inr shown ↦ subst (λ (b : List ℕ). FirstFault b fault) (Consumes-all (Some bytes) (Some rest) given [] given consumed shown.0 refl) shown.1
-    ]
+pub met_is_first : (bytes given : List ℕ) (entries : List Entry) (told : Told) (fault : Fault) → Consumes (Some bytes) told.left given → IsMetBy (errors.Refused fault) told given entries → FirstFault bytes fault
+met_is_first bytes given entries told fault consumed (inl shown) = known told.left consumed
+  where
+    known : (left : Option (List ℕ)) → Consumes (Some bytes) left given → FirstFault bytes fault
+    known None consumed = absurd consumed
+    known (Some rest) consumed = rw consumed (shown rest).0
+met_is_first bytes given entries told fault consumed (inr shown) =
+    subst (λ (b : List ℕ). FirstFault b fault) (Consumes-all (Some bytes) told.left given [] given consumed shown.0.1 refl) shown.1
 
-pub faults_of : (bytes : List ℕ) (old new : Option (List ℕ)) (result : Result Summary Error) → old ≡ Some bytes → ConcludesGiven old new result → OnRefused result (FirstFault bytes)
+pub faults_of : (bytes : List ℕ) (old new : Told) (result : Result Summary Error) → old.left ≡ Some bytes → ConcludesGiven old new result → OnRefused result (FirstFault bytes)
 faults_of bytes old new (Ok summary) tells c = tt
 faults_of bytes old new (Err (errors.Refused met)) tells (given, consumed, (entries, is)) =
-    met_is_first bytes given entries new met (subst (λ (o : Option (List ℕ)). Consumes o new given) tells consumed) is
+    met_is_first bytes given entries new met (subst (λ (o : Option (List ℕ)). Consumes o new.left given) tells consumed.0) is
 faults_of bytes old new (Err errors.Read) tells c = tt
 faults_of bytes old new (Err errors.Write) tells c = tt
 faults_of bytes old new (Err errors.Memory) tells c = tt
 
 -- before any byte was read
-pub nothing_concluded : (left : Option (List ℕ)) → ConcludesGiven left left (Err errors.Memory)
-nothing_concluded left = ([], Consumes-nil left, ([], (_, reached_by_machine [] (λ k. omega arith))))
+pub nothing_concluded : (told : Told) → ConcludesGiven told told (Err errors.Memory)
+nothing_concluded told = ([], gave_none told, ([], (_, reached_by_machine [] (λ k. omega arith))))

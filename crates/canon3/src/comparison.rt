@@ -35,8 +35,8 @@ pub fn same<A: Source, B: Source, S: BuildHasher + Drop>(
     first: &mut A,
     second: &mut B,
 ) -> Result<Verdict, SameError>
-    ensures decides { (file other : List ℕ) → A.left first.old ≡ Some file
-        → B.left second.old ≡ Some other → DecidesSame file other result }
+    ensures decides { (file other : List ℕ) → (A.told first.old).left ≡ Some file
+        → (B.told second.old).left ≡ Some other → DecidesSame file other result }
     ensures read_first { CountsReadingOf Which.First (A.failures first.old)
         (A.failures first.new) result }
     ensures read_second { CountsReadingOf Which.Second (B.failures second.old)
@@ -93,12 +93,12 @@ fn compared<A: Source, B: Source, S: BuildHasher + Drop>(
 ) -> Result<Verdict, SameError>
     requires new { IsCompared comparison [] [] }
     requires none { steps_of comparison.progress ≡ 0 }
-    requires fresh_first { StandsFor A.left first.old [] [] }
-    requires fresh_second { StandsFor B.left second.old [] [] }
+    requires fresh_first { StandsFor A.told first.old [] [] }
+    requires fresh_second { StandsFor B.told second.old [] [] }
     requires going_first { failure_of first.old ≡ None }
     requires going_second { failure_of second.old ≡ None }
-    ensures decides { (file other : List ℕ) → A.left (source_of first.old) ≡ Some file
-        → B.left (source_of second.old) ≡ Some other → DecidesSame file other result }
+    ensures decides { (file other : List ℕ) → (A.told (source_of first.old)).left ≡ Some file
+        → (B.told (source_of second.old)).left ≡ Some other → DecidesSame file other result }
     ensures read_first { CountsReadsOf Which.First A.failures first.old first.new result }
     ensures read_second { CountsReadsOf Which.Second B.failures second.old second.new result }
     ensures write { IfErr result (λ error. error.error ≢ Error.Write) }
@@ -128,7 +128,7 @@ fn conclude<A: Source, B: Source, S: BuildHasher + Drop>(
 ) -> Result<Verdict, SameError>
     requires going_first { failure_of first.old ≡ None }
     requires going_second { failure_of second.old ≡ refusal_in (Some finding) }
-    ensures decides { (file other : List ℕ) → IsFound A.left B.left file other first.old second.old
+    ensures decides { (file other : List ℕ) → IsFound A.told B.told file other first.old second.old
         finding → DecidesSame file other result }
     ensures read_first { CountsReadsOf Which.First A.failures first.old first.new result }
     ensures read_second { CountsReadsOf Which.Second B.failures second.old second.new result }
@@ -159,7 +159,7 @@ fn read_second<R: Source, S: BuildHasher + Drop>(
 ) -> Result<Verdict, SameError>
     requires going { failure_of entries.old ≡ None }
     ensures out { (file : List ℕ) (handed : List spec.Entry)
-        → HasGiven R.left file entries.old handed → IsReadAfter file handed verdict result }
+        → HasGiven R.told file entries.old handed → IsReadAfter file handed verdict result }
     ensures read { CountsReadsOf Which.Second R.failures entries.old entries.new result }
     ensures never_first { (old : ℕ) → CountsReadingOf Which.First old old result }
     ensures write { IfErr result (λ error. error.error ≢ Error.Write) }
@@ -178,7 +178,7 @@ fn read_second<R: Source, S: BuildHasher + Drop>(
 fn read_out<R: Source, S: BuildHasher + Drop>(entries: &mut Entries<'_, R, S>) -> Result<(), Error>
     requires going { failure_of entries.old ≡ None }
     ensures out { (file : List ℕ) (handed : List spec.Entry)
-        → HasGivenOn R.left file entries.old handed → IsReadOut file handed result }
+        → HasGivenOn R.told file entries.old handed → IsReadOut file handed result }
     ensures read { CountsReads R.failures entries.old entries.new result }
     ensures write { IfErr result (λ error. error ≢ Error.Write) }
     ensures same_reference { loan_of entries.new ≡ loan_of entries.old }
@@ -193,8 +193,8 @@ fn read_next<R: Source, S: BuildHasher + Drop>(
 ) -> Result<bool, Error>
     requires going { failure_of entries.old ≡ None }
     ensures on { (file : List ℕ) (handed : List spec.Entry)
-        → HasGivenOn R.left file entries.old handed
-        → ReadsOn R.left file entries.new handed result }
+        → HasGivenOn R.told file entries.old handed
+        → ReadsOn R.told file entries.new handed result }
     ensures fewer { IfOk result (λ more. IsTrue more
         → entries_left entries.new < entries_left entries.old) }
     ensures going { OnOk result (failure_of entries.new ≡ None) }
@@ -224,8 +224,8 @@ impl<S: BuildHasher + Drop> Comparison<S> {
         requires going_second { failure_of second.old ≡ None }
         requires room { steps_of self.old.progress + entries_left first.old ≤ most_entries }
         ensures found { (file other : List ℕ)
-            → IsComparing A.left B.left file other first.old second.old self.old
-            → FindsOut A.left B.left file other first.new second.new result }
+            → IsComparing A.told B.told file other first.old second.old self.old
+            → FindsOut A.told B.told file other first.new second.new result }
         ensures going_first { OnOk result (failure_of first.new ≡ None) }
         ensures going_second { IfOk result
             (λ finding. failure_of second.new ≡ refusal_in (Some finding)) }
@@ -252,8 +252,8 @@ impl<S: BuildHasher + Drop> Comparison<S> {
         requires going_second { failure_of second.old ≡ None }
         requires room { steps_of self.old.progress + entries_left first.old ≤ most_entries }
         ensures steps { (file other : List ℕ)
-            → IsComparing A.left B.left file other first.old second.old self.old
-            → StepsOn A.left B.left file other first.new second.new self.new result }
+            → IsComparing A.told B.told file other first.old second.old self.old
+            → StepsOn A.told B.told file other first.new second.new self.new result }
         ensures fewer { IfOk result (λ next. next ≡ None
             → entries_left first.new < entries_left first.old) }
         ensures going_first { OnOk result (failure_of first.new ≡ None) }
@@ -287,8 +287,8 @@ impl<S: BuildHasher + Drop> Comparison<S> {
         requires room { steps_of self.old.progress + 1 < 2 ^ 32 }
         ensures meets { (file other : List ℕ) (a b : List spec.Entry) (e : spec.Entry)
             → IsOfKind kind e → AreFirst (a ++ e ∷ []) → length (a ++ e ∷ []) < 2 ^ 32
-            → IsTold self.old a b (items_of e) [] → HasGiven B.left other second.old b
-            → Meets B.left file other second.new self.new a b e result }
+            → IsTold self.old a b (items_of e) [] → HasGiven B.told other second.old b
+            → Meets B.told file other second.new self.new a b e result }
         ensures going { IfOk result (λ next. failure_of second.new ≡ refusal_in next) }
         ensures few { steps_of self.new.progress ≤ steps_of self.old.progress + 1 }
         ensures read { CountsReadsOf Which.Second B.failures second.old second.new result }

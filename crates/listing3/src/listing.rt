@@ -31,7 +31,7 @@ pub fn show<R: Source, W: Sink, S: BuildHasher + Drop>(
     source: &mut R,
     sink: &mut W,
 ) -> Result<Summary, Error>
-    ensures lists { WritesGiven shown (R.left source.old) (R.left source.new) (W.written sink.old)
+    ensures lists { WritesGiven shown (R.told source.old) (R.told source.new) (W.written sink.old)
         (W.written sink.new) result }
     ensures flushes { OnOk result (IsFlushed (W.written sink.new) (W.flushed sink.new)) }
     ensures read { CountsReading (R.failures source.old) (R.failures source.new) result }

@@ -1,5 +1,6 @@
 -- Two captures that are compared entry by entry: how far it has come, and what each step finds.
 use Rattle.std.specs.Prelude.{◌≡◌, ◌≢◌, ℕ, Bool, true, false, length, Option, None, Some, List, [], ◌∷◌, ◌++◌, Result, Ok, Err}
+use Rattle.capture3.specs.Told.{Told}
 use Rattle.std.specs.Io.KnownBytes.{Consumes}
 use Rattle.std.specs.declared.hash.BuildHasher as BuildHasher
 use Rattle.std.specs.declared.hash.Hasher as Hasher
@@ -88,12 +89,12 @@ abbrev pub IsReadAfter : List ℕ → List Entry → Verdict → Result Verdict 
 IsReadAfter other handed verdict (Ok answer) = (answer ≡ verdict) × (more : List Entry) × Typed other (handed ++ more)
 IsReadAfter other handed verdict (Err error) = (error.which ≡ Second) × SaysOfFile other error.error
 
-module _ {R S H : Type 0} {builds : BuildHasher.Ghosts S H} {hashes : Hasher.Ghosts H} (left : R → Option (List ℕ)) (file : List ℕ) (reader : Entries R S H builds hashes) where
+module _ {R S H : Type 0} {builds : BuildHasher.Ghosts S H} {hashes : Hasher.Ghosts H} (telling : R → Told) (file : List ℕ) (reader : Entries R S H builds hashes) where
   -- a reader of this file handed out these entries
   pub record HasGiven (handed : List Entry) : Type 0 where
     pub given : List ℕ
-    pub consumed : Consumes (Some file) (left (source_of reader)) given
-    pub stands : StandsFor left reader given handed
+    pub consumed : Consumes (Some file) (telling (source_of reader)).left given
+    pub stands : StandsFor telling reader given handed
 
   -- these, and more after them
   pub record HasGivenOn (handed : List Entry) : Type 0 where
@@ -105,16 +106,16 @@ module _ {R S H : Type 0} {builds : BuildHasher.Ghosts S H} {hashes : Hasher.Gho
   ReadsOn handed (Ok false) = (more : List Entry) × Typed file (handed ++ more)
   ReadsOn handed (Err error) = SaysOfFile file error
 
-module _ {R S H : Type 0} {builds : BuildHasher.Ghosts S H} {hashes : Hasher.Ghosts H} (left : R → Option (List ℕ)) (file other : List ℕ) (reader : Entries R S H builds hashes) (comparison : Comparison S H) (a b : List Entry) (e : Entry) where
+module _ {R S H : Type 0} {builds : BuildHasher.Ghosts S H} {hashes : Hasher.Ghosts H} (telling : R → Told) (file other : List ℕ) (reader : Entries R S H builds hashes) (comparison : Comparison S H) (a b : List Entry) (e : Entry) where
   -- the second's entry came beside e, and they are alike
   pub record GoesWith : Type 0 where
     pub f : Entry
-    pub given : HasGiven left other reader (b ++ f ∷ [])
+    pub given : HasGiven telling other reader (b ++ f ∷ [])
     pub compared : IsCompared comparison (a ++ e ∷ []) (b ++ f ∷ [])
 
   pub record PartsHere (place : Place) : Type 0 where
     pub f : Entry
-    pub given : HasGiven left other reader (b ++ f ∷ [])
+    pub given : HasGiven telling other reader (b ++ f ∷ [])
     pub parts : PartWith a b e f place
 
   abbrev pub Meets : Result (Option Finding) SameError → Type 0
@@ -124,20 +125,20 @@ module _ {R S H : Type 0} {builds : BuildHasher.Ghosts S H} {hashes : Hasher.Gho
   Meets (Ok (Some (findings.Refused fault))) = FirstFault other fault
   Meets (Err error) = StopsComparing file other error.error error.which
 
-module _ {A B S H : Type 0} {builds : BuildHasher.Ghosts S H} {hashes : Hasher.Ghosts H} (left : A → Option (List ℕ)) (left_other : B → Option (List ℕ)) (file other : List ℕ) (first : Entries A S H builds hashes) (second : Entries B S H builds hashes) where
+module _ {A B S H : Type 0} {builds : BuildHasher.Ghosts S H} {hashes : Hasher.Ghosts H} (telling : A → Told) (telling_other : B → Told) (file other : List ℕ) (first : Entries A S H builds hashes) (second : Entries B S H builds hashes) where
   -- what the two handed out was compared
   pub record IsComparing (comparison : Comparison S H) : Type 0 where
     pub a : List Entry
     pub b : List Entry
-    pub first_given : HasGiven left file first a
-    pub second_given : HasGiven left_other other second b
+    pub first_given : HasGiven telling file first a
+    pub second_given : HasGiven telling_other other second b
     pub compared : IsCompared comparison a b
 
   pub record HaveEnded : Type 0 where
     pub a : List Entry
     pub b : List Entry
-    pub first_given : HasGiven left file first a
-    pub second_given : HasGiven left_other other second b
+    pub first_given : HasGiven telling file first a
+    pub second_given : HasGiven telling_other other second b
     pub agree : Agree a b
     pub typed : Typed file a
 
@@ -146,14 +147,14 @@ module _ {A B S H : Type 0} {builds : BuildHasher.Ghosts S H} {hashes : Hasher.G
     pub b : List Entry
     pub e : Entry
     pub f : Entry
-    pub first_given : HasGiven left file first (a ++ e ∷ [])
-    pub second_given : HasGiven left_other other second (b ++ f ∷ [])
+    pub first_given : HasGiven telling file first (a ++ e ∷ [])
+    pub second_given : HasGiven telling_other other second (b ++ f ∷ [])
     pub parts : PartWith a b e f place
 
   abbrev pub IsFound : Finding → Type 0
   IsFound findings.Ended = HaveEnded
   IsFound (findings.Parted place) = HaveParted place
-  IsFound (findings.Refused fault) = ((a : List Entry) × HasGiven left file first a) × FirstFault other fault
+  IsFound (findings.Refused fault) = ((a : List Entry) × HasGiven telling file first a) × FirstFault other fault
 
   abbrev pub FindsOut : Result Finding SameError → Type 0
   FindsOut (Ok finding) = IsFound finding

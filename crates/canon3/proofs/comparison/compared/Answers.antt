@@ -8,8 +8,8 @@ returns-clause-decides g c file other tells other_tells =
     c.conclude.ensures.decides file other (c.in_ok-finding.ensures.found file other (record {
       a = [];
       b = [];
-      first_given = fresh g.A.Source.left file c.args.first.now tells c.requires.fresh_first;
-      second_given = fresh g.B.Source.left other c.args.second.now other_tells c.requires.fresh_second;
+      first_given = fresh g.A.Source.told file c.args.first.now tells c.requires.fresh_first;
+      second_given = fresh g.B.Source.told other c.args.second.now other_tells c.requires.fresh_second;
       compared = c.requires.new;
     }))
 
@@ -18,8 +18,8 @@ returns-in_err-finding-clause-decides g c file other tells other_tells =
     rw (error_is _ _ c.from_residual.ensures) (c.in_err-finding.ensures.found file other (record {
       a = [];
       b = [];
-      first_given = fresh g.A.Source.left file c.args.first.now tells c.requires.fresh_first;
-      second_given = fresh g.B.Source.left other c.args.second.now other_tells c.requires.fresh_second;
+      first_given = fresh g.A.Source.told file c.args.first.now tells c.requires.fresh_first;
+      second_given = fresh g.B.Source.told other c.args.second.now other_tells c.requires.fresh_second;
       compared = c.requires.new;
     }))
 

@@ -8,8 +8,8 @@ use Rattle.canon3.proofs.comparison.conclude.Goals as goal
 
 pub returns-in-Ended-clause-decides : goal.returns-in-Ended-clause-decides
 returns-in-Ended-clause-decides g c file other found =
-    let left = g.A.Source.left in
-    let left_other = g.B.Source.left in
+    let left = g.A.Source.told in
+    let left_other = g.B.Source.told in
     let first = c.args.first.now in
     let second = c.args.second.now in
     let h = subst (IsFound left left_other file other first second) c.in-Ended.is found in
@@ -22,8 +22,8 @@ returns-in-Ended-clause-read_first g c =
 
 pub returns-in-Parted-clause-decides : goal.returns-in-Parted-clause-decides
 returns-in-Parted-clause-decides g c file other found =
-    let left = g.A.Source.left in
-    let left_other = g.B.Source.left in
+    let left = g.A.Source.told in
+    let left_other = g.B.Source.told in
     let first = c.args.first.now in
     let second = c.args.second.now in
     let h = subst (IsFound left left_other file other first second) c.in-Parted.is found in
@@ -37,13 +37,13 @@ returns-in-Parted-clause-read_first g c =
 
 pub returns-in-Refused-clause-decides : goal.returns-in-Refused-clause-decides
 returns-in-Refused-clause-decides g c file other found =
-    let left = g.A.Source.left in
-    let h = subst (IsFound left g.B.Source.left file other c.args.first.now c.args.second.now) c.in-Refused.is found in
+    let left = g.A.Source.told in
+    let h = subst (IsFound left g.B.Source.told file other c.args.first.now c.args.second.now) c.in-Refused.is found in
     let (more, typed) = c.in-Ok.ensures.out file h.0.0 (given_on left file c.args.first.now h.0.0 h.0.1) in
     ((h.0.0 ++ more, typed), h.1)
 
 pub returns-in-Err-clause-decides : goal.returns-in-Err-clause-decides
 returns-in-Err-clause-decides g c file other found =
-    let left = g.A.Source.left in
-    let (a, given) = first_of left g.B.Source.left file other c.args.first.now c.args.second.now c.args.finding found in
+    let left = g.A.Source.told in
+    let (a, given) = first_of left g.B.Source.told file other c.args.first.now c.args.second.now c.args.finding found in
     first_stops file other c.in-Err.error (c.in-Err.ensures.out file a (given_on left file c.args.first.now a given))

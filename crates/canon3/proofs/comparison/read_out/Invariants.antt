@@ -8,7 +8,7 @@ use Rattle.canon3.proofs.comparison.read_out.Given as goal
 abbrev pub invariant-loop : goal.invariant-loop
 invariant-loop g l = record {
   going : failure_of l.entries ≡ None;
-  given : (file : List ℕ) (handed : List Entry) → HasGivenOn g.R.Source.left file l.fn.entries handed → HasGivenOn g.R.Source.left file l.entries handed;
+  given : (file : List ℕ) (handed : List Entry) → HasGivenOn g.R.Source.told file l.fn.entries handed → HasGivenOn g.R.Source.told file l.entries handed;
   read : g.R.Source.failures (source_of l.entries) ≡ g.R.Source.failures (source_of l.fn.entries);
   same_reference : loan_of l.entries ≡ loan_of l.fn.entries;
 }

@@ -11,4 +11,4 @@ returns g c =
     rw (back, ← c.through-entries.ensures.unread) (record { writes = w.ensures.writes; flushes = w.ensures.flushes; read = w.ensures.read; write = w.ensures.write })
 
 pub returns-in-Err-clause-writes : goal.returns-in-Err-clause-writes
-returns-in-Err-clause-writes g c = nothing_written g.E.EntryWriter.form c.requires.prefixes (g.R.Source.left c.args.source.now) (g.W.Sink.written c.args.sink.now)
+returns-in-Err-clause-writes g c = nothing_written g.E.EntryWriter.form c.requires.prefixes (g.R.Source.told c.args.source.now) (g.W.Sink.written c.args.sink.now)

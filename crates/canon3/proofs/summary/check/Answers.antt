@@ -9,12 +9,12 @@ returns g c =
     let s = c.summed-result in
     let back : _ ≡ source_of s.new.entries = c.source-1.given.1 (sym (c.into_source.ensures.same_reference ∙ s.ensures.same_reference ∙ c.through-entries.ensures.same_reference)) ∙ c.into_source.ensures.value in
     rw (back, ← c.through-entries.ensures.unread) (record {
-      ok = λ bytes tells. summary_of bytes _ _ s.result tells s.ensures.concludes;
-      refused = λ bytes tells. faults_of bytes _ _ s.result tells s.ensures.concludes;
+      ok = λ bytes tells. summary_of bytes (g.R.Source.told (source_of c.through-entries.result)) (g.R.Source.told (source_of s.new.entries)) s.result tells s.ensures.concludes;
+      refused = λ bytes tells. faults_of bytes (g.R.Source.told (source_of c.through-entries.result)) (g.R.Source.told (source_of s.new.entries)) s.result tells s.ensures.concludes;
       concludes = s.ensures.concludes;
       read = s.ensures.read;
       write = s.ensures.write;
     })
 
 pub returns-in-Err-clause-concludes : goal.returns-in-Err-clause-concludes
-returns-in-Err-clause-concludes g c = nothing_concluded (g.R.Source.left c.args.source.now)
+returns-in-Err-clause-concludes g c = nothing_concluded (g.R.Source.told c.args.source.now)

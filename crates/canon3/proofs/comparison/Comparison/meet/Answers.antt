@@ -7,7 +7,7 @@ use Rattle.canon3.proofs.comparison.Comparison.meet.Goals as goal
 
 pub returns-in_ok-compare-in-Ok-Some-clause-meets : goal.returns-in_ok-compare-in-Ok-Some-clause-meets
 returns-in_ok-compare-in-Ok-Some-clause-meets g c file other a b e of first few so_far h =
-    let left = g.B.Source.left in
+    let left = g.B.Source.told in
     let old = c.args.second.now in
     let new = c.next.new.self in
     let was = c.args.self.now.second in
@@ -18,7 +18,7 @@ returns-in_ok-compare-in-Ok-Some-clause-meets g c file other a b e of first few 
 
 pub returns-in-Ok-None-clause-meets : goal.returns-in-Ok-None-clause-meets
 returns-in-Ok-None-clause-meets g c file other a b e of first few so_far h =
-    let left = g.B.Source.left in
+    let left = g.B.Source.told in
     let old = c.args.second.now in
     let new = c.next.new.self in
     let was = c.args.self.now.second in
@@ -28,7 +28,7 @@ returns-in-Ok-None-clause-meets g c file other a b e of first few so_far h =
 
 pub returns-in-Err-clause-meets : goal.returns-in-Err-clause-meets
 returns-in-Err-clause-meets g c file other a b e of first few so_far h =
-    let left = g.B.Source.left in
+    let left = g.B.Source.told in
     let new = c.next.new.self in
     subst (λ r. Meets left file other new (with_second c.args.self.now c.next.new.visitor) a b e r) (sym c.refused.ensures)
     (refused_meets left file other new (with_second c.args.self.now c.next.new.visitor) a b e c.in-Err.error (hands left (WriterStands {S = g.row.S.Denot} {H = g.row.S-Hasher.Denot}) other c.args.second.now new c.args.self.now.second c.next.new.visitor b h (Err c.in-Err.error) (c.in-Err.ensures.answers h.given b h.stands)))
