@@ -89,7 +89,7 @@ impl<W: Sink> Packing<W> {
         ensures adds { (old : Option (List ℕ)) (pairs : List Streams)
             → HasAdded W.written self.old old pairs
             → AddsPair W.written self.new old
-            (C.left client.old) (C.left client.new) (S.left server.old) (S.left server.new)
+            (C.told client.old) (C.told client.new) (S.told server.old) (S.told server.new)
             pairs result }
         ensures ended { ending_of self.old ≡ None
             → MatchResult result
@@ -152,12 +152,12 @@ impl<W: Sink> Packing<W> {
         server: &mut S,
     ) -> Result<(), Error>
         ensures ok { OnOk result (HasConnection
-            (C.left client.old) (C.left client.new) (S.left server.old) (S.left server.new)
+            (C.told client.old) (C.told client.new) (S.told server.old) (S.told server.new)
             (W.written (sink_of self.old)) (W.written (sink_of self.new))
             self.old.extent self.new.extent) }
         ensures one_more { OnOk result (self.new.connections ≡ self.old.connections + 1) }
         ensures err { IfErr result (FailsToAdd self.old
-            (C.left client.old) (C.left client.new) (S.left server.old) (S.left server.new)
+            (C.told client.old) (C.told client.new) (S.told server.old) (S.told server.new)
             (W.written (sink_of self.old)) (W.written (sink_of self.new))) }
         ensures same_ending { ending_of self.new ≡ ending_of self.old }
         ensures read { CountsReadings
