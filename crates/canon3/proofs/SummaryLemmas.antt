@@ -2,10 +2,11 @@
 use Rattle.std.proofs.Common.{◌≡◌, ◌≤◌, inl, inr, ℕ, ◌+◌, Bool, cond, min, Option, None, Some, Result, Ok, Err, IfOk, List, [], ◌∷◌, ◌++◌, count_by, length, refl, sym, ap, subst, ◌∙◌, append-nil, arith}
 use Rattle.std.specs.Prelude.{bytes_eq}
 use Rattle.std.specs.Cmp.Lexicographic.{nat_list_eq_equiv}
-use Rattle.capture3.specs.Told.{Told}
+use Rattle.capture3.specs.Told.{IsSpent, Told}
 use Rattle.capture3.proofs.ToldLemmas.{gave_none}
-use Rattle.std.specs.Io.KnownBytes.{Consumes}
+use Rattle.std.specs.Io.KnownBytes.{Appends, Consumes}
 use Rattle.std.proofs.KnownBytes.{Consumes-all}
+use Rattle.std.proofs.lemmas.List.{append_cancel_left}
 use Rattle.std.proofs.lemmas.Grind.{flat_map-append}
 use Rattle.std.proofs.lemmas.List.Sums.{sum_by-append, sum_by-cons}
 use Rattle.xdr3.specs.Item.{Item}
@@ -26,7 +27,7 @@ use Rattle.canon3.specs.Parting.{connections}
 use Rattle.canon3.specs.Passed.{ArePassed}
 use Rattle.canon3.specs.machinery.Passed.{calls, replies}
 use Rattle.canon3.specs.Progress.{HasPassed}
-use Rattle.canon3.specs.Summary.{ConcludesGiven, is_begin, is_call, is_reply, IsSummary}
+use Rattle.canon3.specs.Summary.{ConcludesGiven, ConcludesWhole, is_begin, is_call, is_reply, IsSummary}
 use Rattle.canon3.specs.machinery.Summary.{all_items, Sums}
 use Rattle.capture3.specs.Kept.{IsOfKind}
 use Rattle.canon3.specs.Values.{handles}
@@ -130,3 +131,26 @@ faults_of bytes old new (Err errors.Memory) tells c = tt
 -- before any byte was read
 pub nothing_concluded : (told : Told) → ConcludesGiven told told (Err errors.Memory)
 nothing_concluded told = ([], gave_none told, ([], (_, reached_by_machine [] (λ k. omega arith))))
+
+-- ---- where the source keeps what it gave
+
+module _ (before told : Told) (start given rest came : List ℕ) (was : before.given ≡ Some start) (now : told.given ≡ Some (start ++ given)) (gave : Appends before.given told.given came) where
+  given_is : came ≡ given
+  given_is = append_cancel_left start came given (sym (subst (λ (o : Option (List ℕ)). Appends o (Some (start ++ given)) came) was (subst (λ (o : Option (List ℕ)). Appends before.given o came) now gave)))
+
+  -- nothing follows it
+  all_is : rest ≡ [] → came ≡ given ++ rest
+  all_is none = given_is ∙ sym (ap (λ (l : List ℕ). given ++ l) none ∙ append-nil given)
+
+  fault_is : (entries : List Entry) (fault : Fault) → (IsSpent told → rest ≡ []) → IsMetBy (errors.Refused fault) told came entries → FirstFault (given ++ rest) fault
+  fault_is entries fault none (inl shown) = subst (λ (b : List ℕ). FirstFault (b ++ rest) fault) given_is (shown rest).0
+  fault_is entries fault none (inr shown) = subst (λ (b : List ℕ). FirstFault b fault) (all_is (none shown.0)) shown.1
+
+pub whole_of : (before told : Told) (result : Result Summary Error) → ConcludesGiven before told result → ConcludesWhole before told result
+whole_of before told (Ok summary) (came, gave, (ended, is)) start given rest was now none =
+    (subst (λ (b : List ℕ). IsSummary b summary) (all_is before told start given rest came was now gave.1 (none ended)) is, tt)
+whole_of before told (Err (errors.Refused fault)) (came, gave, (entries, met)) start given rest was now none =
+    (tt, fault_is before told start given rest came was now gave.1 entries fault none met)
+whole_of before told (Err errors.Read) c start given rest was now none = (tt, tt)
+whole_of before told (Err errors.Write) c start given rest was now none = (tt, tt)
+whole_of before told (Err errors.Memory) c start given rest was now none = (tt, tt)

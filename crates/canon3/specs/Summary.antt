@@ -1,9 +1,10 @@
 -- What a capture has of each kind.
-use Rattle.std.specs.Prelude.{◌≡◌, ℕ, Bool, true, false, Option, List, bytes_eq, count_by, length, Result, Ok, Err}
+use Rattle.std.specs.Prelude.{◌≡◌, ℕ, Bool, true, false, Option, Some, List, [], ◌++◌, IfOk, bytes_eq, count_by, length, Result, Ok, Err}
 use Rattle.capture3.specs.Told.{Gave, IsSpent, Told}
 use Rattle.capture3.specs.declared.fault.Error.{Error}
-use Rattle.capture3.specs.Entries.{IsMetBy}
+use Rattle.capture3.specs.Entries.{IsMetBy, OnRefused}
 use Rattle.capture3.specs.Entry.{Entry, Begin, Call, Reply}
+use Rattle.capture3.specs.FirstFault.{FirstFault}
 use Rattle.capture3.specs.Typed.{Typed}
 use Rattle.canon3.specs.declared.summary.Summary.{Summary}
 use Rattle.canon3.specs.Rank.{distinct}
@@ -39,3 +40,8 @@ Concludes told given (Err error) = (entries : List Entry) × IsMetBy error told 
 -- the source gave some bytes, and this is concluded of them
 abbrev pub ConcludesGiven : (before told : Told) → Result Summary Error → Type 0
 ConcludesGiven before told result = (given : List ℕ) × Gave before told given × Concludes told given result
+
+-- The source keeps which bytes it gave, and gave these in the call; whatever bytes follow them, none where it is spent, the answer is so of all.
+abbrev pub ConcludesWhole : (before told : Told) → Result Summary Error → Type 0
+ConcludesWhole before told result =
+    (start given rest : List ℕ) → before.given ≡ Some start → told.given ≡ Some (start ++ given) → (IsSpent told → rest ≡ []) → IfOk result (IsSummary (given ++ rest)) × OnRefused result (FirstFault (given ++ rest))

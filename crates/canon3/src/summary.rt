@@ -8,7 +8,7 @@ ghost use Rattle.capture3.specs.Entry as spec;
 ghost use Rattle.capture3.specs.FirstFault.{FirstFault};
 ghost use Rattle.capture3.specs.Laws.{most_entries};
 ghost use Rattle.canon3.specs.Passed.{passed_steps};
-ghost use Rattle.canon3.specs.Summary.{ConcludesGiven, IsSummary};
+ghost use Rattle.canon3.specs.Summary.{ConcludesGiven, ConcludesWhole, IsSummary};
 ghost use Rattle.canon3.specs.machinery.Summary.{Sums};
 ghost use Rattle.canon3.specs.machinery.Tally.{TalliesOn, TalliesToTheEnd, IsTallying, Tallies};
 
@@ -43,6 +43,7 @@ pub fn check<R: Source, S: BuildHasher + Drop>(
     ensures refused { (bytes : List ℕ) → (R.told source.old).left ≡ Some bytes
         → OnRefused result (FirstFault bytes) }
     ensures concludes { ConcludesGiven (R.told source.old) (R.told source.new) result }
+    ensures whole { ConcludesWhole (R.told source.old) (R.told source.new) result }
     ensures read { CountsReading (R.failures source.old) (R.failures source.new) result }
     ensures write { IfErr result (λ error. error ≢ Error.Write) }
 {
