@@ -1,13 +1,14 @@
 // What each job does with its files.
 
-use canon3::{SameError, Sink, Summary, ToWrite, Which, canon, check, same};
+use crate::files::counted;
+use canon3::{SameError, Sink, Summary, ToWrite, Traced, Which, canon, same};
 use capture3::{Error, FromRead, Hashers};
 use line3::LineFault;
 use listing3::show;
 use packing3::Packing;
 use program3::{
     Destination, Ended, OpenError, Outcome, OutputFile, SecretHasher, WRITTEN_AT_ONCE, both_opened,
-    hashers, if_there, opened, standard_output, uncounted, unopened, written_out,
+    hashers, if_there, opened, standard_output, unopened, written_out,
 };
 use std::fs;
 use std::fs::File;
@@ -40,10 +41,7 @@ pub fn checked(rt: &HostRuntime, name: &str) -> Outcome {
     let Ok(hashers) = hashers(rt) else {
         return Outcome::Counted(Err(Error::Read));
     };
-    match fs::open(rt, name) {
-        Ok(file) => Outcome::Counted(check(rt.alloc(), hashers, &mut FromRead::new(file))),
-        Err(error) => uncounted(rt.alloc(), name, OpenError::from(error)),
-    }
+    counted(rt.alloc(), hashers, rt, name)
 }
 
 /// The lines before a fault are written too.
@@ -55,7 +53,8 @@ pub fn listed(rt: &HostRuntime, name: &str) -> Outcome {
         Ok(file) => file,
         Err(error) => return unlisted(rt, name, OpenError::from(error)),
     };
-    let Ok(mut buffer) = BufWriter::with_capacity(rt.alloc(), WRITTEN_AT_ONCE, rt.stdout()) else {
+    let stdout = Traced::new(rt.stdout());
+    let Ok(mut buffer) = BufWriter::with_capacity(rt.alloc(), WRITTEN_AT_ONCE, stdout) else {
         return Outcome::Listed(Err(Error::Memory));
     };
     let mut sink = ToWrite::new(&mut buffer);
@@ -87,6 +86,7 @@ fn form_written(
     source: File,
     output: &File,
 ) -> Result<Summary, Error> {
+    let output = Traced::new(output);
     let Ok(mut buffer) = BufWriter::with_capacity(rt.alloc(), WRITTEN_AT_ONCE, output) else {
         return Err(Error::Memory);
     };
@@ -171,7 +171,7 @@ fn packing_kept(rt: &HostRuntime, made: OutputFile, streams: &[String]) -> Outco
 }
 
 fn streams_packed(rt: &HostRuntime, made: &OutputFile, streams: &[String]) -> Result<(), Outcome> {
-    let mut packing = match Packing::start(rt.alloc(), ToWrite::new(&made.file)) {
+    let mut packing = match Packing::start(rt.alloc(), ToWrite::new(Traced::new(&made.file))) {
         Ok(packing) => packing,
         Err((error, _)) => return Err(Outcome::Packed(Err(error))),
     };
