@@ -4,7 +4,6 @@ use Rattle.std.proofs.lemmas.Grind.{common_steps}
 use Rattle.std.proofs.lemmas.List.{drop-take}
 use Rattle.std.proofs.Math.Logic.{∥∥₁_elim}
 use Rattle.std.proofs.Props.{props}
-use Rattle.std.specs.Io.KnownBytes.{IsAtEnd}
 use Rattle.capture3.specs.Told.{Told, Gave, IsSpent}
 use Rattle.capture3.proofs.ToldLemmas.{gave_both, gave_none, gave_none_as}
 use Rattle.xdr3.specs.declared.reason.Reason.TheVariants.{CaptureCut}
@@ -233,17 +232,6 @@ all_before_end bytes p t streams table model are s = by_spot p.spot refl
     by_spot (spots.SideChunk side left) is = inr (not_ended bytes p t streams table model are s (λ e. subst IsEndSpot is e))
     by_spot (spots.Ended version) is = inl (typed_here bytes p t streams table model are s (subst IsEndSpot (sym is) tt))
 
--- what is left is known
-pub shown_in : (given rest : List ℕ) (told : Told) (handed : List Entry) (fault : Fault) → told.left ≡ Some rest → IsShownBy told given handed fault → FirstFault (given ++ rest) fault × Reached (given ++ rest) handed
-shown_in given rest told handed fault is (inl whatever) = whatever rest
-shown_in given rest told handed fault is (inr (end, first, reached)) = known told.left is end.1
-  where
-    known : (left : Option (List ℕ)) → left ≡ Some rest → IsAtEnd left → FirstFault (given ++ rest) fault × Reached (given ++ rest) handed
-    known None is end = absurd (cc)
-    known (Some xs) is end =
-        let same : xs ≡ rest = cc in
-        subst (λ (b : List ℕ). FirstFault b fault × Reached b handed) (sym (ap (λ (b : List ℕ). given ++ b) (sym same ∙ end) ∙ append-nil given)) (first, reached)
-
 -- ---- the reader
 
 module _ {R S H : Type 0} {builds : BuildHasher.Ghosts S H} {hashes : Hasher.Ghosts H} (told : R → Told) where
@@ -284,8 +272,7 @@ module _ {R S H : Type 0} {builds : BuildHasher.Ghosts S H} {hashes : Hasher.Gho
   stands_reading e given handed is are few most holds r = record {
     bytes = are;
     few = omega (arith, few, left_is e is);
-    connections = few_first given handed (first_in e given handed are r);
-    most = most;
+    limits = record { few = omega (arith, few); connections = few_first given handed (first_in e given handed are r); most = most };
     holds = holds;
     here = subst (λ (stage : Stage). StandsIn stage (told e.source.now) e given handed) (sym is) r;
   }
@@ -294,9 +281,8 @@ module _ {R S H : Type 0} {builds : BuildHasher.Ghosts S H} {hashes : Hasher.Gho
   pub stands_failed : (old new : Entries R S H builds hashes) (error : Error) (given : List ℕ) (handed : List Entry) → new.stage ≡ Failed error → new.last ≡ None → vec_len new.block ≡ vec_len old.block → StandsFor told old given handed → IsMetBy error (told new.source.now) given handed → StandsFor told new given handed
   stands_failed old new error given handed is none block s met = record {
     bytes = s.bytes;
-    few = omega (arith, s.few, ap (λ (stage : Stage). entries_left_in stage new.parser.container) is);
-    connections = s.connections;
-    most = omega (arith, s.most, block);
+    few = omega (arith, s.limits.few, ap (λ (stage : Stage). entries_left_in stage new.parser.container) is);
+    limits = record { few = s.limits.few; connections = s.limits.connections; most = omega (arith, s.limits.most, block) };
     holds = none_last new handed none;
     here = subst (λ (stage : Stage). StandsIn stage (told new.source.now) new given handed) (sym is) met;
   }
@@ -372,14 +358,14 @@ module _ {R S H : Type 0} {builds : BuildHasher.Ghosts S H} {hashes : Hasher.Gho
       → ((judged : List ℕ) → HasCome old.parser.container old.parser.calls judged handed → GoesTo stands was now came new.parser.container new.parser.calls (judged ++ take count (unjudged old)) handed) → HandsOutOrGoesOn told stands new was now given handed (Ok came)
   judged_on stands was now old new count given handed None is goes last size judged block fits within room s leads =
       let r = reading_of old given handed is s in
-      stands_reading new given handed goes s.bytes (omega (arith, room_before old given handed is s, room)) (omega (arith, s.most, size)) (none_last new handed last) (moves_on old new count given handed handed judged block fits within r (leads r.judged r.machine))
+      stands_reading new given handed goes s.bytes (omega (arith, room_before old given handed is s, room)) (omega (arith, s.limits.most, size)) (none_last new handed last) (moves_on old new count given handed handed judged block fits within r (leads r.judged r.machine))
   judged_on stands was now old new count given handed (Some kind) is goes last size judged block fits within room s leads =
       let r = reading_of old given handed is s in
       let (entry, held, adds, machine) = leads r.judged r.machine in (
         entry,
         kind_held kind new.parser.container.joiner entry held,
         adds,
-        stands_reading new given (handed ++ entry ∷ []) goes s.bytes (omega (arith, room_before old given handed is s, room, length-append handed (entry ∷ []))) (omega (arith, s.most, size)) (now_last new handed kind entry last held) (moves_on old new count given handed (handed ++ entry ∷ []) judged block fits within r machine),
+        stands_reading new given (handed ++ entry ∷ []) goes s.bytes (omega (arith, room_before old given handed is s, room, length-append handed (entry ∷ []))) (omega (arith, s.limits.most, size)) (now_last new handed kind entry last held) (moves_on old new count given handed (handed ++ entry ∷ []) judged block fits within r machine),
       )
 
   fails_by : (e : Entries R S H builds hashes) (error : Error) (given : List ℕ) (handed : List Entry) (known : Told) → AreBytes given → IsReading e given handed → FailsAt given handed error → IsMetBy error known given handed
@@ -404,8 +390,11 @@ module _ {R S H : Type 0} {builds : BuildHasher.Ghosts S H} {hashes : Hasher.Gho
       record {
         bytes = s.bytes;
         few = omega (arith, room_before old given handed is s, length-append handed (End ∷ []), ap (λ (stage : Stage). entries_left_in stage new.parser.container) over);
-        connections = (typed_within given (handed ++ End ∷ []) typed).few;
-        most = omega (arith, s.most, block);
+        limits = record {
+          few = omega (arith, room_before old given handed is s, length-append handed (End ∷ []));
+          connections = (typed_within given (handed ++ End ∷ []) typed).few;
+          most = omega (arith, s.limits.most, block);
+        };
         holds = now_last new handed kinds.End End last refl;
         here = subst (λ (stage : Stage). StandsIn stage (told new.source.now) new given (handed ++ End ∷ [])) (sym over) (typed, end);
       }

@@ -1,8 +1,14 @@
--- What is given in turn is given at once.
-use Rattle.std.proofs.Common.{◌≡◌, ◌∙◌, ap, sym, refl, subst, ℕ, Bool, Option, None, Some, IfSome, List, [], ◌++◌, append_assoc, append-nil}
-use Rattle.std.specs.Io.KnownBytes.{Appends, Consumes, IsAtEnd, Keeps}
+-- What is given in turn is given at once, and what is given of known bytes is a prefix of them.
+use Rattle.std.proofs.Common.{◌≡◌, ◌∙◌, inl, inr, ap, sym, refl, subst, ℕ, Option, None, Some, List, [], ◌++◌, append-nil}
+use Rattle.std.specs.Io.KnownBytes.{Appends, Consumes}
 use Rattle.std.proofs.KnownBytes.{Appends-nil, Appends-trans, Consumes-all, Consumes-nil, Consumes-trans}
-use Rattle.capture3.specs.Told.{Told, Gave, IsSpent}
+use Rattle.std.proofs.lemmas.List.{append_cancel_left}
+use Rattle.capture3.specs.declared.fault.Fault.{Fault}
+use Rattle.capture3.specs.Entries.{IsShownBy}
+use Rattle.capture3.specs.Entry.{Entry}
+use Rattle.capture3.specs.FirstFault.{FirstFault}
+use Rattle.capture3.specs.Reached.{Reached}
+use Rattle.capture3.specs.Told.{Told, Gave, GavePrefix, IsSpent}
 
 pub gave_none : (told : Told) → Gave told told []
 gave_none told = (Consumes-nil told.left, Appends-nil told.given)
@@ -13,16 +19,43 @@ gave_none_as old new same = subst (λ (t : Told). Gave old t []) (sym same) (gav
 pub gave_both : (a b c : Told) (xs ys : List ℕ) → Gave a b xs → Gave b c ys → Gave a c (xs ++ ys)
 gave_both a b c xs ys p q = (Consumes-trans a.left b.left c.left xs ys p.0 q.0, Appends-trans a.given b.given c.given xs ys p.1 q.1)
 
--- a source that is spent gave all that it had, where that was known
-pub gave_all : (a b : Told) (bytes : List ℕ) → Gave a b bytes → IsSpent b → IfSome a.left (λ xs. bytes ≡ xs)
-gave_all a b bytes p e = Consumes-all a.left b.left bytes [] bytes p.0 e.1 refl
+-- the bytes given are a prefix of these, and all of them where the source is spent
+pub record IsPrefixOf (told : Told) (given bytes : List ℕ) : Type 0 where
+  pub rest : List ℕ
+  pub split : bytes ≡ given ++ rest
+  pub all : IsSpent told → given ≡ bytes
 
--- known bytes that stay as they were were not consumed
-pub kept_gave_none : (old new : Option (List ℕ)) → Keeps old new → Consumes old new []
-kept_gave_none None new kept = tt
-kept_gave_none (Some xs) None kept = absurd kept
-kept_gave_none (Some xs) (Some ys) kept = sym kept
+-- where the source told which bytes were left
+module _ (old new : Told) (given bytes : List ℕ) (tells : old.left ≡ Some bytes) (gave : Gave old new given) where
+  consumed : Consumes (Some bytes) new.left given
+  consumed = subst (λ (o : Option (List ℕ)). Consumes o new.left given) tells gave.0
 
--- kept bytes that stay as they were did not grow
-pub same_gave_none : (bytes : List ℕ) → Appends (Some bytes) (Some bytes) []
-same_gave_none bytes = Appends-nil (Some bytes)
+  all_left : IsSpent new → given ≡ bytes
+  all_left end = Consumes-all (Some bytes) new.left given [] given consumed end.1 refl
+
+  pub prefix_of_left : IsPrefixOf new given bytes
+  prefix_of_left = by_left new.left consumed
+    where
+      by_left : (left : Option (List ℕ)) → Consumes (Some bytes) left given → IsPrefixOf new given bytes
+      by_left None c = absurd c
+      by_left (Some rest) c = record { rest = rest; split = c; all = all_left }
+
+-- where the source keeps which bytes it gave
+module _ (old new : Told) (given bytes : List ℕ) (p : GavePrefix old new bytes) (gave : Gave old new given) where
+  appended : Appends (Some p.start) (Some (p.start ++ p.given)) given
+  appended = subst (λ (o : Option (List ℕ)). Appends o (Some (p.start ++ p.given)) given) p.was (subst (λ (o : Option (List ℕ)). Appends old.given o given) p.now gave.1)
+
+  given_is : given ≡ p.given
+  given_is = append_cancel_left p.start given p.given (sym appended)
+
+  pub prefix_of_kept : IsPrefixOf new given bytes
+  prefix_of_kept = record {
+    rest = p.rest;
+    split = p.split ∙ ap (λ (l : List ℕ). l ++ p.rest) (sym given_is);
+    all = λ end. given_is ∙ sym (p.split ∙ ap (λ (l : List ℕ). p.given ++ l) (p.all end) ∙ append-nil p.given);
+  }
+
+-- the fault that the bytes given show is the first of all bytes
+pub shown_of_all : (told : Told) (given bytes : List ℕ) (handed : List Entry) (fault : Fault) → IsPrefixOf told given bytes → IsShownBy told given handed fault → FirstFault bytes fault × Reached bytes handed
+shown_of_all told given bytes handed fault p (inl whatever) = subst (λ (b : List ℕ). FirstFault b fault × Reached b handed) (sym p.split) (whatever p.rest)
+shown_of_all told given bytes handed fault p (inr (end, first, reached)) = subst (λ (b : List ℕ). FirstFault b fault × Reached b handed) (p.all end) (first, reached)

@@ -1,5 +1,5 @@
 -- A reader of entries: what it answers for good, and what an error says of what it read and handed out.
-use Rattle.std.specs.Prelude.{◌≡◌, ◌⊎◌, ℕ, ◌+◌, ◌-◌, ◌^◌, min, Option, Some, None, Result, Err, List, [], ◌∷◌, ◌++◌, vec_len}
+use Rattle.std.specs.Prelude.{◌≡◌, ◌⊎◌, ℕ, ◌+◌, ◌-◌, ◌≤◌, ◌^◌, min, Option, Some, None, Result, Err, List, [], ◌∷◌, ◌++◌, length, vec_len}
 use Rattle.std.specs.Borrow.{GName}
 use Rattle.capture3.specs.Told.{Told, IsSpent}
 use Rattle.std.specs.declared.hash.BuildHasher as BuildHasher
@@ -11,8 +11,10 @@ use Rattle.capture3.specs.declared.reader.entry.Kind.{Kind}
 use Rattle.capture3.specs.declared.fault.Error.{Error}
 use Rattle.capture3.specs.declared.fault.Error.TheVariants as errors
 use Rattle.capture3.specs.declared.fault.Fault.{Fault}
+use Rattle.capture3.specs.Capture.{Two, max_connections}
 use Rattle.capture3.specs.Entry.{Entry, End}
 use Rattle.capture3.specs.FirstFault.{FirstFault}
+use Rattle.capture3.specs.Laws.{begins, most_bytes, most_entries}
 use Rattle.capture3.specs.Reached.{AreFirstReached, Reached}
 use Rattle.capture3.specs.Typed.{Typed, IsWellFormed}
 
@@ -69,6 +71,13 @@ module _ {R S H : Type 0} {builds : BuildHasher.Ghosts S H} {hashes : Hasher.Gho
   -- how many bytes a read asks for
   abbrev pub block_size : Entries R S H builds hashes → ℕ
   block_size entries = vec_len entries.block
+
+  -- The entries that were handed out and the connections that they begin are at most as many as a capture has. The bytes given are at most one
+  -- block more than the longest capture has, also if the source never ends.
+  pub record KeepsLimits (entries : Entries R S H builds hashes) (given : List ℕ) (handed : List Entry) : Type 0 where
+    pub few : length handed ≤ most_entries
+    pub connections : begins handed ≤ max_connections
+    pub most : length given ≤ most_bytes Two + block_size entries
 
   -- what the entry is that was handed out last
   abbrev pub last_of : Entries R S H builds hashes → Option Kind

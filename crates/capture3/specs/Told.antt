@@ -1,5 +1,5 @@
 -- What a source tells of its bytes, and what its reads do to that.
-use Rattle.std.specs.Prelude.{◌≡◌, ℕ, ◌<◌, Bool, true, Option, None, Some, Result, MatchResult, List, [], length, take}
+use Rattle.std.specs.Prelude.{◌≡◌, ℕ, ◌<◌, Bool, true, Option, Some, Result, MatchResult, List, [], ◌++◌, length, take}
 use Rattle.std.specs.Io.KnownBytes.{Appends, Consumes, IsAtEnd}
 
 -- The bytes that reads will give from here on, where they are known; the bytes that reads gave, where that is kept; and whether the last read
@@ -20,3 +20,14 @@ IsSpent told = (told.is_spent ≡ true) × IsAtEnd told.left
 -- `read_some(buf)` gave the n bytes that it put at the front at `Ok(n)`, none only at the end or with no room, and none at `Err`
 abbrev pub ReadGives : {E : Type 0} → (old new : Told) → Result ℕ E → List ℕ → Type 0
 ReadGives old new result buf = MatchResult result (λ n. Gave old new (take n buf) × (n ≡ 0 → 0 < length buf → IsSpent new)) (λ _. Gave old new [])
+
+-- The source keeps which bytes its reads gave. From the one state to the other they gave a prefix of these bytes, and all of them if the last
+-- read gave none.
+pub record GavePrefix (old new : Told) (bytes : List ℕ) : Type 0 where
+  pub start : List ℕ
+  pub given : List ℕ
+  pub rest : List ℕ
+  pub was : old.given ≡ Some start
+  pub now : new.given ≡ Some (start ++ given)
+  pub split : bytes ≡ given ++ rest
+  pub all : IsSpent new → rest ≡ []

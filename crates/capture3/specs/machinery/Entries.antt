@@ -11,15 +11,13 @@ use Rattle.capture3.specs.declared.reader.entries.Stage.TheVariants.{Reading, Ov
 use Rattle.capture3.specs.declared.reader.entry.Kind.{Kind}
 use Rattle.capture3.specs.declared.fault.Error.{Error}
 use Rattle.capture3.specs.declared.container.Container.{Container}
-use Rattle.capture3.specs.Capture.{Two, max_connections}
 use Rattle.capture3.specs.machinery.Container.{room_in}
 use Rattle.capture3.specs.Entry.{Entry, items_of}
 use Rattle.capture3.specs.machinery.EntryParser.{HasCome, IsHeld}
 use Rattle.capture3.specs.Kept.{IsOfKind}
-use Rattle.capture3.specs.Laws.{begins, most_bytes}
 use Rattle.capture3.specs.Laws.{most_entries}
 use Rattle.capture3.specs.Typed.{Typed}
-use Rattle.capture3.specs.Entries.{IsMetBy, block_size}
+use Rattle.capture3.specs.Entries.{IsMetBy, KeepsLimits}
 
 -- how many entries there can be from here on
 abbrev pub entries_left_in : Stage → Container → ℕ
@@ -54,13 +52,11 @@ module _ {R S H : Type 0} {builds : BuildHasher.Ghosts S H} {hashes : Hasher.Gho
   StandsIn Over told entries given handed = Typed given handed × IsSpent told
   StandsIn (Failed error) told entries given handed = IsMetBy error told given handed
 
-  -- The source gave these bytes since the reader was new, at most a block more than the longest capture has, and the reader handed out these
-  -- entries.
+  -- the source gave these bytes since the reader was new, and the reader handed out these entries
   pub record StandsFor (told : R → Told) (entries : Entries R S H builds hashes) (given : List ℕ) (handed : List Entry) : Type 0 where
     pub bytes : AreBytes given
     pub few : length handed + entries_left entries ≤ most_entries
-    pub connections : begins handed ≤ max_connections
-    pub most : length given ≤ most_bytes Two + block_size entries
+    pub limits : KeepsLimits entries given handed
     pub holds : HoldsLast entries handed
     pub here : StandsIn entries.stage (told entries.source.now) entries given handed
 
