@@ -3,7 +3,8 @@ use Rattle.std.proofs.Common.{◌≡◌, ◌≢◌, ℕ, ◌<◌, ◌^◌, List,
 use Rattle.capture3.specs.Told.{IsSpent, Told}
 use Rattle.std.specs.Io.KnownBytes.{Consumes}
 use Rattle.std.specs.Option.{is_some, IsSomeAnd, MatchOption}
-use Rattle.std.proofs.KnownBytes.{Consumes-all, Consumes-trans}
+use Rattle.std.proofs.KnownBytes.{Consumes-trans}
+use Rattle.capture3.proofs.ToldLemmas.{prefix_of_left, shown_of_all}
 use Rattle.std.specs.declared.hash.BuildHasher as BuildHasher
 use Rattle.std.specs.declared.hash.Hasher as Hasher
 use Rattle.xdr3.specs.Item.{Item}
@@ -41,7 +42,6 @@ use Rattle.canon3.proofs.AgreementLemmas.{agree_more, differ_here, mark_alike, n
 use Rattle.canon3.proofs.First.{same_from_bytes}
 use Rattle.canon3.proofs.Reaching.{first_reached}
 use Rattle.canon3.proofs.ProgressLemmas.{place_is}
-use Rattle.canon3.proofs.SummaryLemmas.{met_is_first}
 use Rattle.canon3.proofs.Visiting.{told_after-append}
 
 -- ---- an entry of each
@@ -82,15 +82,13 @@ module _ {S H : Type 0} (comparison : Comparison S H) (a b : List Entry) (n : Me
 -- ---- what a reader answers
 
 pub met_refused : (file given : List ℕ) (handed : List Entry) (tells : Told) (error : Error) → Consumes (Some file) tells.left given → IsMetBy error tells given handed → SaysOfFile file error
-met_refused file given handed tells (errors.Refused fault) consumed met = met_is_first file given handed tells fault consumed met
+met_refused file given handed tells (errors.Refused fault) consumed met = (shown_of_all tells given file handed fault (prefix_of_left tells given file consumed) met).0
 met_refused file given handed tells errors.Read consumed met = tt
 met_refused file given handed tells errors.Write consumed met = tt
 met_refused file given handed tells errors.Memory consumed met = tt
 
 pub all_typed : (file given : List ℕ) (handed : List Entry) (tells : Told) → Consumes (Some file) tells.left given → IsSpent tells → Typed given handed → Typed file handed
-all_typed file given handed tells consumed ended typed =
-    let all : given ≡ file = Consumes-all (Some file) tells.left given [] given consumed ended.1 refl in
-    subst (λ (l : List ℕ). Typed l handed) all typed
+all_typed file given handed tells consumed ended typed = subst (λ (l : List ℕ). Typed l handed) ((prefix_of_left tells given file consumed).all ended) typed
 
 pub first_stops : (file other : List ℕ) (error : Error) → SaysOfFile file error → StopsComparing file other error First
 first_stops file other (errors.Refused fault) met = met

@@ -2,20 +2,14 @@
 use Rattle.std.proofs.Common.{◌≡◌, ◌≤◌, inl, inr, ℕ, ◌+◌, Bool, cond, min, Option, None, Some, Result, Ok, Err, IfOk, List, [], ◌∷◌, ◌++◌, count_by, length, refl, sym, ap, subst, ◌∙◌, append-nil, arith}
 use Rattle.std.specs.Prelude.{bytes_eq}
 use Rattle.std.specs.Cmp.Lexicographic.{nat_list_eq_equiv}
-use Rattle.capture3.specs.Told.{IsSpent, Told}
-use Rattle.capture3.proofs.ToldLemmas.{gave_none}
-use Rattle.std.specs.Io.KnownBytes.{Appends, Consumes}
-use Rattle.std.proofs.KnownBytes.{Consumes-all}
-use Rattle.std.proofs.lemmas.List.{append_cancel_left}
+use Rattle.capture3.specs.Told.{Gave, Told}
+use Rattle.capture3.proofs.ToldLemmas.{gave_none, IsPrefixOf, shown_of_all}
 use Rattle.std.proofs.lemmas.Grind.{flat_map-append}
 use Rattle.std.proofs.lemmas.List.Sums.{sum_by-append, sum_by-cons}
 use Rattle.xdr3.specs.Item.{Item}
-use Rattle.capture3.specs.Entries.{IsMetBy, OnRefused}
 use Rattle.capture3.specs.declared.fault.Error.{Error}
 use Rattle.capture3.specs.declared.fault.Error.TheVariants as errors
-use Rattle.capture3.specs.declared.fault.Fault.{Fault}
 use Rattle.capture3.specs.Entry.{Entry, Begin, Call, Turn, Reply, Close, End, items_of}
-use Rattle.capture3.specs.FirstFault.{FirstFault}
 use Rattle.capture3.specs.Typed.{Typed}
 use Rattle.capture3.proofs.EmittedEntries.{reached_by_machine}
 use Rattle.canon3.specs.declared.passed.Passed.{Passed}
@@ -27,7 +21,7 @@ use Rattle.canon3.specs.Parting.{connections}
 use Rattle.canon3.specs.Passed.{ArePassed}
 use Rattle.canon3.specs.machinery.Passed.{calls, replies}
 use Rattle.canon3.specs.Progress.{HasPassed}
-use Rattle.canon3.specs.Summary.{ConcludesGiven, ConcludesWhole, is_begin, is_call, is_reply, IsSummary}
+use Rattle.canon3.specs.Summary.{ConcludesAll, ConcludesGiven, is_begin, is_call, is_reply, IsSummary}
 use Rattle.canon3.specs.machinery.Summary.{all_items, Sums}
 use Rattle.capture3.specs.Kept.{IsOfKind}
 use Rattle.canon3.specs.Values.{handles}
@@ -103,54 +97,14 @@ summary_is bytes summary entries typed sums = record {
   handles = sums.handles ∙ few_distinct bytes entries typed;
 }
 
--- where all bytes are told
-pub summary_of : (bytes : List ℕ) (old new : Told) (result : Result Summary Error) → old.left ≡ Some bytes → ConcludesGiven old new result → IfOk result (IsSummary bytes)
-summary_of bytes old new (Ok summary) tells (given, consumed, (ended, is)) =
-    let all : given ≡ bytes = Consumes-all (Some bytes) new.left given [] given (subst (λ (o : Option (List ℕ)). Consumes o new.left given) tells consumed.0) ended.1 refl in
-    subst (λ (b : List ℕ). IsSummary b summary) all is
-summary_of bytes old new (Err error) tells c = tt
-
--- the fault that is met is the first of all bytes
-pub met_is_first : (bytes given : List ℕ) (entries : List Entry) (told : Told) (fault : Fault) → Consumes (Some bytes) told.left given → IsMetBy (errors.Refused fault) told given entries → FirstFault bytes fault
-met_is_first bytes given entries told fault consumed (inl shown) = known told.left consumed
-  where
-    known : (left : Option (List ℕ)) → Consumes (Some bytes) left given → FirstFault bytes fault
-    known None consumed = absurd consumed
-    known (Some rest) consumed = rw consumed (shown rest).0
-met_is_first bytes given entries told fault consumed (inr shown) =
-    subst (λ (b : List ℕ). FirstFault b fault) (Consumes-all (Some bytes) told.left given [] given consumed shown.0.1 refl) shown.1
-
-pub faults_of : (bytes : List ℕ) (old new : Told) (result : Result Summary Error) → old.left ≡ Some bytes → ConcludesGiven old new result → OnRefused result (FirstFault bytes)
-faults_of bytes old new (Ok summary) tells c = tt
-faults_of bytes old new (Err (errors.Refused met)) tells (given, consumed, (entries, is)) =
-    met_is_first bytes given entries new met (subst (λ (o : Option (List ℕ)). Consumes o new.left given) tells consumed.0) is
-faults_of bytes old new (Err errors.Read) tells c = tt
-faults_of bytes old new (Err errors.Write) tells c = tt
-faults_of bytes old new (Err errors.Memory) tells c = tt
+-- of all bytes, of which those that were given are a prefix
+pub concluded : (bytes : List ℕ) (old new : Told) (result : Result Summary Error) → ((given : List ℕ) → Gave old new given → IsPrefixOf new given bytes) → ConcludesGiven old new result → ConcludesAll bytes result
+concluded bytes old new (Ok summary) prefix (given, gave, (ended, is)) = (subst (λ (b : List ℕ). IsSummary b summary) ((prefix given gave).all ended) is, tt)
+concluded bytes old new (Err (errors.Refused fault)) prefix (given, gave, (entries, met)) = (tt, (shown_of_all new given bytes entries fault (prefix given gave) met).0)
+concluded bytes old new (Err errors.Read) prefix c = (tt, tt)
+concluded bytes old new (Err errors.Write) prefix c = (tt, tt)
+concluded bytes old new (Err errors.Memory) prefix c = (tt, tt)
 
 -- before any byte was read
 pub nothing_concluded : (told : Told) → ConcludesGiven told told (Err errors.Memory)
 nothing_concluded told = ([], gave_none told, ([], (_, reached_by_machine [] (λ k. omega arith))))
-
--- ---- where the source keeps what it gave
-
-module _ (before told : Told) (start given rest came : List ℕ) (was : before.given ≡ Some start) (now : told.given ≡ Some (start ++ given)) (gave : Appends before.given told.given came) where
-  given_is : came ≡ given
-  given_is = append_cancel_left start came given (sym (subst (λ (o : Option (List ℕ)). Appends o (Some (start ++ given)) came) was (subst (λ (o : Option (List ℕ)). Appends before.given o came) now gave)))
-
-  -- nothing follows it
-  all_is : rest ≡ [] → came ≡ given ++ rest
-  all_is none = given_is ∙ sym (ap (λ (l : List ℕ). given ++ l) none ∙ append-nil given)
-
-  fault_is : (entries : List Entry) (fault : Fault) → (IsSpent told → rest ≡ []) → IsMetBy (errors.Refused fault) told came entries → FirstFault (given ++ rest) fault
-  fault_is entries fault none (inl shown) = subst (λ (b : List ℕ). FirstFault (b ++ rest) fault) given_is (shown rest).0
-  fault_is entries fault none (inr shown) = subst (λ (b : List ℕ). FirstFault b fault) (all_is (none shown.0)) shown.1
-
-pub whole_of : (before told : Told) (result : Result Summary Error) → ConcludesGiven before told result → ConcludesWhole before told result
-whole_of before told (Ok summary) (came, gave, (ended, is)) start given rest was now none =
-    (subst (λ (b : List ℕ). IsSummary b summary) (all_is before told start given rest came was now gave.1 (none ended)) is, tt)
-whole_of before told (Err (errors.Refused fault)) (came, gave, (entries, met)) start given rest was now none =
-    (tt, fault_is before told start given rest came was now gave.1 entries fault none met)
-whole_of before told (Err errors.Read) c start given rest was now none = (tt, tt)
-whole_of before told (Err errors.Write) c start given rest was now none = (tt, tt)
-whole_of before told (Err errors.Memory) c start given rest was now none = (tt, tt)

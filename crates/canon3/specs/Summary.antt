@@ -1,5 +1,5 @@
 -- What a capture has of each kind.
-use Rattle.std.specs.Prelude.{◌≡◌, ℕ, Bool, true, false, Option, Some, List, [], ◌++◌, IfOk, bytes_eq, count_by, length, Result, Ok, Err}
+use Rattle.std.specs.Prelude.{◌≡◌, ℕ, Bool, true, false, List, IfOk, bytes_eq, count_by, length, Result, Ok, Err}
 use Rattle.capture3.specs.Told.{Gave, IsSpent, Told}
 use Rattle.capture3.specs.declared.fault.Error.{Error}
 use Rattle.capture3.specs.Entries.{IsMetBy, OnRefused}
@@ -41,7 +41,7 @@ Concludes told given (Err error) = (entries : List Entry) × IsMetBy error told 
 abbrev pub ConcludesGiven : (before told : Told) → Result Summary Error → Type 0
 ConcludesGiven before told result = (given : List ℕ) × Gave before told given × Concludes told given result
 
--- The source keeps which bytes it gave, and gave these in the call; whatever bytes follow them, none where it is spent, the answer is so of all.
-abbrev pub ConcludesWhole : (before told : Told) → Result Summary Error → Type 0
-ConcludesWhole before told result =
-    (start given rest : List ℕ) → before.given ≡ Some start → told.given ≡ Some (start ++ given) → (IsSpent told → rest ≡ []) → IfOk result (IsSummary (given ++ rest)) × OnRefused result (FirstFault (given ++ rest))
+-- What is concluded of all bytes of a capture, of which the source gave a prefix: they are well formed, and this is their summary; or this is their
+-- first fault. No other error says anything of them.
+abbrev pub ConcludesAll : List ℕ → Result Summary Error → Type 0
+ConcludesAll bytes result = IfOk result (IsSummary bytes) × OnRefused result (FirstFault bytes)

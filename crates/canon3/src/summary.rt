@@ -1,14 +1,14 @@
 // Whether a capture is well formed, and what it has.
 
 ghost use Rattle.std.specs.Prelude.{◌≡◌, ◌≢◌, ◌<◌, ◌≤◌, ◌+◌, ℕ, List, [], Option, None, Some, IfErr, IfOk, IsTrue, OnOk};
-ghost use Rattle.capture3.specs.Told.{Told};
+ghost use Rattle.capture3.specs.Told.{GavePrefix, Told};
 ghost use Rattle.capture3.specs.Entries.{CountsReading, CountsReads, failure_of, loan_of, OnRefused, source_of};
 ghost use Rattle.capture3.specs.machinery.Entries.{entries_left, StandsFor};
 ghost use Rattle.capture3.specs.Entry as spec;
 ghost use Rattle.capture3.specs.FirstFault.{FirstFault};
 ghost use Rattle.capture3.specs.Laws.{most_entries};
 ghost use Rattle.canon3.specs.Passed.{passed_steps};
-ghost use Rattle.canon3.specs.Summary.{ConcludesGiven, ConcludesWhole, IsSummary};
+ghost use Rattle.canon3.specs.Summary.{ConcludesAll, ConcludesGiven, IsSummary};
 ghost use Rattle.canon3.specs.machinery.Summary.{Sums};
 ghost use Rattle.canon3.specs.machinery.Tally.{TalliesOn, TalliesToTheEnd, IsTallying, Tallies};
 
@@ -39,11 +39,13 @@ pub fn check<R: Source, S: BuildHasher + Drop>(
     hashers: Hashers<S>,
     source: &mut R,
 ) -> Result<Summary, Error>
-    ensures ok { (bytes : List ℕ) → (R.told source.old).left ≡ Some bytes → IfOk result (IsSummary bytes) }
+    ensures ok { (bytes : List ℕ) → (R.told source.old).left ≡ Some bytes
+        → IfOk result (IsSummary bytes) }
     ensures refused { (bytes : List ℕ) → (R.told source.old).left ≡ Some bytes
         → OnRefused result (FirstFault bytes) }
     ensures concludes { ConcludesGiven (R.told source.old) (R.told source.new) result }
-    ensures whole { ConcludesWhole (R.told source.old) (R.told source.new) result }
+    ensures whole { (bytes : List ℕ) → GavePrefix (R.told source.old) (R.told source.new) bytes
+        → ConcludesAll bytes result }
     ensures read { CountsReading (R.failures source.old) (R.failures source.new) result }
     ensures write { IfErr result (λ error. error ≢ Error.Write) }
 {

@@ -26,19 +26,19 @@ pub record IsPrefixOf (told : Told) (given bytes : List ℕ) : Type 0 where
   pub all : IsSpent told → given ≡ bytes
 
 -- where the source told which bytes were left
-module _ (old new : Told) (given bytes : List ℕ) (tells : old.left ≡ Some bytes) (gave : Gave old new given) where
-  consumed : Consumes (Some bytes) new.left given
-  consumed = subst (λ (o : Option (List ℕ)). Consumes o new.left given) tells gave.0
+module _ (told : Told) (given bytes : List ℕ) (consumed : Consumes (Some bytes) told.left given) where
+  all_left : IsSpent told → given ≡ bytes
+  all_left end = Consumes-all (Some bytes) told.left given [] given consumed end.1 refl
 
-  all_left : IsSpent new → given ≡ bytes
-  all_left end = Consumes-all (Some bytes) new.left given [] given consumed end.1 refl
-
-  pub prefix_of_left : IsPrefixOf new given bytes
-  prefix_of_left = by_left new.left consumed
+  pub prefix_of_left : IsPrefixOf told given bytes
+  prefix_of_left = by_left told.left consumed
     where
-      by_left : (left : Option (List ℕ)) → Consumes (Some bytes) left given → IsPrefixOf new given bytes
+      by_left : (left : Option (List ℕ)) → Consumes (Some bytes) left given → IsPrefixOf told given bytes
       by_left None c = absurd c
       by_left (Some rest) c = record { rest = rest; split = c; all = all_left }
+
+pub prefix_of_told : (old new : Told) (given bytes : List ℕ) → old.left ≡ Some bytes → Gave old new given → IsPrefixOf new given bytes
+prefix_of_told old new given bytes tells gave = prefix_of_left new given bytes (subst (λ (o : Option (List ℕ)). Consumes o new.left given) tells gave.0)
 
 -- where the source keeps which bytes it gave
 module _ (old new : Told) (given bytes : List ℕ) (p : GavePrefix old new bytes) (gave : Gave old new given) where
