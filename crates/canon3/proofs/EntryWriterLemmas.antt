@@ -1,8 +1,8 @@
 -- What is written of the entries that a reader hands out.
-use Rattle.std.proofs.Common.{⊎_elim, ℕ, Bool, true, false, List, [], ◌∷◌, ◌++◌, refl, Option, Result, Ok, Err, IfErr, IfOk, arith}
+use Rattle.std.proofs.Common.{⊎_elim, ℕ, Bool, true, false, List, [], ◌∷◌, ◌++◌, refl, subst, Option, Result, Ok, Err, IfErr, IfOk, arith}
 use Rattle.std.specs.Prelude.{IsTrue}
 use Rattle.capture3.specs.Told.{Gave, Told}
-use Rattle.capture3.proofs.ToldLemmas.{gave_none}
+use Rattle.capture3.proofs.ToldLemmas.{gave_none, IsPrefixOf, shown_of_all}
 use Rattle.std.specs.Io.KnownBytes.{Appends}
 use Rattle.std.proofs.KnownBytes.{Appends-nil}
 use Rattle.std.specs.declared.hash.BuildHasher as BuildHasher
@@ -17,7 +17,10 @@ use Rattle.capture3.specs.Entry.{Entry}
 use Rattle.capture3.specs.Reached.{AreFirstReached, Reached}
 use Rattle.capture3.proofs.EmittedEntries.{reached_by_machine}
 use Rattle.canon3.specs.declared.passed.Passed.{Passed}
-use Rattle.canon3.specs.EntryWriter.{IsStoppedBy, KeepsPrefixes, WritesGiven}
+use Rattle.capture3.specs.Typed.{Typed}
+use Rattle.canon3.specs.declared.summary.Summary.{Summary}
+use Rattle.canon3.specs.EntryWriter.{IsStoppedBy, KeepsPrefixes, WritesAll, WritesGiven}
+use Rattle.canon3.specs.Summary.{IsSummary}
 use Rattle.canon3.specs.machinery.EntryWriter.{WritesOn, HasMore}
 use Rattle.canon3.specs.WriteErrors.{IsOfWriting}
 use Rattle.canon3.specs.SinkWrites.{AppendsFront}
@@ -41,6 +44,18 @@ module _ (form : List Entry → List ℕ) (prefixes : KeepsPrefixes form) where
   -- before any byte was read
   pub nothing_written : (told : Told) (old : Option (List ℕ)) → WritesGiven form told told old old (Err errors.Memory)
   nothing_written told old = ([], gave_none told, (_, reached_by_machine [] (λ k. omega arith), ([], _, refl, Appends-nil old)))
+
+  -- of all bytes, of which those that were given are a prefix
+  pub all_written : (bytes : List ℕ) (first told : Told) (old new : Option (List ℕ)) (result : Result Summary Error) → ((given : List ℕ) → Gave first told given → IsPrefixOf told given bytes) → WritesGiven form first told old new result → WritesAll form bytes old new result
+  all_written bytes first told old new (Ok summary) prefix (given, gave, (entries, ended, typed, is, written)) =
+      let all = (prefix given gave).all ended in
+      (entries, subst (λ (b : List ℕ). Typed b entries) all typed, subst (λ (b : List ℕ). IsSummary b summary) all is, written)
+  all_written bytes first told old new (Err (errors.Refused fault)) prefix (given, gave, (entries, met, written)) =
+      let shown = shown_of_all told given bytes entries fault (prefix given gave) met in
+      (entries, shown.0, shown.1, written)
+  all_written bytes first told old new (Err errors.Read) prefix w = tt
+  all_written bytes first told old new (Err errors.Write) prefix w = tt
+  all_written bytes first told old new (Err errors.Memory) prefix w = tt
 
   -- ---- along a reader
 

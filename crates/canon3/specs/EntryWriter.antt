@@ -7,6 +7,7 @@ use Rattle.capture3.specs.declared.fault.Error.{Error}
 use Rattle.capture3.specs.declared.fault.Error.TheVariants as errors
 use Rattle.capture3.specs.Entries.{IsMetBy}
 use Rattle.capture3.specs.Entry.{Entry, items_of}
+use Rattle.capture3.specs.FirstFault.{FirstFault}
 use Rattle.capture3.specs.Reached.{Reached}
 use Rattle.capture3.specs.Typed.{Typed}
 use Rattle.canon3.specs.declared.passed.Passed.{Passed}
@@ -37,6 +38,14 @@ module _ (form : List Entry → List ℕ) where
   -- the source gave some bytes, and the form of their entries was written
   abbrev pub WritesGiven : (before told : Told) (old new : Option (List ℕ)) → Result Summary Error → Type 0
   WritesGiven before told old new result = (given : List ℕ) × Gave before told given × Writes told given old new result
+
+  -- What is written of all bytes of a capture, of which the source gave a prefix. They are well formed, this is their summary, and the form of
+  -- their entries was written; or this is their first fault, and the form of the entries that they reach was written. What was written before
+  -- another error, `Writes` says of the bytes given.
+  abbrev pub WritesAll : (bytes : List ℕ) (old new : Option (List ℕ)) → Result Summary Error → Type 0
+  WritesAll bytes old new (Ok summary) = (entries : List Entry) × Typed bytes entries × IsSummary bytes summary × Appends old new (form entries)
+  WritesAll bytes old new (Err (errors.Refused fault)) = (entries : List Entry) × FirstFault bytes fault × Reached bytes entries × Appends old new (form entries)
+  WritesAll bytes old new (Err _) = Unit {0}
 
 -- the form of the first entries is a prefix of the form of all
 abbrev pub KeepsPrefixes : (List Entry → List ℕ) → Type 0

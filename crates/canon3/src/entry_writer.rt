@@ -1,13 +1,13 @@
 // What is written of a capture while it is read, from a source to a sink.
 
 ghost use Rattle.std.specs.Prelude.{◌≡◌, ◌<◌, ◌≤◌, ◌+◌, ◌^◌, ◌++◌, ◌∷◌, ℕ, List, [], Option, None, bytes_eq, length, min, IfErr, IfOk, IsTrue, OnOk};
-ghost use Rattle.capture3.specs.Told.{Told};
+ghost use Rattle.capture3.specs.Told.{GavePrefix, Told};
 ghost use Rattle.xdr3.specs.Item.{Item};
 ghost use Rattle.capture3.specs.Entries.{CountsReading, CountsReads, failure_of, loan_of, source_of};
 ghost use Rattle.capture3.specs.machinery.Entries.{entries_left, StandsFor};
 ghost use Rattle.capture3.specs.Entry as spec;
 ghost use Rattle.capture3.specs.Laws.{most_entries};
-ghost use Rattle.canon3.specs.EntryWriter.{KeepsPrefixes, WritesGiven, WritesOne};
+ghost use Rattle.canon3.specs.EntryWriter.{KeepsPrefixes, WritesAll, WritesGiven, WritesOne};
 ghost use Rattle.canon3.specs.machinery.EntryWriter.{WritesOn, HasWritten, IsEnded, WritesToTheEnd, IsWriting, WritesMore};
 ghost use Rattle.canon3.specs.Passed.{ArePassed, passed_steps};
 ghost use Rattle.canon3.specs.Rank.{distinct, number_limit};
@@ -77,6 +77,8 @@ pub fn write_entries<R: Source, W: Sink, E: EntryWriter, S: BuildHasher + Drop>(
     requires prefixes { KeepsPrefixes E.form }
     ensures writes { WritesGiven E.form (R.told source.old) (R.told source.new) (W.written sink.old)
         (W.written sink.new) result }
+    ensures whole { (bytes : List ℕ) → GavePrefix (R.told source.old) (R.told source.new) bytes
+        → WritesAll E.form bytes (W.written sink.old) (W.written sink.new) result }
     ensures flushes { OnOk result (IsFlushed (W.written sink.new) (W.flushed sink.new)) }
     ensures read { CountsReading (R.failures source.old) (R.failures source.new) result }
     ensures write { CountsWriting (W.failures sink.old) (W.failures sink.new) result }
