@@ -1,8 +1,8 @@
 -- What each call makes of the pairs for which a packing stood.
 use Rattle.std.proofs.Common.{arith, refl, sym, ap, subst, inl, inr, ◌≡◌, ◌∙◌, ◌≤◌, ◌+◌, ℕ, List, [], ◌∷◌, ◌++◌, length, length-append, append_assoc}
 use Rattle.std.specs.Prelude.{Option, None, Result, Ok, Err, OnOk, OnErr, IfErr}
-use Rattle.capture3.specs.Told.{Gave, Told}
-use Rattle.capture3.proofs.ToldLemmas.{gave_none}
+use Rattle.capture3.specs.Told.{Gave, GavePrefix, Told}
+use Rattle.capture3.proofs.ToldLemmas.{gave_none, prefix_of_kept}
 use Rattle.std.specs.Io.KnownBytes.{Appends}
 use Rattle.std.proofs.KnownBytes.{Appends-trans}
 use Rattle.record_mark.proofs.Words.{Joins-snoc}
@@ -58,6 +58,16 @@ module _ {W : Type 0} (written : W → Option (List ℕ)) where
       },
     );
   }
+
+  -- of all bytes of both streams, of which the sources gave prefixes
+  pub added_all : (new : Packing W) (first : Option (List ℕ)) (c0 c1 s0 s1 : Told) (pairs : List Streams) (streams : Streams) → GavePrefix c0 c1 streams.client → GavePrefix s0 s1 streams.server
+      → AddsPair written new first c0 c1 s0 s1 pairs (Ok (tt {0})) → HasAdded written new first (pairs ++ streams ∷ [])
+  added_all new first c0 c1 s0 s1 pairs streams from_client from_server it =
+      let (client_ended, server_ended, has) = it.adds in
+      let client : it.streams.client ≡ streams.client = (prefix_of_kept c0 c1 it.streams.client streams.client from_client it.from_client).all client_ended in
+      let server : it.streams.server ≡ streams.server = (prefix_of_kept s0 s1 it.streams.server streams.server from_server it.from_server).all server_ended in
+      subst (λ (l : List ℕ). HasAdded written new first (pairs ++ record { client = streams.client; server = l } ∷ [])) server
+      (subst (λ (l : List ℕ). HasAdded written new first (pairs ++ record { client = l; server = it.streams.server } ∷ [])) client has)
 
   broken_off : (old : Packing W) (first : Option (List ℕ)) (c0 c1 s0 s1 : Told) (w1 : Option (List ℕ)) (pairs : List Streams) (error : Error) (it : StopsInConnection c0 c1 s0 s1 (written old.sink) w1 old.extent error)
       → HasAdded written old first pairs → BreaksOff first w1 (pairs ++ it.streams ∷ []) error

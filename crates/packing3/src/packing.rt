@@ -1,10 +1,11 @@
 // A capture made of recorded streams.
 
-ghost use Rattle.std.specs.Prelude.{◌≡◌, ◌≤◌, ◌+◌, ◌*◌, ℕ, List, [], Option, None, Some, Err, vec_len, IfErr, IfOk, IsSome, MatchResult, OnErr, OnOk};
+ghost use Rattle.std.specs.Prelude.{◌≡◌, ◌≤◌, ◌+◌, ◌*◌, ◌++◌, ◌∷◌, ℕ, List, [], Option, None, Some, Err, vec_len, IfErr, IfOk, IsSome, MatchResult, OnErr, OnOk};
 ghost use Rattle.std.specs.Io.KnownBytes.{Appends};
 ghost use Rattle.xdr3.specs.Item.{word_bytes};
 ghost use Rattle.capture3.specs.Capture.{max_connections};
 ghost use Rattle.capture3.specs.SidedChunks.{Streams};
+ghost use Rattle.capture3.specs.Told.{GavePrefix};
 ghost use Rattle.capture3.specs.Chunks.{max_bytes};
 ghost use Rattle.canon3.specs.SinkWrites.{AppendsFront, IsFlushed};
 ghost use Rattle.packing3.specs.Packed.{full_size};
@@ -91,6 +92,11 @@ impl<W: Sink> Packing<W> {
             → AddsPair W.written self.new old
             (C.told client.old) (C.told client.new) (S.told server.old) (S.told server.new)
             pairs result }
+        ensures whole { (old : Option (List ℕ)) (pairs : List Streams) (streams : Streams)
+            → HasAdded W.written self.old old pairs
+            → GavePrefix (C.told client.old) (C.told client.new) streams.client
+            → GavePrefix (S.told server.old) (S.told server.new) streams.server
+            → OnOk result (HasAdded W.written self.new old (pairs ++ streams ∷ [])) }
         ensures ended { ending_of self.old ≡ None
             → MatchResult result
             (λ _. ending_of self.new ≡ None)

@@ -1,9 +1,9 @@
 // A source over bytes in memory.
 
-ghost use Rattle.std.specs.Prelude.{◌≡◌, ◌≤◌, ◌<◌, ◌-◌, ◌↔◌, length, min, None, Some, IfOk, IsErr};
+ghost use Rattle.std.specs.Prelude.{◌≡◌, ◌≤◌, ◌<◌, ◌-◌, ◌↔◌, false, length, min, None, Some, IfOk, IsErr};
 ghost use Rattle.capture3.specs.Device.{Counts};
 ghost use Rattle.capture3.specs.MemSource.{told_in_memory};
-ghost use Rattle.capture3.specs.Told.{ReadGives};
+ghost use Rattle.capture3.specs.Told.{ReadGives, TellsSpent};
 
 use crate::device::DeviceFailed;
 use crate::device::plan::FaultPlan;
@@ -17,6 +17,8 @@ pub struct MemSource<'a> {
     bytes: &'a [u8],
     block: usize,
     plan: FaultPlan,
+    // The last read that did not fail gave none.
+    is_spent: bool,
 }
 
 impl<'a> Model for MemSource<'a> {
@@ -30,6 +32,7 @@ impl<'a> Model for MemSource<'a> {
       block = s.block;
       fails_in = s.plan.fails_in;
       failures = s.plan.failures;
+      is_spent = s.is_spent;
     } };
 
     ghost invariant = { λ s. 0 < s.block };
@@ -44,12 +47,14 @@ impl<'a> MemSource<'a> {
           block = block;
           fails_in = fail;
           failures = 0;
+          is_spent = false;
         } }
     {
         MemSource {
             bytes,
             block,
             plan: FaultPlan::new(fail),
+            is_spent: false,
         }
     }
 }
@@ -64,6 +69,7 @@ impl Source for MemSource<'_> {
         ensures within { IfOk result (λ n. n ≤ length buf.new) }
         ensures bytes { ReadGives (told_in_memory self.old) (told_in_memory self.new) result
             buf.new }
+        ensures spent { TellsSpent (told_in_memory self.old) (told_in_memory self.new) result }
         ensures count { Counts self.old.failures self.new.failures result }
 
         // How many bytes a call gives, and which call fails.
@@ -78,6 +84,7 @@ impl Source for MemSource<'_> {
         let (front, rest) = self.bytes.split_at(count);
         buf[..count].copy_from_slice(front);
         self.bytes = rest;
+        self.is_spent = count == 0;
         Ok(count)
     }
 }

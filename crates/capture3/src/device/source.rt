@@ -2,7 +2,7 @@
 
 ghost use Rattle.std.specs.Prelude.{◌≡◌, ◌≤◌, ◌<◌, ℕ, [], false, length, Some, IfOk};
 ghost use Rattle.capture3.specs.Device.{Counts};
-ghost use Rattle.capture3.specs.Told.{Told, ReadGives};
+ghost use Rattle.capture3.specs.Told.{Told, ReadGives, TellsSpent};
 
 use crate::device::DeviceFailed;
 use crate::device::trail::Trail;
@@ -22,17 +22,18 @@ pub trait Source {
         requires room { 0 < length buf.old }
         ensures within { IfOk result (λ n. n ≤ length buf.new) }
         ensures bytes { ReadGives (told self.old) (told self.new) result buf.new }
+        ensures spent { TellsSpent (told self.old) (told self.new) result }
         ensures count { Counts (failures self.old) (failures self.new) result };
 }
 
-/// A source over any reader. It tells the bytes that are left where the reader does, and, over any reader,
-/// the bytes that its reads gave.
+/// A source over any reader. It tells the bytes that its reads gave, and the bytes that are left if the
+/// reader does.
 #[derive(Drop)]
 pub struct FromRead<R> {
     reader: R,
     failures: u64,
     given: Trail,
-    // The last read gave none.
+    // The last read that did not fail gave none.
     is_spent: bool,
 }
 
