@@ -1,7 +1,7 @@
 // What each job does with its files.
 
-use crate::files::counted;
-use canon3::{SameError, Sink, Summary, ToWrite, Traced, Which, canon, same};
+use crate::files;
+use canon3::{SameError, Sink, Summary, ToWrite, Traced, Which, canon};
 use capture3::{Error, FromRead, Hashers};
 use line3::LineFault;
 use listing3::show;
@@ -22,26 +22,12 @@ fn unpacked(rt: &HostRuntime, name: &str, error: OpenError) -> Outcome {
     unopened(rt.alloc(), name, error, Outcome::Packed(Err(Error::Memory)))
 }
 
-/// If memory ran out for the name of one of two captures, that one is told.
-fn uncompared(rt: &HostRuntime, which: Which, name: &str, error: OpenError) -> Outcome {
-    let out_of_memory = SameError {
-        which,
-        error: Error::Memory,
-    };
-    unopened(
-        rt.alloc(),
-        name,
-        error,
-        Outcome::Compared(Err(out_of_memory)),
-    )
-}
-
 /// Checks the file with this name.
 pub fn checked(rt: &HostRuntime, name: &str) -> Outcome {
     let Ok(hashers) = hashers(rt) else {
         return Outcome::Counted(Err(Error::Read));
     };
-    counted(rt.alloc(), hashers, rt, name)
+    files::counted(rt.alloc(), hashers, rt, name)
 }
 
 /// The lines before a fault are written too.
@@ -96,29 +82,17 @@ fn form_written(
     came
 }
 
-/// Both are open before either is read.
+/// Compares the files with these names.
 pub fn compared(rt: &HostRuntime, first: &str, second: &str) -> Outcome {
-    let (Ok(hashers), Ok(other_hashers)) = (hashers(rt), hashers(rt)) else {
-        return Outcome::Compared(Err(SameError {
+    match (hashers(rt), hashers(rt)) {
+        (Ok(hashers), Ok(other_hashers)) => {
+            files::compared(rt.alloc(), hashers, other_hashers, rt, first, second)
+        }
+        _ => Outcome::Compared(Err(SameError {
             which: Which::First,
             error: Error::Read,
-        }));
-    };
-    let source = match fs::open(rt, first) {
-        Ok(source) => source,
-        Err(error) => return uncompared(rt, Which::First, first, OpenError::from(error)),
-    };
-    let other = match fs::open(rt, second) {
-        Ok(other) => other,
-        Err(error) => return uncompared(rt, Which::Second, second, OpenError::from(error)),
-    };
-    Outcome::Compared(same(
-        rt.alloc(),
-        hashers,
-        other_hashers,
-        &mut FromRead::new(source),
-        &mut FromRead::new(other),
-    ))
+        })),
+    }
 }
 
 /// The output is made first, and then each pair of streams is opened in turn.
