@@ -6,14 +6,17 @@
 PROGRAM is crates/nfs3canon/out/nfs3canon where none is named. Each test below is a function with a folder of its own. The
 last line is 'N passed, M failed', and the status is 1 where any failed. It takes less than a minute on four cores.
 """
+import fcntl
 import functools
 import math
 import os
 import pathlib
 import shutil
 import signal
+import struct
 import subprocess
 import tempfile
+import termios
 import threading
 import time
 
@@ -516,6 +519,37 @@ def fifos(place):
         place.want('check of %d pieces' % len(pieces), (found, out + error), (status, line))
 
 
+def in_two_reads(path, content, cut):
+    """Writes both pieces to a fifo, the second once the first was read."""
+    with open(path, 'wb', buffering=0) as pipe:
+        pipe.write(content[:cut])
+        wait_for(lambda: struct.unpack('i', fcntl.ioctl(pipe, termios.FIONREAD, bytes(4)))[0] == 0)
+        pipe.write(content[cut:])
+
+
+def reads_cut_at_each_length(place):
+    """Known bytes through each command, of which the first read gives a part: whatever the part, the answer is that of all bytes."""
+    client, server = (b''.join(map(fragment, side)) for side in NULL)
+    listing = ('1 client 1 xid=1 NFSPROC3_NULL mtype=0 rpcvers=2 prog=100003 vers=3 proc=0 cred_flavor=0 cred_body= verf_flavor=0 verf_body=\n'
+               '1 server 1 xid=1 NFSPROC3_NULL mtype=1 reply_stat=0 verf_flavor=0 verf_body= accept_stat=0\n')
+    same = 'same\n'
+    fifo = os.path.join(place.folder, 'fifo')
+    os.mkfifo(fifo)
+    place.write('good', GOOD)
+    place.write('server', server)
+    cases = [('check fifo', GOOD, GOOD_LINE, None), ('show fifo', GOOD, listing, None), ('canon fifo out', GOOD, GOOD_LINE, GOOD),
+             ('same fifo good', GOOD, same, None), ('same good fifo', GOOD_2, same, None), ('pack out fifo server', client, '', GOOD)]
+    for line, content, wanted, written in cases:
+        for cut in range(1, len(content)):
+            writer = threading.Thread(target=in_two_reads, args=(fifo, content, cut), daemon=True)
+            writer.start()
+            found, out, error = place.run(*line.split())
+            writer.join(TIMEOUT)
+            place.want('%s, cut at %d' % (line, cut), (found, error, out, place.read('out')), (0, '', wanted, written))
+            if written is not None:
+                os.remove(os.path.join(place.folder, 'out'))
+
+
 def files_that_may_not_be_read(place):
     """As somebody whom modes bind, where the tests run as root."""
     place.write('good', GOOD)
@@ -707,6 +741,7 @@ TESTS = [after_a_large_connection(1_000_000, 0), after_a_large_connection(1_000_
          names_that_are_taken_in_the_middle, pipes_that_do_not_wait, names_of_the_most_bytes, folders_that_no_path_names,
          outputs_that_are_refused_before_the_work, rights_on_an_output, files_of_two_devices_with_one_number,
          outputs_on_which_something_is_mounted, many_streams_and_few_open_files, inputs_that_never_end, fifos,
+         reads_cut_at_each_length,
          files_that_may_not_be_read, files_that_change_while_they_are_read]
 
 

@@ -2,17 +2,14 @@
 use Rattle.std.proofs.Common.{◌≡◌, ◌≤◌, inl, inr, ℕ, ◌+◌, Bool, cond, min, Option, None, Some, Result, Ok, Err, IfOk, List, [], ◌∷◌, ◌++◌, count_by, length, refl, sym, ap, subst, ◌∙◌, append-nil, arith}
 use Rattle.std.specs.Prelude.{bytes_eq}
 use Rattle.std.specs.Cmp.Lexicographic.{nat_list_eq_equiv}
-use Rattle.std.specs.Io.KnownBytes.{Consumes}
-use Rattle.std.proofs.KnownBytes.{Consumes-all, Consumes-nil}
+use Rattle.capture3.specs.Told.{Gave, Told}
+use Rattle.capture3.proofs.ToldLemmas.{gave_none, IsPrefixOf, shown_of_all}
 use Rattle.std.proofs.lemmas.Grind.{flat_map-append}
 use Rattle.std.proofs.lemmas.List.Sums.{sum_by-append, sum_by-cons}
 use Rattle.xdr3.specs.Item.{Item}
-use Rattle.capture3.specs.Entries.{IsMetBy, OnRefused}
 use Rattle.capture3.specs.declared.fault.Error.{Error}
 use Rattle.capture3.specs.declared.fault.Error.TheVariants as errors
-use Rattle.capture3.specs.declared.fault.Fault.{Fault}
 use Rattle.capture3.specs.Entry.{Entry, Begin, Call, Turn, Reply, Close, End, items_of}
-use Rattle.capture3.specs.FirstFault.{FirstFault}
 use Rattle.capture3.specs.Typed.{Typed}
 use Rattle.capture3.proofs.EmittedEntries.{reached_by_machine}
 use Rattle.canon3.specs.declared.passed.Passed.{Passed}
@@ -24,7 +21,7 @@ use Rattle.canon3.specs.Parting.{connections}
 use Rattle.canon3.specs.Passed.{ArePassed}
 use Rattle.canon3.specs.machinery.Passed.{calls, replies}
 use Rattle.canon3.specs.Progress.{HasPassed}
-use Rattle.canon3.specs.Summary.{ConcludesGiven, is_begin, is_call, is_reply, IsSummary}
+use Rattle.canon3.specs.Summary.{ConcludesAll, ConcludesGiven, is_begin, is_call, is_reply, IsSummary}
 use Rattle.canon3.specs.machinery.Summary.{all_items, Sums}
 use Rattle.capture3.specs.Kept.{IsOfKind}
 use Rattle.canon3.specs.Values.{handles}
@@ -100,30 +97,14 @@ summary_is bytes summary entries typed sums = record {
   handles = sums.handles ∙ few_distinct bytes entries typed;
 }
 
--- where all bytes are told
-pub summary_of : (bytes : List ℕ) (old new : Option (List ℕ)) (result : Result Summary Error) → old ≡ Some bytes → ConcludesGiven old new result → IfOk result (IsSummary bytes)
-summary_of bytes old new (Ok summary) tells (given, consumed, (ended, is)) =
-    let all : given ≡ bytes = Consumes-all (Some bytes) new given [] given (subst (λ (o : Option (List ℕ)). Consumes o new given) tells consumed) ended refl in
-    subst (λ (b : List ℕ). IsSummary b summary) all is
-summary_of bytes old new (Err error) tells c = tt
-
--- the fault that is met is the first of all bytes
-pub met_is_first : (bytes given : List ℕ) (entries : List Entry) (left : Option (List ℕ)) (fault : Fault) → Consumes (Some bytes) left given → IsMetBy (errors.Refused fault) left given entries → FirstFault bytes fault
-met_is_first bytes given entries None fault consumed met = absurd consumed
-met_is_first bytes given entries (Some rest) fault consumed met =
-    elim met [
-      | inl shown ↦ rw consumed (shown rest).0
-      | inr shown ↦ subst (λ (b : List ℕ). FirstFault b fault) (Consumes-all (Some bytes) (Some rest) given [] given consumed shown.0 refl) shown.1
-    ]
-
-pub faults_of : (bytes : List ℕ) (old new : Option (List ℕ)) (result : Result Summary Error) → old ≡ Some bytes → ConcludesGiven old new result → OnRefused result (FirstFault bytes)
-faults_of bytes old new (Ok summary) tells c = tt
-faults_of bytes old new (Err (errors.Refused met)) tells (given, consumed, (entries, is)) =
-    met_is_first bytes given entries new met (subst (λ (o : Option (List ℕ)). Consumes o new given) tells consumed) is
-faults_of bytes old new (Err errors.Read) tells c = tt
-faults_of bytes old new (Err errors.Write) tells c = tt
-faults_of bytes old new (Err errors.Memory) tells c = tt
+-- of all bytes, of which those that were given are a prefix
+pub concluded : (bytes : List ℕ) (old new : Told) (result : Result Summary Error) → ((given : List ℕ) → Gave old new given → IsPrefixOf new given bytes) → ConcludesGiven old new result → ConcludesAll bytes result
+concluded bytes old new (Ok summary) prefix (given, gave, (ended, is)) = (subst (λ (b : List ℕ). IsSummary b summary) ((prefix given gave).all ended) is, tt)
+concluded bytes old new (Err (errors.Refused fault)) prefix (given, gave, (entries, met)) = (tt, (shown_of_all new given bytes entries fault (prefix given gave) met).0)
+concluded bytes old new (Err errors.Read) prefix c = (tt, tt)
+concluded bytes old new (Err errors.Write) prefix c = (tt, tt)
+concluded bytes old new (Err errors.Memory) prefix c = (tt, tt)
 
 -- before any byte was read
-pub nothing_concluded : (left : Option (List ℕ)) → ConcludesGiven left left (Err errors.Memory)
-nothing_concluded left = ([], Consumes-nil left, ([], (_, reached_by_machine [] (λ k. omega arith))))
+pub nothing_concluded : (told : Told) → ConcludesGiven told told (Err errors.Memory)
+nothing_concluded told = ([], gave_none told, ([], (_, reached_by_machine [] (λ k. omega arith))))

@@ -1,5 +1,6 @@
 -- What is written of a capture's canonical form while it is read.
 use Rattle.std.specs.Prelude.{ℕ, Option, List, Result}
+use Rattle.capture3.specs.Told.{Told}
 use Rattle.capture3.specs.declared.fault.Error.{Error}
 use Rattle.capture3.specs.Entry.{Entry}
 use Rattle.canon3.specs.declared.summary.Summary.{Summary}
@@ -12,5 +13,5 @@ abbrev pub canonical_bytes : List Entry → List ℕ
 canonical_bytes entries = bytes_of (canonical entries)
 
 -- the source gave some bytes, and the canonical form of their entries was written
-abbrev pub RewritesGiven : (before left old new : Option (List ℕ)) → Result Summary Error → Type 0
-RewritesGiven before left old new result = WritesGiven canonical_bytes before left old new result
+abbrev pub RewritesGiven : (before told : Told) (old new : Option (List ℕ)) → Result Summary Error → Type 0
+RewritesGiven before told old new result = WritesGiven canonical_bytes before told old new result

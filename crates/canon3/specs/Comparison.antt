@@ -1,7 +1,10 @@
 -- What a comparison of two captures answers.
 use Rattle.std.specs.Prelude.{◌≡◌, ℕ, ◌+◌, ◌-◌, ◌^◌, Bool, true, false, cond, min, List, Result, Ok, Err}
+use Rattle.capture3.specs.Told.{Gave, IsSpent, Told}
 use Rattle.capture3.specs.declared.fault.Error.{Error}
 use Rattle.capture3.specs.declared.fault.Error.TheVariants as errors
+use Rattle.capture3.specs.declared.fault.Fault.{Fault}
+use Rattle.capture3.specs.Entries.{IsShownBy}
 use Rattle.capture3.specs.Entry.{Entry}
 use Rattle.capture3.specs.FirstFault.{FirstFault}
 use Rattle.capture3.specs.Typed.{IsWellFormed, Typed}
@@ -26,6 +29,37 @@ abbrev pub DecidesSame : (file other : List ℕ) → Result Verdict SameError �
 DecidesSame file other (Ok verdicts.Same) = (a : List Entry) × (b : List Entry) × Typed file a × Typed other b × Same a b
 DecidesSame file other (Ok (verdicts.Differ place)) = (a : List Entry) × (b : List Entry) × Typed file a × Typed other b × (Same a b → ⊥) × Parting a b place
 DecidesSame file other (Err error) = StopsComparing file other error.error error.which
+
+-- the source gave a capture with these entries, and no byte is left
+pub record GaveAll (old new : Told) (entries : List Entry) : Type 0 where
+  pub given : List ℕ
+  pub gave : Gave old new given
+  pub ended : IsSpent new
+  pub typed : Typed given entries
+
+-- the source gave bytes that show this fault
+pub record GaveFault (old new : Told) (fault : Fault) : Type 0 where
+  pub given : List ℕ
+  pub handed : List Entry
+  pub gave : Gave old new given
+  pub shown : IsShownBy new given handed fault
+
+-- two sources, what each told before the call, and what it tells now
+module _ (old new old_other new_other : Told) where
+  -- The fault is shown by what the first gave, or by what the second gave if the first gave a whole capture. No other error says anything.
+  abbrev pub StopsGiven : Error → Which → Type 0
+  StopsGiven (errors.Refused fault) First = GaveFault old new fault
+  StopsGiven (errors.Refused fault) Second = ((a : List Entry) × GaveAll old new a) × GaveFault old_other new_other fault
+  StopsGiven errors.Read which = Unit {0}
+  StopsGiven errors.Write which = Unit {0}
+  StopsGiven errors.Memory which = Unit {0}
+
+  -- Both gave whole captures, whose entries are the same up to renaming, or are not and part at the place; or an error came.
+  abbrev pub DecidesGiven : Result Verdict SameError → Type 0
+  DecidesGiven (Ok verdicts.Same) = (a : List Entry) × (b : List Entry) × GaveAll old new a × GaveAll old_other new_other b × Same a b
+  DecidesGiven (Ok (verdicts.Differ place)) =
+      (a : List Entry) × (b : List Entry) × GaveAll old new a × GaveAll old_other new_other b × (Same a b → ⊥) × Parting a b place
+  DecidesGiven (Err error) = StopsGiven error.error error.which
 
 -- a read of this one failed
 abbrev pub is_read_of : (which one : Which) → Error → Bool

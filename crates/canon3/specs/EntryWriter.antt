@@ -1,11 +1,13 @@
 -- What is written of a capture's entries while it is read. A form says which bytes a list of entries is written as.
 use Rattle.std.specs.Prelude.{◌≡◌, ℕ, ◌<◌, ◌^◌, Option, List, [], ◌∷◌, ◌++◌, length, Result, Ok, Err}
-use Rattle.std.specs.Io.KnownBytes.{Appends, Consumes, IsAtEnd}
+use Rattle.capture3.specs.Told.{Gave, IsSpent, Told}
+use Rattle.std.specs.Io.KnownBytes.{Appends}
 use Rattle.xdr3.specs.Item.{Item}
 use Rattle.capture3.specs.declared.fault.Error.{Error}
 use Rattle.capture3.specs.declared.fault.Error.TheVariants as errors
 use Rattle.capture3.specs.Entries.{IsMetBy}
 use Rattle.capture3.specs.Entry.{Entry, items_of}
+use Rattle.capture3.specs.FirstFault.{FirstFault}
 use Rattle.capture3.specs.Reached.{Reached}
 use Rattle.capture3.specs.Typed.{Typed}
 use Rattle.canon3.specs.declared.passed.Passed.{Passed}
@@ -18,24 +20,32 @@ use Rattle.capture3.specs.Kept.{IsOfKind}
 use Rattle.canon3.specs.SinkWrites.{AppendsFront}
 
 module _ (form : List Entry → List ℕ) where
-  -- What an error says, where the source gave these bytes and has so much left, and the sink had the old bytes and has the new ones. The fault is
+  -- What an error says, where the source gave these bytes and tells this, and the sink had the old bytes and has the new ones. The fault is
   -- the first of all bytes, and the form of the entries that these reach was written; or a read failed, and the form of the entries that the bytes
   -- given reach before a capture's end; or a write failed or memory ran out, and a front was written of the form of the entries that the bytes
   -- given reach.
-  abbrev pub IsStoppedBy : Error → (left : Option (List ℕ)) (given : List ℕ) (old new : Option (List ℕ)) → Type 0
-  IsStoppedBy (errors.Refused fault) left given old new = (entries : List Entry) × IsMetBy (errors.Refused fault) left given entries × Appends old new (form entries)
-  IsStoppedBy errors.Read left given old new = (entries : List Entry) × IsMetBy errors.Read left given entries × Appends old new (form entries)
-  IsStoppedBy errors.Write left given old new = (entries : List Entry) × Reached given entries × AppendsFront old new (form entries)
-  IsStoppedBy errors.Memory left given old new = (entries : List Entry) × Reached given entries × AppendsFront old new (form entries)
+  abbrev pub IsStoppedBy : Error → (told : Told) (given : List ℕ) (old new : Option (List ℕ)) → Type 0
+  IsStoppedBy (errors.Refused fault) told given old new = (entries : List Entry) × IsMetBy (errors.Refused fault) told given entries × Appends old new (form entries)
+  IsStoppedBy errors.Read told given old new = (entries : List Entry) × IsMetBy errors.Read told given entries × Appends old new (form entries)
+  IsStoppedBy errors.Write told given old new = (entries : List Entry) × Reached given entries × AppendsFront old new (form entries)
+  IsStoppedBy errors.Memory told given old new = (entries : List Entry) × Reached given entries × AppendsFront old new (form entries)
 
   -- all bytes were a capture's, this is its summary, and the form of its entries was written; or an error came
-  abbrev pub Writes : (left : Option (List ℕ)) (given : List ℕ) (old new : Option (List ℕ)) → Result Summary Error → Type 0
-  Writes left given old new (Ok summary) = (entries : List Entry) × IsAtEnd left × Typed given entries × IsSummary given summary × Appends old new (form entries)
-  Writes left given old new (Err error) = IsStoppedBy error left given old new
+  abbrev pub Writes : (told : Told) (given : List ℕ) (old new : Option (List ℕ)) → Result Summary Error → Type 0
+  Writes told given old new (Ok summary) = (entries : List Entry) × IsSpent told × Typed given entries × IsSummary given summary × Appends old new (form entries)
+  Writes told given old new (Err error) = IsStoppedBy error told given old new
 
   -- the source gave some bytes, and the form of their entries was written
-  abbrev pub WritesGiven : (before left old new : Option (List ℕ)) → Result Summary Error → Type 0
-  WritesGiven before left old new result = (given : List ℕ) × Consumes before left given × Writes left given old new result
+  abbrev pub WritesGiven : (before told : Told) (old new : Option (List ℕ)) → Result Summary Error → Type 0
+  WritesGiven before told old new result = (given : List ℕ) × Gave before told given × Writes told given old new result
+
+  -- What is written of all bytes of a capture, of which the source gave a prefix. They are well formed, this is their summary, and the form of
+  -- their entries was written; or this is their first fault, and the form of the entries that they reach was written. What was written before
+  -- another error, `Writes` says of the bytes given.
+  abbrev pub WritesAll : (bytes : List ℕ) (old new : Option (List ℕ)) → Result Summary Error → Type 0
+  WritesAll bytes old new (Ok summary) = (entries : List Entry) × Typed bytes entries × IsSummary bytes summary × Appends old new (form entries)
+  WritesAll bytes old new (Err (errors.Refused fault)) = (entries : List Entry) × FirstFault bytes fault × Reached bytes entries × Appends old new (form entries)
+  WritesAll bytes old new (Err _) = Unit {0}
 
 -- the form of the first entries is a prefix of the form of all
 abbrev pub KeepsPrefixes : (List Entry → List ℕ) → Type 0

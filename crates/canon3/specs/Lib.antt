@@ -1,4 +1,5 @@
 -- What captures are up to renaming, their canonical form, and its bytes.
+pub mod Traced
 pub mod HandleTable
 pub mod Summary
 pub mod Values

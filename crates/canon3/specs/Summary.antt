@@ -1,9 +1,10 @@
 -- What a capture has of each kind.
-use Rattle.std.specs.Prelude.{◌≡◌, ℕ, Bool, true, false, Option, List, bytes_eq, count_by, length, Result, Ok, Err}
-use Rattle.std.specs.Io.KnownBytes.{Consumes, IsAtEnd}
+use Rattle.std.specs.Prelude.{◌≡◌, ℕ, Bool, true, false, List, IfOk, bytes_eq, count_by, length, Result, Ok, Err}
+use Rattle.capture3.specs.Told.{Gave, IsSpent, Told}
 use Rattle.capture3.specs.declared.fault.Error.{Error}
-use Rattle.capture3.specs.Entries.{IsMetBy}
+use Rattle.capture3.specs.Entries.{IsMetBy, OnRefused}
 use Rattle.capture3.specs.Entry.{Entry, Begin, Call, Reply}
+use Rattle.capture3.specs.FirstFault.{FirstFault}
 use Rattle.capture3.specs.Typed.{Typed}
 use Rattle.canon3.specs.declared.summary.Summary.{Summary}
 use Rattle.canon3.specs.Rank.{distinct}
@@ -30,12 +31,17 @@ pub record IsSummary (bytes : List ℕ) (summary : Summary) : Type 0 where
   pub replies : summary.replies ≡ count_by is_reply entries
   pub handles : summary.handles ≡ length (distinct bytes_eq (handles entries))
 
--- What is concluded of the bytes that the source gave, where it has so much left: all were a capture's, and this is its summary; or they met the
+-- What is concluded of the bytes that the source gave, where it tells this: all were a capture's, and this is its summary; or they met the
 -- error, after just these entries.
-abbrev pub Concludes : (left : Option (List ℕ)) (given : List ℕ) → Result Summary Error → Type 0
-Concludes left given (Ok summary) = IsAtEnd left × IsSummary given summary
-Concludes left given (Err error) = (entries : List Entry) × IsMetBy error left given entries
+abbrev pub Concludes : (told : Told) (given : List ℕ) → Result Summary Error → Type 0
+Concludes told given (Ok summary) = IsSpent told × IsSummary given summary
+Concludes told given (Err error) = (entries : List Entry) × IsMetBy error told given entries
 
 -- the source gave some bytes, and this is concluded of them
-abbrev pub ConcludesGiven : (before left : Option (List ℕ)) → Result Summary Error → Type 0
-ConcludesGiven before left result = (given : List ℕ) × Consumes before left given × Concludes left given result
+abbrev pub ConcludesGiven : (before told : Told) → Result Summary Error → Type 0
+ConcludesGiven before told result = (given : List ℕ) × Gave before told given × Concludes told given result
+
+-- What is concluded of all bytes of a capture, of which the source gave a prefix: they are well formed, and this is their summary; or this is their
+-- first fault. No other error says anything of them.
+abbrev pub ConcludesAll : List ℕ → Result Summary Error → Type 0
+ConcludesAll bytes result = IfOk result (IsSummary bytes) × OnRefused result (FirstFault bytes)

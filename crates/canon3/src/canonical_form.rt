@@ -1,12 +1,14 @@
 // The canonical form of a capture, from a source to a sink.
 
-ghost use Rattle.std.specs.Prelude.{◌≡◌, ◌<◌, ◌^◌, ◌++◌, ◌∷◌, List, [], length, IfErr, OnErr, OnOk};
+ghost use Rattle.std.specs.Prelude.{◌≡◌, ◌<◌, ◌^◌, ◌++◌, ◌∷◌, ℕ, List, [], length, IfErr, OnErr, OnOk};
 ghost use Rattle.std.specs.Io.KnownBytes.{Appends};
 ghost use Rattle.capture3.specs.Entries.{CountsReading};
 ghost use Rattle.capture3.specs.Entry as spec;
 ghost use Rattle.canon3.specs.Laws.{AreFirst};
 ghost use Rattle.canon3.specs.machinery.MessageWriter.{WriterStands, told_after, values_of};
-ghost use Rattle.canon3.specs.CanonicalForm.{RewritesGiven};
+ghost use Rattle.capture3.specs.Told.{GavePrefix};
+ghost use Rattle.canon3.specs.CanonicalForm.{canonical_bytes, RewritesGiven};
+ghost use Rattle.canon3.specs.EntryWriter.{WritesAll};
 ghost use Rattle.canon3.specs.machinery.CanonicalForm.{Follows, magic_before};
 ghost use Rattle.canon3.specs.Passed.{connections_in};
 ghost use Rattle.capture3.specs.Kept.{IsOfKind};
@@ -42,8 +44,10 @@ pub fn canon<R: Source, W: Sink, S: BuildHasher + Drop>(
     source: &mut R,
     sink: &mut W,
 ) -> Result<Summary, Error>
-    ensures rewrites { RewritesGiven (R.left source.old) (R.left source.new) (W.written sink.old)
+    ensures rewrites { RewritesGiven (R.told source.old) (R.told source.new) (W.written sink.old)
         (W.written sink.new) result }
+    ensures whole { (bytes : List ℕ) → GavePrefix (R.told source.old) (R.told source.new) bytes
+        → WritesAll canonical_bytes bytes (W.written sink.old) (W.written sink.new) result }
     ensures flushes { OnOk result (IsFlushed (W.written sink.new) (W.flushed sink.new)) }
     ensures read { CountsReading (R.failures source.old) (R.failures source.new) result }
     ensures write { CountsWriting (W.failures sink.old) (W.failures sink.new) result }

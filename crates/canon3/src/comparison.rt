@@ -1,11 +1,12 @@
 // Whether two captures are the same up to renaming.
 
 ghost use Rattle.std.specs.Prelude.{◌≡◌, ◌≢◌, ◌<◌, ◌≤◌, ◌+◌, ◌^◌, ◌++◌, ◌∷◌, ℕ, List, [], length, None, Some, IfErr, IfOk, IsTrue, OnOk};
+ghost use Rattle.capture3.specs.Told.{GavePrefix, Told};
 ghost use Rattle.capture3.specs.Entries.{CountsReads, failure_of, loan_of, source_of};
 ghost use Rattle.capture3.specs.machinery.Entries.{entries_left, StandsFor};
 ghost use Rattle.capture3.specs.Entry as spec;
 ghost use Rattle.capture3.specs.Laws.{most_entries};
-ghost use Rattle.canon3.specs.Comparison.{CountsReadingOf, DecidesSame};
+ghost use Rattle.canon3.specs.Comparison.{CountsReadingOf, DecidesGiven, DecidesSame};
 ghost use Rattle.canon3.specs.machinery.Comparison.{Compares, CountsReadsOf, FindsOut, HasGiven, HasGivenOn, IsCompared, IsFound, IsReadAfter, IsReadOut, IsTold, IsComparing, Meets, met_second, ReadsOn, refusal_in, StepsOn};
 ghost use Rattle.canon3.specs.Laws.{AreFirst};
 ghost use Rattle.canon3.specs.Progress.{steps_of};
@@ -35,8 +36,13 @@ pub fn same<A: Source, B: Source, S: BuildHasher + Drop>(
     first: &mut A,
     second: &mut B,
 ) -> Result<Verdict, SameError>
-    ensures decides { (file other : List ℕ) → A.left first.old ≡ Some file
-        → B.left second.old ≡ Some other → DecidesSame file other result }
+    ensures decides { (file other : List ℕ) → (A.told first.old).left ≡ Some file
+        → (B.told second.old).left ≡ Some other → DecidesSame file other result }
+    ensures gave { DecidesGiven (A.told first.old) (A.told first.new)
+        (B.told second.old) (B.told second.new) result }
+    ensures whole { (file other : List ℕ) → GavePrefix (A.told first.old) (A.told first.new) file
+        → GavePrefix (B.told second.old) (B.told second.new) other
+        → DecidesSame file other result }
     ensures read_first { CountsReadingOf Which.First (A.failures first.old)
         (A.failures first.new) result }
     ensures read_second { CountsReadingOf Which.Second (B.failures second.old)
@@ -93,12 +99,12 @@ fn compared<A: Source, B: Source, S: BuildHasher + Drop>(
 ) -> Result<Verdict, SameError>
     requires new { IsCompared comparison [] [] }
     requires none { steps_of comparison.progress ≡ 0 }
-    requires fresh_first { StandsFor A.left first.old [] [] }
-    requires fresh_second { StandsFor B.left second.old [] [] }
+    requires fresh_first { StandsFor A.told first.old [] [] }
+    requires fresh_second { StandsFor B.told second.old [] [] }
     requires going_first { failure_of first.old ≡ None }
     requires going_second { failure_of second.old ≡ None }
-    ensures decides { (file other : List ℕ) → A.left (source_of first.old) ≡ Some file
-        → B.left (source_of second.old) ≡ Some other → DecidesSame file other result }
+    ensures gave { DecidesGiven (A.told (source_of first.old)) (A.told (source_of first.new))
+        (B.told (source_of second.old)) (B.told (source_of second.new)) result }
     ensures read_first { CountsReadsOf Which.First A.failures first.old first.new result }
     ensures read_second { CountsReadsOf Which.Second B.failures second.old second.new result }
     ensures write { IfErr result (λ error. error.error ≢ Error.Write) }
@@ -128,8 +134,10 @@ fn conclude<A: Source, B: Source, S: BuildHasher + Drop>(
 ) -> Result<Verdict, SameError>
     requires going_first { failure_of first.old ≡ None }
     requires going_second { failure_of second.old ≡ refusal_in (Some finding) }
-    ensures decides { (file other : List ℕ) → IsFound A.left B.left file other first.old second.old
-        finding → DecidesSame file other result }
+    ensures gave { (start other_start : Told)
+        → IsFound A.told B.told start other_start first.old second.old finding
+        → DecidesGiven start (A.told (source_of first.new))
+        other_start (B.told (source_of second.new)) result }
     ensures read_first { CountsReadsOf Which.First A.failures first.old first.new result }
     ensures read_second { CountsReadsOf Which.Second B.failures second.old second.new result }
     ensures write { IfErr result (λ error. error.error ≢ Error.Write) }
@@ -158,8 +166,9 @@ fn read_second<R: Source, S: BuildHasher + Drop>(
     verdict: Verdict,
 ) -> Result<Verdict, SameError>
     requires going { failure_of entries.old ≡ None }
-    ensures out { (file : List ℕ) (handed : List spec.Entry)
-        → HasGiven R.left file entries.old handed → IsReadAfter file handed verdict result }
+    ensures out { (start : Told) (handed : List spec.Entry)
+        → HasGiven R.told start entries.old handed
+        → IsReadAfter start (R.told (source_of entries.new)) handed verdict result }
     ensures read { CountsReadsOf Which.Second R.failures entries.old entries.new result }
     ensures never_first { (old : ℕ) → CountsReadingOf Which.First old old result }
     ensures write { IfErr result (λ error. error.error ≢ Error.Write) }
@@ -177,8 +186,9 @@ fn read_second<R: Source, S: BuildHasher + Drop>(
 /// Reads all entries that are left.
 fn read_out<R: Source, S: BuildHasher + Drop>(entries: &mut Entries<'_, R, S>) -> Result<(), Error>
     requires going { failure_of entries.old ≡ None }
-    ensures out { (file : List ℕ) (handed : List spec.Entry)
-        → HasGivenOn R.left file entries.old handed → IsReadOut file handed result }
+    ensures out { (start : Told) (handed : List spec.Entry)
+        → HasGivenOn R.told start entries.old handed
+        → IsReadOut start (R.told (source_of entries.new)) handed result }
     ensures read { CountsReads R.failures entries.old entries.new result }
     ensures write { IfErr result (λ error. error ≢ Error.Write) }
     ensures same_reference { loan_of entries.new ≡ loan_of entries.old }
@@ -192,9 +202,9 @@ fn read_next<R: Source, S: BuildHasher + Drop>(
     entries: &mut Entries<'_, R, S>,
 ) -> Result<bool, Error>
     requires going { failure_of entries.old ≡ None }
-    ensures on { (file : List ℕ) (handed : List spec.Entry)
-        → HasGivenOn R.left file entries.old handed
-        → ReadsOn R.left file entries.new handed result }
+    ensures on { (start : Told) (handed : List spec.Entry)
+        → HasGivenOn R.told start entries.old handed
+        → ReadsOn R.told start entries.new handed result }
     ensures fewer { IfOk result (λ more. IsTrue more
         → entries_left entries.new < entries_left entries.old) }
     ensures going { OnOk result (failure_of entries.new ≡ None) }
@@ -223,9 +233,9 @@ impl<S: BuildHasher + Drop> Comparison<S> {
         requires going_first { failure_of first.old ≡ None }
         requires going_second { failure_of second.old ≡ None }
         requires room { steps_of self.old.progress + entries_left first.old ≤ most_entries }
-        ensures found { (file other : List ℕ)
-            → IsComparing A.left B.left file other first.old second.old self.old
-            → FindsOut A.left B.left file other first.new second.new result }
+        ensures found { (start other_start : Told)
+            → IsComparing A.told B.told start other_start first.old second.old self.old
+            → FindsOut A.told B.told start other_start first.new second.new result }
         ensures going_first { OnOk result (failure_of first.new ≡ None) }
         ensures going_second { IfOk result
             (λ finding. failure_of second.new ≡ refusal_in (Some finding)) }
@@ -251,9 +261,9 @@ impl<S: BuildHasher + Drop> Comparison<S> {
         requires going_first { failure_of first.old ≡ None }
         requires going_second { failure_of second.old ≡ None }
         requires room { steps_of self.old.progress + entries_left first.old ≤ most_entries }
-        ensures steps { (file other : List ℕ)
-            → IsComparing A.left B.left file other first.old second.old self.old
-            → StepsOn A.left B.left file other first.new second.new self.new result }
+        ensures steps { (start other_start : Told)
+            → IsComparing A.told B.told start other_start first.old second.old self.old
+            → StepsOn A.told B.told start other_start first.new second.new self.new result }
         ensures fewer { IfOk result (λ next. next ≡ None
             → entries_left first.new < entries_left first.old) }
         ensures going_first { OnOk result (failure_of first.new ≡ None) }
@@ -285,10 +295,10 @@ impl<S: BuildHasher + Drop> Comparison<S> {
     ) -> Result<Option<Finding>, SameError>
         requires going { failure_of second.old ≡ None }
         requires room { steps_of self.old.progress + 1 < 2 ^ 32 }
-        ensures meets { (file other : List ℕ) (a b : List spec.Entry) (e : spec.Entry)
+        ensures meets { (first now start : Told) (a b : List spec.Entry) (e : spec.Entry)
             → IsOfKind kind e → AreFirst (a ++ e ∷ []) → length (a ++ e ∷ []) < 2 ^ 32
-            → IsTold self.old a b (items_of e) [] → HasGiven B.left other second.old b
-            → Meets B.left file other second.new self.new a b e result }
+            → IsTold self.old a b (items_of e) [] → HasGiven B.told start second.old b
+            → Meets B.told first now start second.new self.new a b e result }
         ensures going { IfOk result (λ next. failure_of second.new ≡ refusal_in next) }
         ensures few { steps_of self.new.progress ≤ steps_of self.old.progress + 1 }
         ensures read { CountsReadsOf Which.Second B.failures second.old second.new result }

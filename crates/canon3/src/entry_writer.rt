@@ -1,12 +1,13 @@
 // What is written of a capture while it is read, from a source to a sink.
 
 ghost use Rattle.std.specs.Prelude.{◌≡◌, ◌<◌, ◌≤◌, ◌+◌, ◌^◌, ◌++◌, ◌∷◌, ℕ, List, [], Option, None, bytes_eq, length, min, IfErr, IfOk, IsTrue, OnOk};
+ghost use Rattle.capture3.specs.Told.{GavePrefix, Told};
 ghost use Rattle.xdr3.specs.Item.{Item};
 ghost use Rattle.capture3.specs.Entries.{CountsReading, CountsReads, failure_of, loan_of, source_of};
 ghost use Rattle.capture3.specs.machinery.Entries.{entries_left, StandsFor};
 ghost use Rattle.capture3.specs.Entry as spec;
 ghost use Rattle.capture3.specs.Laws.{most_entries};
-ghost use Rattle.canon3.specs.EntryWriter.{KeepsPrefixes, WritesGiven, WritesOne};
+ghost use Rattle.canon3.specs.EntryWriter.{KeepsPrefixes, WritesAll, WritesGiven, WritesOne};
 ghost use Rattle.canon3.specs.machinery.EntryWriter.{WritesOn, HasWritten, IsEnded, WritesToTheEnd, IsWriting, WritesMore};
 ghost use Rattle.canon3.specs.Passed.{ArePassed, passed_steps};
 ghost use Rattle.canon3.specs.Rank.{distinct, number_limit};
@@ -74,8 +75,10 @@ pub fn write_entries<R: Source, W: Sink, E: EntryWriter, S: BuildHasher + Drop>(
     requires well { E.going writer.old }
     requires empty { E.form [] ≡ [] }
     requires prefixes { KeepsPrefixes E.form }
-    ensures writes { WritesGiven E.form (R.left source.old) (R.left source.new) (W.written sink.old)
+    ensures writes { WritesGiven E.form (R.told source.old) (R.told source.new) (W.written sink.old)
         (W.written sink.new) result }
+    ensures whole { (bytes : List ℕ) → GavePrefix (R.told source.old) (R.told source.new) bytes
+        → WritesAll E.form bytes (W.written sink.old) (W.written sink.new) result }
     ensures flushes { OnOk result (IsFlushed (W.written sink.new) (W.flushed sink.new)) }
     ensures read { CountsReading (R.failures source.old) (R.failures source.new) result }
     ensures write { CountsWriting (W.failures sink.old) (W.failures sink.new) result }
@@ -100,10 +103,10 @@ fn write_new<R: Source, W: Sink, E: EntryWriter, S: BuildHasher + Drop>(
     requires well { E.going writer.old }
     requires empty { E.form [] ≡ [] }
     requires prefixes { KeepsPrefixes E.form }
-    requires fresh { StandsFor R.left entries.old [] [] }
+    requires fresh { StandsFor R.told entries.old [] [] }
     requires going { failure_of entries.old ≡ None }
-    ensures writes { WritesGiven E.form (R.left (source_of entries.old))
-        (R.left (source_of entries.new)) (W.written sink.old) (W.written sink.new) result }
+    ensures writes { WritesGiven E.form (R.told (source_of entries.old))
+        (R.told (source_of entries.new)) (W.written sink.old) (W.written sink.new) result }
     ensures flushes { OnOk result (IsFlushed (W.written sink.new) (W.flushed sink.new)) }
     ensures read { CountsReads R.failures entries.old entries.new result }
     ensures write { CountsWriting (W.failures sink.old) (W.failures sink.new) result }
@@ -120,10 +123,10 @@ fn close<W: Sink, E: EntryWriter>(
     sink: &mut W,
     writer: &E,
 ) -> Result<Summary, Error>
-    ensures writes { (first left old : Option (List ℕ)) (given : List ℕ) (entries : List spec.Entry)
-        → IsEnded first left given entries
+    ensures writes { (first told : Told) (old : Option (List ℕ)) (given : List ℕ) (entries : List spec.Entry)
+        → IsEnded first told given entries
         → HasWritten E.form E.before E.stands E.going writer.now passed.now old
-        (W.written sink.old) entries → WritesGiven E.form first left old
+        (W.written sink.old) entries → WritesGiven E.form first told old
         (W.written sink.new) result }
     ensures flushes { OnOk result (IsFlushed (W.written sink.new) (W.flushed sink.new)) }
     ensures write { CountsWriting (W.failures sink.old) (W.failures sink.new) result }
@@ -145,10 +148,10 @@ fn write_rest<R: Source, W: Sink, E: EntryWriter, S: BuildHasher + Drop>(
     requires going { failure_of entries.old ≡ None }
     requires prefixes { KeepsPrefixes E.form }
     requires room { passed_steps passed.old + entries_left entries.old ≤ most_entries }
-    ensures over { (first old : Option (List ℕ))
-        → IsWriting E.form E.before E.stands E.going R.left first old entries.old writer.old
+    ensures over { (first : Told) (old : Option (List ℕ))
+        → IsWriting E.form E.before E.stands E.going R.told first old entries.old writer.old
         passed.old (W.written sink.old)
-        → WritesToTheEnd E.form E.before E.stands E.going R.left first old entries.new writer.new
+        → WritesToTheEnd E.form E.before E.stands E.going R.told first old entries.new writer.new
         passed.new
         (W.written sink.new) result }
     ensures read { CountsReads R.failures entries.old entries.new result }
@@ -169,10 +172,10 @@ fn write_next<R: Source, W: Sink, E: EntryWriter, S: BuildHasher + Drop>(
     requires going { failure_of entries.old ≡ None }
     requires prefixes { KeepsPrefixes E.form }
     requires room { passed_steps passed.old + entries_left entries.old ≤ most_entries }
-    ensures goes_on { (first old : Option (List ℕ))
-        → IsWriting E.form E.before E.stands E.going R.left first old entries.old writer.old
+    ensures goes_on { (first : Told) (old : Option (List ℕ))
+        → IsWriting E.form E.before E.stands E.going R.told first old entries.old writer.old
         passed.old (W.written sink.old)
-        → WritesOn E.form E.before E.stands E.going R.left first old entries.new writer.new
+        → WritesOn E.form E.before E.stands E.going R.told first old entries.new writer.new
         passed.new
         (W.written sink.new) result }
     ensures fewer { IfOk result

@@ -1,13 +1,14 @@
 // Whether a capture is well formed, and what it has.
 
 ghost use Rattle.std.specs.Prelude.{◌≡◌, ◌≢◌, ◌<◌, ◌≤◌, ◌+◌, ℕ, List, [], Option, None, Some, IfErr, IfOk, IsTrue, OnOk};
+ghost use Rattle.capture3.specs.Told.{GavePrefix, Told};
 ghost use Rattle.capture3.specs.Entries.{CountsReading, CountsReads, failure_of, loan_of, OnRefused, source_of};
 ghost use Rattle.capture3.specs.machinery.Entries.{entries_left, StandsFor};
 ghost use Rattle.capture3.specs.Entry as spec;
 ghost use Rattle.capture3.specs.FirstFault.{FirstFault};
 ghost use Rattle.capture3.specs.Laws.{most_entries};
 ghost use Rattle.canon3.specs.Passed.{passed_steps};
-ghost use Rattle.canon3.specs.Summary.{ConcludesGiven, IsSummary};
+ghost use Rattle.canon3.specs.Summary.{ConcludesAll, ConcludesGiven, IsSummary};
 ghost use Rattle.canon3.specs.machinery.Summary.{Sums};
 ghost use Rattle.canon3.specs.machinery.Tally.{TalliesOn, TalliesToTheEnd, IsTallying, Tallies};
 
@@ -38,10 +39,13 @@ pub fn check<R: Source, S: BuildHasher + Drop>(
     hashers: Hashers<S>,
     source: &mut R,
 ) -> Result<Summary, Error>
-    ensures ok { (bytes : List ℕ) → R.left source.old ≡ Some bytes → IfOk result (IsSummary bytes) }
-    ensures refused { (bytes : List ℕ) → R.left source.old ≡ Some bytes
+    ensures ok { (bytes : List ℕ) → (R.told source.old).left ≡ Some bytes
+        → IfOk result (IsSummary bytes) }
+    ensures refused { (bytes : List ℕ) → (R.told source.old).left ≡ Some bytes
         → OnRefused result (FirstFault bytes) }
-    ensures concludes { ConcludesGiven (R.left source.old) (R.left source.new) result }
+    ensures concludes { ConcludesGiven (R.told source.old) (R.told source.new) result }
+    ensures whole { (bytes : List ℕ) → GavePrefix (R.told source.old) (R.told source.new) bytes
+        → ConcludesAll bytes result }
     ensures read { CountsReading (R.failures source.old) (R.failures source.new) result }
     ensures write { IfErr result (λ error. error ≢ Error.Write) }
 {
@@ -61,10 +65,10 @@ fn summed<R: Source, S: BuildHasher + Drop>(
     hasher: S,
     entries: &mut Entries<'_, R, S>,
 ) -> Result<Summary, Error>
-    requires fresh { StandsFor R.left entries.old [] [] }
+    requires fresh { StandsFor R.told entries.old [] [] }
     requires going { failure_of entries.old ≡ None }
-    ensures concludes { ConcludesGiven (R.left (source_of entries.old))
-        (R.left (source_of entries.new)) result }
+    ensures concludes { ConcludesGiven (R.told (source_of entries.old))
+        (R.told (source_of entries.new)) result }
     ensures read { CountsReads R.failures entries.old entries.new result }
     ensures write { IfErr result (λ error. error ≢ Error.Write) }
     ensures same_reference { loan_of entries.new ≡ loan_of entries.old }
@@ -96,8 +100,8 @@ impl<S: BuildHasher + Drop> Tally<S> {
     fn add_all<R: Source>(&mut self, entries: &mut Entries<'_, R, S>) -> Result<(), Error>
         requires going { failure_of entries.old ≡ None }
         requires room { passed_steps self.old.passed + entries_left entries.old ≤ most_entries }
-        ensures over { (first : Option (List ℕ)) → IsTallying R.left first entries.old self.old
-            → TalliesToTheEnd R.left first entries.new self.new result }
+        ensures over { (first : Told) → IsTallying R.told first entries.old self.old
+            → TalliesToTheEnd R.told first entries.new self.new result }
         ensures read { CountsReads R.failures entries.old entries.new result }
         ensures write { IfErr result (λ error. error ≢ Error.Write) }
         ensures same_reference { loan_of entries.new ≡ loan_of entries.old }
@@ -110,8 +114,8 @@ impl<S: BuildHasher + Drop> Tally<S> {
     fn add_next<R: Source>(&mut self, entries: &mut Entries<'_, R, S>) -> Result<bool, Error>
         requires going { failure_of entries.old ≡ None }
         requires room { passed_steps self.old.passed + entries_left entries.old ≤ most_entries }
-        ensures goes_on { (first : Option (List ℕ)) → IsTallying R.left first entries.old self.old
-            → TalliesOn R.left first entries.new self.new result }
+        ensures goes_on { (first : Told) → IsTallying R.told first entries.old self.old
+            → TalliesOn R.told first entries.new self.new result }
         ensures fewer { IfOk result (λ more. IsTrue more
             → entries_left entries.new < entries_left entries.old) }
         ensures going { OnOk result (failure_of entries.new ≡ None) }

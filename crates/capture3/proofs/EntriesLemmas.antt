@@ -4,7 +4,8 @@ use Rattle.std.proofs.lemmas.Grind.{common_steps}
 use Rattle.std.proofs.lemmas.List.{drop-take}
 use Rattle.std.proofs.Math.Logic.{∥∥₁_elim}
 use Rattle.std.proofs.Props.{props}
-use Rattle.std.specs.Io.KnownBytes.{Consumes, Keeps, IsAtEnd}
+use Rattle.capture3.specs.Told.{Told, Gave, IsSpent}
+use Rattle.capture3.proofs.ToldLemmas.{gave_both, gave_none, gave_none_as}
 use Rattle.xdr3.specs.declared.reason.Reason.TheVariants.{CaptureCut}
 use Rattle.xdr3.specs.Item.{AreBytes, Item}
 use Rattle.record_mark.specs.Machine.{Runs, Stops, Stopped}
@@ -231,39 +232,13 @@ all_before_end bytes p t streams table model are s = by_spot p.spot refl
     by_spot (spots.SideChunk side left) is = inr (not_ended bytes p t streams table model are s (λ e. subst IsEndSpot is e))
     by_spot (spots.Ended version) is = inl (typed_here bytes p t streams table model are s (subst IsEndSpot (sym is) tt))
 
--- ---- what was consumed
-
-nothing_consumed : (old new : Option (List ℕ)) → Keeps old new → Consumes old new []
-nothing_consumed None new kept = tt
-nothing_consumed (Some xs) None kept = absurd kept
-nothing_consumed (Some xs) (Some ys) kept = sym kept
-
-pub consumes_both : (a b c : Option (List ℕ)) (xs ys : List ℕ) → Consumes a b xs → Consumes b c ys → Consumes a c (xs ++ ys)
-consumes_both None b c xs ys p q = tt
-consumes_both (Some us) None c xs ys p q = absurd p
-consumes_both (Some us) (Some vs) None xs ys p q = absurd q
-consumes_both (Some us) (Some vs) (Some ws) xs ys p q = p ∙ ap (λ (b : List ℕ). xs ++ b) q ∙ sym (append_assoc xs ys ws)
-
-pub none_consumed : (known other : Option (List ℕ)) → other ≡ known → Consumes known other []
-none_consumed None other is = tt
-none_consumed (Some xs) None is = absurd (cc)
-none_consumed (Some xs) (Some ys) is = let same : ys ≡ xs = cc in sym same
-
--- what is left is known
-pub shown_in : (given rest : List ℕ) (left : Option (List ℕ)) (handed : List Entry) (fault : Fault) → left ≡ Some rest → IsShownBy left given handed fault → FirstFault (given ++ rest) fault × Reached (given ++ rest) handed
-shown_in given rest left handed fault is (inl whatever) = whatever rest
-shown_in given rest None handed fault is (inr (end, first, reached)) = absurd (cc)
-shown_in given rest (Some xs) handed fault is (inr (end, first, reached)) =
-    let same : xs ≡ rest = cc in
-    subst (λ (b : List ℕ). FirstFault b fault × Reached b handed) (sym (ap (λ (b : List ℕ). given ++ b) (sym same ∙ end) ∙ append-nil given)) (first, reached)
-
 -- ---- the reader
 
-module _ {R S H : Type 0} {builds : BuildHasher.Ghosts S H} {hashes : Hasher.Ghosts H} (left : R → Option (List ℕ)) where
-  pub reading_of : (e : Entries R S H builds hashes) (given : List ℕ) (handed : List Entry) → e.stage ≡ Reading → StandsFor left e given handed → IsReading e given handed
+module _ {R S H : Type 0} {builds : BuildHasher.Ghosts S H} {hashes : Hasher.Ghosts H} (told : R → Told) where
+  pub reading_of : (e : Entries R S H builds hashes) (given : List ℕ) (handed : List Entry) → e.stage ≡ Reading → StandsFor told e given handed → IsReading e given handed
   reading_of e given handed is s = by_stage e.stage is s.here
     where
-      by_stage : (stage : Stage) → stage ≡ Reading → StandsIn stage (left e.source.now) e given handed → IsReading e given handed
+      by_stage : (stage : Stage) → stage ≡ Reading → StandsIn stage (told e.source.now) e given handed → IsReading e given handed
       by_stage Reading is h = h
       by_stage Over is h = absurd (cc)
       by_stage (Failed error) is h = absurd (cc)
@@ -293,34 +268,32 @@ module _ {R S H : Type 0} {builds : BuildHasher.Ghosts S H} {hashes : Hasher.Gho
       subst (λ (b : List ℕ). AreFirstReached b handed) (sym r.split) (come_first e.parser.container e.parser.calls r.judged (unjudged e) handed (subst AreBytes r.split are) r.machine)
 
   -- it reads on
-  pub stands_reading : (e : Entries R S H builds hashes) (given : List ℕ) (handed : List Entry) → e.stage ≡ Reading → AreBytes given → length handed + (room_in e.parser.container + 1) ≤ most_entries → length given ≤ most_bytes Two + vec_len e.block → HoldsLast e handed → IsReading e given handed → StandsFor left e given handed
+  pub stands_reading : (e : Entries R S H builds hashes) (given : List ℕ) (handed : List Entry) → e.stage ≡ Reading → AreBytes given → length handed + (room_in e.parser.container + 1) ≤ most_entries → length given ≤ most_bytes Two + vec_len e.block → HoldsLast e handed → IsReading e given handed → StandsFor told e given handed
   stands_reading e given handed is are few most holds r = record {
     bytes = are;
     few = omega (arith, few, left_is e is);
-    connections = few_first given handed (first_in e given handed are r);
-    most = most;
+    limits = record { few = omega (arith, few); connections = few_first given handed (first_in e given handed are r); most = most };
     holds = holds;
-    here = subst (λ (stage : Stage). StandsIn stage (left e.source.now) e given handed) (sym is) r;
+    here = subst (λ (stage : Stage). StandsIn stage (told e.source.now) e given handed) (sym is) r;
   }
 
   -- it has failed
-  pub stands_failed : (old new : Entries R S H builds hashes) (error : Error) (given : List ℕ) (handed : List Entry) → new.stage ≡ Failed error → new.last ≡ None → vec_len new.block ≡ vec_len old.block → StandsFor left old given handed → IsMetBy error (left new.source.now) given handed → StandsFor left new given handed
+  pub stands_failed : (old new : Entries R S H builds hashes) (error : Error) (given : List ℕ) (handed : List Entry) → new.stage ≡ Failed error → new.last ≡ None → vec_len new.block ≡ vec_len old.block → StandsFor told old given handed → IsMetBy error (told new.source.now) given handed → StandsFor told new given handed
   stands_failed old new error given handed is none block s met = record {
     bytes = s.bytes;
-    few = omega (arith, s.few, ap (λ (stage : Stage). entries_left_in stage new.parser.container) is);
-    connections = s.connections;
-    most = omega (arith, s.most, block);
+    few = omega (arith, s.limits.few, ap (λ (stage : Stage). entries_left_in stage new.parser.container) is);
+    limits = record { few = s.limits.few; connections = s.limits.connections; most = omega (arith, s.limits.most, block) };
     holds = none_last new handed none;
-    here = subst (λ (stage : Stage). StandsIn stage (left new.source.now) new given handed) (sym is) met;
+    here = subst (λ (stage : Stage). StandsIn stage (told new.source.now) new given handed) (sym is) met;
   }
 
-  room_before : (e : Entries R S H builds hashes) (given : List ℕ) (handed : List Entry) → e.stage ≡ Reading → StandsFor left e given handed → length handed + (room_in e.parser.container + 1) ≤ most_entries
+  room_before : (e : Entries R S H builds hashes) (given : List ℕ) (handed : List Entry) → e.stage ≡ Reading → StandsFor told e given handed → length handed + (room_in e.parser.container + 1) ≤ most_entries
   room_before e given handed is s = omega (arith, s.few, left_is e is)
 
-  pub stands_first : (e : Entries R S H builds hashes) (given : List ℕ) (handed : List Entry) → failure_of e ≡ None → StandsFor left e given handed → AreFirstReached given handed
+  pub stands_first : (e : Entries R S H builds hashes) (given : List ℕ) (handed : List Entry) → failure_of e ≡ None → StandsFor told e given handed → AreFirstReached given handed
   stands_first e given handed goes s = by_stage e.stage refl s.here
     where
-      by_stage : (stage : Stage) → e.stage ≡ stage → StandsIn stage (left e.source.now) e given handed → AreFirstReached given handed
+      by_stage : (stage : Stage) → e.stage ≡ stage → StandsIn stage (told e.source.now) e given handed → AreFirstReached given handed
       by_stage Reading is h = first_in e given handed s.bytes h
       by_stage Over is h = ([], subst (Reached given) (sym (append-nil handed)) (inl h.0))
       by_stage (Failed error) is h = let failed : failure_of e ≡ Some error = ap failure_in is in absurd (cc)
@@ -336,7 +309,7 @@ module _ {R S H : Type 0} {builds : BuildHasher.Ghosts S H} {hashes : Hasher.Gho
       stands_unopened e.parser.container e.parser.calls given handed none (subst (λ (b : List ℕ). HasCome e.parser.container e.parser.calls b handed) (sym (all_judged e given handed empty r)) r.machine)
 
   pub has_read : (old new : Entries R S H builds hashes) (given more : List ℕ) (handed : List Entry) → old.stage ≡ Reading → new.stage ≡ Reading → old.start ≡ old.end → old.parser.container.cursor ≡ None → new.parser ≡ old.parser → new.last ≡ old.last → new.judged ≡ old.judged → unjudged new ≡ more → AreBytes more → length more ≤ vec_len new.block
-      → Consumes (left old.source.now) (left new.source.now) more → StandsFor left old given handed → HasRead left old new given handed
+      → Gave (told old.source.now) (told new.source.now) more → StandsFor told old given handed → HasRead told old new given handed
   has_read old new given more handed is goes empty none same last count block are within consumed s =
       let r = reading_of old given handed is s in
       let at = machine_at old given handed empty none r in
@@ -353,12 +326,12 @@ module _ {R S H : Type 0} {builds : BuildHasher.Ghosts S H} {hashes : Hasher.Gho
       }
 
   pub has_failed : (old new : Entries R S H builds hashes) (given : List ℕ) (handed : List Entry) → old.stage ≡ Reading → new.stage ≡ Failed errors.Read → new.last ≡ None → vec_len new.block ≡ vec_len old.block → old.start ≡ old.end → old.parser.container.cursor ≡ None
-      → Keeps (left old.source.now) (left new.source.now) → StandsFor left old given handed → HasRead left old new given handed
+      → Gave (told old.source.now) (told new.source.now) [] → StandsFor told old given handed → HasRead told old new given handed
   has_failed old new given handed is fails none block empty unopened kept s =
       record {
         more = [];
-        consumed = nothing_consumed _ _ kept;
-        stands = subst (λ (b : List ℕ). StandsFor left new b handed) (sym (append-nil given))
+        consumed = kept;
+        stands = subst (λ (b : List ℕ). StandsFor told new b handed) (sym (append-nil given))
             (stands_failed old new errors.Read given handed fails none block s (all_before_end given _ _ _ _ handed s.bytes (machine_at old given handed empty unopened (reading_of old given handed is s))));
       }
 
@@ -381,50 +354,53 @@ module _ {R S H : Type 0} {builds : BuildHasher.Ghosts S H} {hashes : Hasher.Gho
   -- with the entry that is whole, if one is
   pub judged_on : {V : Type 0} (stands : V → List Item → Type 0) (was now : V) (old new : Entries R S H builds hashes) (count : ℕ) (given : List ℕ) (handed : List Entry) (came : Option Kind) → old.stage ≡ Reading → new.stage ≡ Reading → new.last ≡ came → vec_len new.block ≡ vec_len old.block
       → new.judged ≡ old.judged + count → unjudged new ≡ slice_range old.block.items (old.start + count) old.end → old.start + count ≤ old.end → old.end ≤ length old.block.items
-      → room_in new.parser.container + entry_cost came ≤ room_in old.parser.container → (s : StandsFor left old given handed)
-      → ((judged : List ℕ) → HasCome old.parser.container old.parser.calls judged handed → GoesTo stands was now came new.parser.container new.parser.calls (judged ++ take count (unjudged old)) handed) → HandsOutOrGoesOn left stands new was now given handed (Ok came)
+      → room_in new.parser.container + entry_cost came ≤ room_in old.parser.container → (s : StandsFor told old given handed)
+      → ((judged : List ℕ) → HasCome old.parser.container old.parser.calls judged handed → GoesTo stands was now came new.parser.container new.parser.calls (judged ++ take count (unjudged old)) handed) → HandsOutOrGoesOn told stands new was now given handed (Ok came)
   judged_on stands was now old new count given handed None is goes last size judged block fits within room s leads =
       let r = reading_of old given handed is s in
-      stands_reading new given handed goes s.bytes (omega (arith, room_before old given handed is s, room)) (omega (arith, s.most, size)) (none_last new handed last) (moves_on old new count given handed handed judged block fits within r (leads r.judged r.machine))
+      stands_reading new given handed goes s.bytes (omega (arith, room_before old given handed is s, room)) (omega (arith, s.limits.most, size)) (none_last new handed last) (moves_on old new count given handed handed judged block fits within r (leads r.judged r.machine))
   judged_on stands was now old new count given handed (Some kind) is goes last size judged block fits within room s leads =
       let r = reading_of old given handed is s in
       let (entry, held, adds, machine) = leads r.judged r.machine in (
         entry,
         kind_held kind new.parser.container.joiner entry held,
         adds,
-        stands_reading new given (handed ++ entry ∷ []) goes s.bytes (omega (arith, room_before old given handed is s, room, length-append handed (entry ∷ []))) (omega (arith, s.most, size)) (now_last new handed kind entry last held) (moves_on old new count given handed (handed ++ entry ∷ []) judged block fits within r machine),
+        stands_reading new given (handed ++ entry ∷ []) goes s.bytes (omega (arith, room_before old given handed is s, room, length-append handed (entry ∷ []))) (omega (arith, s.limits.most, size)) (now_last new handed kind entry last held) (moves_on old new count given handed (handed ++ entry ∷ []) judged block fits within r machine),
       )
 
-  fails_by : (e : Entries R S H builds hashes) (error : Error) (given : List ℕ) (handed : List Entry) (known : Option (List ℕ)) → AreBytes given → IsReading e given handed → FailsAt given handed error → IsMetBy error known given handed
+  fails_by : (e : Entries R S H builds hashes) (error : Error) (given : List ℕ) (handed : List Entry) (known : Told) → AreBytes given → IsReading e given handed → FailsAt given handed error → IsMetBy error known given handed
   fails_by e (errors.Refused fault) given handed known are r f = inl (λ rest. first_of given rest handed fault are f)
   fails_by e errors.Read given handed known are r f = absurd f
   fails_by e errors.Write given handed known are r f = absurd f
   fails_by e errors.Memory given handed known are r f = first_in e given handed are r
 
-  pub judged_failed : (old new : Entries R S H builds hashes) (error : Error) (given : List ℕ) (handed : List Entry) → old.stage ≡ Reading → new.stage ≡ Failed error → new.last ≡ None → vec_len new.block ≡ vec_len old.block → (s : StandsFor left old given handed)
-      → ((judged : List ℕ) → HasCome old.parser.container old.parser.calls judged handed → FailsAt (judged ++ unjudged old) handed error) → StandsFor left new given handed
+  pub judged_failed : (old new : Entries R S H builds hashes) (error : Error) (given : List ℕ) (handed : List Entry) → old.stage ≡ Reading → new.stage ≡ Failed error → new.last ≡ None → vec_len new.block ≡ vec_len old.block → (s : StandsFor told old given handed)
+      → ((judged : List ℕ) → HasCome old.parser.container old.parser.calls judged handed → FailsAt (judged ++ unjudged old) handed error) → StandsFor told new given handed
   judged_failed old new error given handed is fails none block s shows =
       let r = reading_of old given handed is s in
       stands_failed old new error given handed fails none block s
-      (fails_by old error given handed (left new.source.now) s.bytes r (subst (λ (b : List ℕ). FailsAt b handed error) (sym r.split) (shows r.judged r.machine)))
+      (fails_by old error given handed (told new.source.now) s.bytes r (subst (λ (b : List ℕ). FailsAt b handed error) (sym r.split) (shows r.judged r.machine)))
 
   -- ---- the end
 
-  pub finished : (old new : Entries R S H builds hashes) (given : List ℕ) (handed : List Entry) → old.stage ≡ Reading → new.stage ≡ Over → new.last ≡ Some kinds.End → vec_len new.block ≡ vec_len old.block → old.start ≡ old.end → old.parser.container.cursor ≡ None → IsEndSpot old.parser.container.position.spot → IsAtEnd (left new.source.now)
-      → StandsFor left old given handed → StandsFor left new given (handed ++ End ∷ [])
+  pub finished : (old new : Entries R S H builds hashes) (given : List ℕ) (handed : List Entry) → old.stage ≡ Reading → new.stage ≡ Over → new.last ≡ Some kinds.End → vec_len new.block ≡ vec_len old.block → old.start ≡ old.end → old.parser.container.cursor ≡ None → IsEndSpot old.parser.container.position.spot → IsSpent (told new.source.now)
+      → StandsFor told old given handed → StandsFor told new given (handed ++ End ∷ [])
   finished old new given handed is over last block empty none ended end s =
       let typed = typed_here given _ _ _ _ handed s.bytes (machine_at old given handed empty none (reading_of old given handed is s)) ended in
       record {
         bytes = s.bytes;
         few = omega (arith, room_before old given handed is s, length-append handed (End ∷ []), ap (λ (stage : Stage). entries_left_in stage new.parser.container) over);
-        connections = (typed_within given (handed ++ End ∷ []) typed).few;
-        most = omega (arith, s.most, block);
+        limits = record {
+          few = omega (arith, room_before old given handed is s, length-append handed (End ∷ []));
+          connections = (typed_within given (handed ++ End ∷ []) typed).few;
+          most = omega (arith, s.limits.most, block);
+        };
         holds = now_last new handed kinds.End End last refl;
-        here = subst (λ (stage : Stage). StandsIn stage (left new.source.now) new given (handed ++ End ∷ [])) (sym over) (typed, end);
+        here = subst (λ (stage : Stage). StandsIn stage (told new.source.now) new given (handed ++ End ∷ [])) (sym over) (typed, end);
       }
 
   pub cut_short : (old new : Entries R S H builds hashes) (error : Error) (given : List ℕ) (handed : List Entry) → old.stage ≡ Reading → new.stage ≡ Failed error → new.last ≡ None → vec_len new.block ≡ vec_len old.block → old.start ≡ old.end → old.parser.container.cursor ≡ None → (IsEndSpot old.parser.container.position.spot → ⊥)
-      → error ≡ errors.Refused (file_fault old.judged CaptureCut) → IsAtEnd (left new.source.now) → StandsFor left old given handed → StandsFor left new given handed
+      → error ≡ errors.Refused (file_fault old.judged CaptureCut) → IsSpent (told new.source.now) → StandsFor told old given handed → StandsFor told new given handed
   cut_short old new error given handed is fails none block empty unopened not cut end s =
       let r = reading_of old given handed is s in
       let size : old.judged ≡ length given = r.counted ∙ ap length (sym (all_judged old given handed empty r)) in
@@ -432,85 +408,85 @@ module _ {R S H : Type 0} {builds : BuildHasher.Ghosts S H} {hashes : Hasher.Gho
       let first : FirstFault given (file_fault old.judged CaptureCut) = subst (λ (n : ℕ). FirstFault given (file_fault n CaptureCut)) (sym size) (cut_here given _ _ _ _ handed s.bytes at not) in
       let reached = (not_ended given _ _ _ _ handed s.bytes at not).1 in
       stands_failed old new error given handed fails none block s
-      (subst (λ (e : Error). IsMetBy e (left new.source.now) given handed) (sym cut) (inr (end, first, reached)))
+      (subst (λ (e : Error). IsMetBy e (told new.source.now) given handed) (sym cut) (inr (end, first, reached)))
 
   -- ---- one after another
 
-  pub nothing_read : (e : Entries R S H builds hashes) (given : List ℕ) (handed : List Entry) → StandsFor left e given handed → HasRead left e e given handed
+  pub nothing_read : (e : Entries R S H builds hashes) (given : List ℕ) (handed : List Entry) → StandsFor told e given handed → HasRead told e e given handed
   nothing_read e given handed s = record {
     more = [];
-    consumed = none_consumed (left e.source.now) (left e.source.now) refl;
-    stands = subst (λ (b : List ℕ). StandsFor left e b handed) (sym (append-nil given)) s;
+    consumed = gave_none (told e.source.now);
+    stands = subst (λ (b : List ℕ). StandsFor told e b handed) (sym (append-nil given)) s;
   }
 
   -- the end is handed out, of which a visitor is told nothing
-  pub ended_on : {V : Type 0} (stands : V → List Item → Type 0) (v : V) (new : Entries R S H builds hashes) (given : List ℕ) (handed : List Entry) → StandsFor left new given (handed ++ End ∷ []) → HandsOutOrGoesOn left stands new v v given handed (Ok (Some kinds.End))
+  pub ended_on : {V : Type 0} (stands : V → List Item → Type 0) (v : V) (new : Entries R S H builds hashes) (given : List ℕ) (handed : List Entry) → StandsFor told new given (handed ++ End ∷ []) → HandsOutOrGoesOn told stands new v v given handed (Ok (Some kinds.End))
   ended_on stands v new given handed s = (End, refl, untold stands v, s)
 
   abbrev pub Goes : {V : Type 0} → (V → List Item → Type 0) → Entries R S H builds hashes → Entries R S H builds hashes → (was now : V) → Result (Option Kind) Error → Type 0
-  Goes stands mid new was now result = (given : List ℕ) (handed : List Entry) → StandsFor left mid given handed → HandsOutOrGoesOn left stands new was now given handed result
+  Goes stands mid new was now result = (given : List ℕ) (handed : List Entry) → StandsFor told mid given handed → HandsOutOrGoesOn told stands new was now given handed result
 
   -- a read, and then the block is judged
-  pub turned : {V : Type 0} (stands : V → List Item → Type 0) (was now : V) (old mid new : Entries R S H builds hashes) (given : List ℕ) (handed : List Entry) (result : Result (Option Kind) Error) → HasRead left old mid given handed → Goes stands mid new was now result
-      → new.source.now ≡ mid.source.now → Turns left stands old new was now given handed result
+  pub turned : {V : Type 0} (stands : V → List Item → Type 0) (was now : V) (old mid new : Entries R S H builds hashes) (given : List ℕ) (handed : List Entry) (result : Result (Option Kind) Error) → HasRead told old mid given handed → Goes stands mid new was now result
+      → new.source.now ≡ mid.source.now → Turns told stands old new was now given handed result
   turned stands was now old mid new given handed result read goes same = record {
     more = read.more;
-    consumed = subst (λ (b : List ℕ). Consumes (left old.source.now) (left new.source.now) b) (append-nil read.more) (consumes_both _ _ _ read.more [] read.consumed (none_consumed _ _ (ap left same)));
+    consumed = subst (λ (b : List ℕ). Gave (told old.source.now) (told new.source.now) b) (append-nil read.more) (gave_both (told old.source.now) (told mid.source.now) (told new.source.now) read.more [] read.consumed (gave_none_as (told mid.source.now) (told new.source.now) (ap told same)));
     goes_on = goes (given ++ read.more) handed read.stands;
   }
 
-  pub turned_more : {V : Type 0} (stands : V → List Item → Type 0) (was now : V) (old mid new : Entries R S H builds hashes) (given : List ℕ) (handed : List Entry) (result : Result (Option Kind) Error) → HasRead left old mid given handed
-      → ((given : List ℕ) (handed : List Entry) → StandsFor left mid given handed → Turns left stands mid new was now given handed result) → Turns left stands old new was now given handed result
+  pub turned_more : {V : Type 0} (stands : V → List Item → Type 0) (was now : V) (old mid new : Entries R S H builds hashes) (given : List ℕ) (handed : List Entry) (result : Result (Option Kind) Error) → HasRead told old mid given handed
+      → ((given : List ℕ) (handed : List Entry) → StandsFor told mid given handed → Turns told stands mid new was now given handed result) → Turns told stands old new was now given handed result
   turned_more stands was now old mid new given handed result read turns =
       let t = turns (given ++ read.more) handed read.stands in
       record {
         more = read.more ++ t.more;
-        consumed = consumes_both _ _ _ read.more t.more read.consumed t.consumed;
-        goes_on = subst (λ (b : List ℕ). HandsOutOrGoesOn left stands new was now b handed result) (append_assoc given read.more t.more) t.goes_on;
+        consumed = gave_both (told old.source.now) (told mid.source.now) (told new.source.now) read.more t.more read.consumed t.consumed;
+        goes_on = subst (λ (b : List ℕ). HandsOutOrGoesOn told stands new was now b handed result) (append_assoc given read.more t.more) t.goes_on;
       }
 
-  pub read_more : {V : Type 0} (stands : V → List Item → Type 0) (was now : V) (old mid new : Entries R S H builds hashes) (given : List ℕ) (handed : List Entry) (result : Result (Option Kind) Error) → result ≡ Ok None → HasRead left old mid given handed
-      → ((given : List ℕ) (handed : List Entry) → StandsFor left mid given handed → Turns left stands mid new was now given handed result) → HasRead left old new given handed
+  pub read_more : {V : Type 0} (stands : V → List Item → Type 0) (was now : V) (old mid new : Entries R S H builds hashes) (given : List ℕ) (handed : List Entry) (result : Result (Option Kind) Error) → result ≡ Ok None → HasRead told old mid given handed
+      → ((given : List ℕ) (handed : List Entry) → StandsFor told mid given handed → Turns told stands mid new was now given handed result) → HasRead told old new given handed
   read_more stands was now old mid new given handed result is read turns =
-      let t = subst (λ (r : Result (Option Kind) Error). Turns left stands old new was now given handed r) is (turned_more stands was now old mid new given handed result read turns) in
+      let t = subst (λ (r : Result (Option Kind) Error). Turns told stands old new was now given handed r) is (turned_more stands was now old mid new given handed result read turns) in
       record { more = t.more; consumed = t.consumed; stands = t.goes_on }
 
   -- no capture is so long
-  pub too_long : {V : Type 0} (stands : V → List Item → Type 0) (was now : V) (old mid new : Entries R S H builds hashes) (given : List ℕ) (handed : List Entry) (result : Result (Option Kind) Error) → HasRead left old mid given handed → mid.stage ≡ Reading
-      → most_bytes Two + 1 < mid.judged → Turns left stands old new was now given handed result
+  pub too_long : {V : Type 0} (stands : V → List Item → Type 0) (was now : V) (old mid new : Entries R S H builds hashes) (given : List ℕ) (handed : List Entry) (result : Result (Option Kind) Error) → HasRead told old mid given handed → mid.stage ≡ Reading
+      → most_bytes Two + 1 < mid.judged → Turns told stands old new was now given handed result
   too_long stands was now old mid new given handed result read is far =
       let r = reading_of mid (given ++ read.more) handed is read.stands in
       absurd (omega (arith, far, r.counted, come_length mid.parser.container _ r.judged handed (split_bytes (given ++ read.more) r.judged (unjudged mid) r.split read.stands.bytes).0 r.machine))
 
   -- ---- the answers
 
-  met_by : (e : Entries R S H builds hashes) (error : Error) (given : List ℕ) (handed : List Entry) → e.stage ≡ Failed error → StandsFor left e given handed → IsMetBy error (left e.source.now) given handed
-  met_by e error given handed is s = subst (λ (stage : Stage). StandsIn stage (left e.source.now) e given handed) is s.here
+  met_by : (e : Entries R S H builds hashes) (error : Error) (given : List ℕ) (handed : List Entry) → e.stage ≡ Failed error → StandsFor told e given handed → IsMetBy error (told e.source.now) given handed
+  met_by e error given handed is s = subst (λ (stage : Stage). StandsIn stage (told e.source.now) e given handed) is s.here
 
   hands_out : {V : Type 0} (stands : V → List Item → Type 0) (was now : V) (e : Entries R S H builds hashes) (given : List ℕ) (handed : List Entry) (result : Result (Option Kind) Error) → IfOk result (λ next. IsSome next) → OnOk result (failure_of e ≡ None)
-      → IfErr result (λ error. e.stage ≡ Failed error) → HandsOutOrGoesOn left stands e was now given handed result → HandsOut left stands e was now given handed result
+      → IfErr result (λ error. e.stage ≡ Failed error) → HandsOutOrGoesOn told stands e was now given handed result → HandsOut told stands e was now given handed result
   hands_out stands was now e given handed (Ok (Some kind)) some goes fails (entry, is, adds, s) = (entry, is, stands_first e given (handed ++ entry ∷ []) goes s, adds, s)
   hands_out stands was now e given handed (Ok None) some goes fails h = absurd (cc)
   hands_out stands was now e given handed (Err error) some goes fails h = (met_by e error given handed fails h, h)
 
   pub answers : {V : Type 0} (stands : V → List Item → Type 0) (was now : V) (old new : Entries R S H builds hashes) (given : List ℕ) (handed : List Entry) (result : Result (Option Kind) Error) → IfOk result (λ next. IsSome next) → OnOk result (failure_of new ≡ None)
-      → IfErr result (λ error. new.stage ≡ Failed error) → Turns left stands old new was now given handed result → HandsOutGiven left stands old new was now given handed result
+      → IfErr result (λ error. new.stage ≡ Failed error) → Turns told stands old new was now given handed result → HandsOutGiven told stands old new was now given handed result
   answers stands was now old new given handed result some goes fails t = record { more = t.more; consumed = t.consumed; hands_out = hands_out stands was now new (given ++ t.more) handed result some goes fails t.goes_on }
 
-  pub answers_none : {V : Type 0} (stands : V → List Item → Type 0) (v : V) (e : Entries R S H builds hashes) (given : List ℕ) (handed : List Entry) → e.stage ≡ Over → StandsFor left e given handed → HandsOutGiven left stands e e v v given handed (Ok None)
+  pub answers_none : {V : Type 0} (stands : V → List Item → Type 0) (v : V) (e : Entries R S H builds hashes) (given : List ℕ) (handed : List Entry) → e.stage ≡ Over → StandsFor told e given handed → HandsOutGiven told stands e e v v given handed (Ok None)
   answers_none stands v e given handed is s =
-      let here : StandsIn Over (left e.source.now) e given handed = subst (λ (stage : Stage). StandsIn stage (left e.source.now) e given handed) is s.here in
+      let here : StandsIn Over (told e.source.now) e given handed = subst (λ (stage : Stage). StandsIn stage (told e.source.now) e given handed) is s.here in
       record {
         more = [];
-        consumed = none_consumed (left e.source.now) (left e.source.now) refl;
-        hands_out = subst (λ (b : List ℕ). HandsOut left stands e v v b handed (Ok None)) (sym (append-nil given)) (here.0, here.1, s);
+        consumed = gave_none (told e.source.now);
+        hands_out = subst (λ (b : List ℕ). HandsOut told stands e v v b handed (Ok None)) (sym (append-nil given)) (here.0, here.1, s);
       }
 
-  pub answers_again : {V : Type 0} (stands : V → List Item → Type 0) (v : V) (e : Entries R S H builds hashes) (error : Error) (given : List ℕ) (handed : List Entry) → e.stage ≡ Failed error → StandsFor left e given handed → HandsOutGiven left stands e e v v given handed (Err error)
+  pub answers_again : {V : Type 0} (stands : V → List Item → Type 0) (v : V) (e : Entries R S H builds hashes) (error : Error) (given : List ℕ) (handed : List Entry) → e.stage ≡ Failed error → StandsFor told e given handed → HandsOutGiven told stands e e v v given handed (Err error)
   answers_again stands v e error given handed is s = record {
     more = [];
-    consumed = none_consumed (left e.source.now) (left e.source.now) refl;
-    hands_out = subst (λ (b : List ℕ). HandsOut left stands e v v b handed (Err error)) (sym (append-nil given)) (met_by e error given handed is s, s);
+    consumed = gave_none (told e.source.now);
+    hands_out = subst (λ (b : List ℕ). HandsOut told stands e v v b handed (Err error)) (sym (append-nil given)) (met_by e error given handed is s, s);
   }
 
 -- ---- no device failed

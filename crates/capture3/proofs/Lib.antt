@@ -1,5 +1,6 @@
 -- Lemmas of captures.
 pub mod PassedOn
+pub mod ToldLemmas
 pub mod ContainerMachineLemmas
 pub mod PositionLemmas
 pub mod ContainerLemmas

@@ -1,7 +1,7 @@
 -- A reader of entries: what it answers for good, and what an error says of what it read and handed out.
-use Rattle.std.specs.Prelude.{◌≡◌, ◌⊎◌, ℕ, ◌+◌, ◌-◌, ◌^◌, min, Option, Some, None, Result, Err, List, [], ◌∷◌, ◌++◌, vec_len}
+use Rattle.std.specs.Prelude.{◌≡◌, ◌⊎◌, ℕ, ◌+◌, ◌-◌, ◌≤◌, ◌^◌, min, Option, Some, None, Result, Err, List, [], ◌∷◌, ◌++◌, length, vec_len}
 use Rattle.std.specs.Borrow.{GName}
-use Rattle.std.specs.Io.KnownBytes.{IsAtEnd}
+use Rattle.capture3.specs.Told.{Told, IsSpent}
 use Rattle.std.specs.declared.hash.BuildHasher as BuildHasher
 use Rattle.std.specs.declared.hash.Hasher as Hasher
 use Rattle.capture3.specs.declared.reader.entries.Entries.{Entries}
@@ -11,8 +11,10 @@ use Rattle.capture3.specs.declared.reader.entry.Kind.{Kind}
 use Rattle.capture3.specs.declared.fault.Error.{Error}
 use Rattle.capture3.specs.declared.fault.Error.TheVariants as errors
 use Rattle.capture3.specs.declared.fault.Fault.{Fault}
+use Rattle.capture3.specs.Capture.{Two, max_connections}
 use Rattle.capture3.specs.Entry.{Entry, End}
 use Rattle.capture3.specs.FirstFault.{FirstFault}
+use Rattle.capture3.specs.Laws.{begins, most_bytes, most_entries}
 use Rattle.capture3.specs.Reached.{AreFirstReached, Reached}
 use Rattle.capture3.specs.Typed.{Typed, IsWellFormed}
 
@@ -30,19 +32,19 @@ OnRefused _ Says = Unit {0}
 abbrev pub AreAllBeforeEnd : List ℕ → List Entry → Type 0
 AreAllBeforeEnd bytes entries = Typed bytes (entries ++ End ∷ []) ⊎ ((IsWellFormed bytes → ⊥) × Reached bytes entries)
 
--- After the bytes given, where so much is left: whatever follows them, the fault is the first, and these entries are reached before it; or
+-- After the bytes given, where the source tells this: whatever follows them, the fault is the first, and these entries are reached before it; or
 -- nothing follows them, and the same holds of them alone.
-abbrev pub IsShownBy : (left : Option (List ℕ)) (given : List ℕ) (handed : List Entry) → Fault → Type 0
-IsShownBy left given handed fault =
-    ((rest : List ℕ) → FirstFault (given ++ rest) fault × Reached (given ++ rest) handed) ⊎ (IsAtEnd left × FirstFault given fault × Reached given handed)
+abbrev pub IsShownBy : (told : Told) (given : List ℕ) (handed : List Entry) → Fault → Type 0
+IsShownBy told given handed fault =
+    ((rest : List ℕ) → FirstFault (given ++ rest) fault × Reached (given ++ rest) handed) ⊎ (IsSpent told × FirstFault given fault × Reached given handed)
 
--- What an error says, after the bytes given and the entries handed out, where so much is left: the bytes given show the fault, and just these
+-- What an error says, after the bytes given and the entries handed out, where the source tells this: the bytes given show the fault, and just these
 -- entries are reached; or a read failed, and what the bytes given reach was handed out; or memory ran out.
-abbrev pub IsMetBy : Error → Option (List ℕ) → List ℕ → List Entry → Type 0
-IsMetBy (errors.Refused fault) left given handed = IsShownBy left given handed fault
-IsMetBy errors.Read left given handed = AreAllBeforeEnd given handed
-IsMetBy errors.Write left given handed = ⊥
-IsMetBy errors.Memory left given handed = AreFirstReached given handed
+abbrev pub IsMetBy : Error → Told → List ℕ → List Entry → Type 0
+IsMetBy (errors.Refused fault) told given handed = IsShownBy told given handed fault
+IsMetBy errors.Read told given handed = AreAllBeforeEnd given handed
+IsMetBy errors.Write told given handed = ⊥
+IsMetBy errors.Memory told given handed = AreFirstReached given handed
 
 -- the error that is answered for good
 abbrev pub failure_in : Stage → Option Error
@@ -69,6 +71,13 @@ module _ {R S H : Type 0} {builds : BuildHasher.Ghosts S H} {hashes : Hasher.Gho
   -- how many bytes a read asks for
   abbrev pub block_size : Entries R S H builds hashes → ℕ
   block_size entries = vec_len entries.block
+
+  -- The entries that were handed out and the connections that they begin are at most as many as a capture has. The bytes given are at most one
+  -- block more than the longest capture has, also if the source never ends.
+  pub record KeepsLimits (entries : Entries R S H builds hashes) (given : List ℕ) (handed : List Entry) : Type 0 where
+    pub few : length handed ≤ most_entries
+    pub connections : begins handed ≤ max_connections
+    pub most : length given ≤ most_bytes Two + block_size entries
 
   -- what the entry is that was handed out last
   abbrev pub last_of : Entries R S H builds hashes → Option Kind

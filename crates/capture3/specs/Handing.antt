@@ -1,6 +1,6 @@
 -- What a call of the reader makes of each history for which it stood, and of a visitor.
 use Rattle.std.specs.Prelude.{ℕ, Option, Some, None, Result, Ok, Err, List, [], ◌∷◌, ◌++◌}
-use Rattle.std.specs.Io.KnownBytes.{Consumes, IsAtEnd}
+use Rattle.capture3.specs.Told.{Told, Gave, IsSpent}
 use Rattle.xdr3.specs.Item.{Item}
 use Rattle.xdr3.specs.Visit.{Adds}
 use Rattle.std.specs.declared.hash.BuildHasher as BuildHasher
@@ -20,14 +20,14 @@ module _ {R S H : Type 0} {builds : BuildHasher.Ghosts S H} {hashes : Hasher.Gho
 
   -- The next entry is handed out: the next of those that the bytes reach, of this kind, whose items the visitor was told. None comes where no
   -- byte is left, after all entries of a well-formed capture.
-  abbrev pub HandsOut : {V : Type 0} → (R → Option (List ℕ)) → (V → List Item → Type 0) → Entries R S H builds hashes → (was now : V) → List ℕ → List Entry → Result (Option Kind) Error → Type 0
-  HandsOut left stands new was now given handed (Ok (Some kind)) =
-      (entry : Entry) × IsOfKind kind entry × AreFirstReached given (handed ++ entry ∷ []) × Adds stands was now (items_of entry) × StandsFor left new given (handed ++ entry ∷ [])
-  HandsOut left stands new was now given handed (Ok None) = Typed given handed × IsAtEnd (left new.source.now) × StandsFor left new given handed
-  HandsOut left stands new was now given handed (Err error) = IsMetBy error (left new.source.now) given handed × StandsFor left new given handed
+  abbrev pub HandsOut : {V : Type 0} → (R → Told) → (V → List Item → Type 0) → Entries R S H builds hashes → (was now : V) → List ℕ → List Entry → Result (Option Kind) Error → Type 0
+  HandsOut told stands new was now given handed (Ok (Some kind)) =
+      (entry : Entry) × IsOfKind kind entry × AreFirstReached given (handed ++ entry ∷ []) × Adds stands was now (items_of entry) × StandsFor told new given (handed ++ entry ∷ [])
+  HandsOut told stands new was now given handed (Ok None) = Typed given handed × IsSpent (told new.source.now) × StandsFor told new given handed
+  HandsOut told stands new was now given handed (Err error) = IsMetBy error (told new.source.now) given handed × StandsFor told new given handed
 
   -- the same, after the bytes that the source gave in the call
-  pub record HandsOutGiven {V : Type 0} (left : R → Option (List ℕ)) (stands : V → List Item → Type 0) (old new : Entries R S H builds hashes) (was now : V) (given : List ℕ) (handed : List Entry) (result : Result (Option Kind) Error) : Type 0 where
+  pub record HandsOutGiven {V : Type 0} (told : R → Told) (stands : V → List Item → Type 0) (old new : Entries R S H builds hashes) (was now : V) (given : List ℕ) (handed : List Entry) (result : Result (Option Kind) Error) : Type 0 where
     pub more : List ℕ
-    pub consumed : Consumes (left old.source.now) (left new.source.now) more
-    pub hands_out : HandsOut left stands new was now (given ++ more) handed result
+    pub consumed : Gave (told old.source.now) (told new.source.now) more
+    pub hands_out : HandsOut told stands new was now (given ++ more) handed result

@@ -1,4 +1,5 @@
 pub mod Device
+pub mod Told
 pub mod MemSource
 pub mod Entry
 pub mod Bodies

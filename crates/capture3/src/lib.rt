@@ -14,6 +14,7 @@ pub use device::DeviceFailed;
 pub use device::mem_source::MemSource;
 pub use device::plan::FaultPlan;
 pub use device::source::{FromRead, Source};
+pub use device::trail::Trail;
 pub use fault::{Error, Fault, Place, Side};
 pub use message::silent::Silent;
 pub use reader::entries::{Entries, new_block};

@@ -1,6 +1,6 @@
 // Streams packed to captures in memory.
 
-ghost use Rattle.std.specs.Prelude.{◌<◌, None};
+ghost use Rattle.std.specs.Prelude.{◌<◌, false, None};
 
 use canon3::{MemSink, Sink};
 use capture3::{DeviceFailed, Error, Fault, MemSource, Place, Source};
@@ -189,7 +189,7 @@ fn a_magic_that_is_not_written(rt: HostRuntime) -> Result<(), Fail> {
 struct Endless;
 
 impl Source for Endless {
-    ghost left = { λ s. None };
+    ghost told = { λ s. record { left = None; given = None; is_spent = false } };
 
     ghost failures = { λ s. 0 };
 

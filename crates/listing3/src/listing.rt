@@ -1,8 +1,9 @@
 // The listing of a capture, from a source to a sink.
 
-ghost use Rattle.std.specs.Prelude.{OnOk};
+ghost use Rattle.std.specs.Prelude.{ℕ, List, OnOk};
 ghost use Rattle.capture3.specs.Entries.{CountsReading};
-ghost use Rattle.canon3.specs.EntryWriter.{WritesGiven};
+ghost use Rattle.capture3.specs.Told.{GavePrefix};
+ghost use Rattle.canon3.specs.EntryWriter.{WritesAll, WritesGiven};
 ghost use Rattle.canon3.specs.WriteErrors.{CountsWriting};
 ghost use Rattle.canon3.specs.SinkWrites.{IsFlushed};
 ghost use Rattle.listing3.specs.Listing.{shown};
@@ -31,8 +32,10 @@ pub fn show<R: Source, W: Sink, S: BuildHasher + Drop>(
     source: &mut R,
     sink: &mut W,
 ) -> Result<Summary, Error>
-    ensures lists { WritesGiven shown (R.left source.old) (R.left source.new) (W.written sink.old)
+    ensures lists { WritesGiven shown (R.told source.old) (R.told source.new) (W.written sink.old)
         (W.written sink.new) result }
+    ensures whole { (bytes : List ℕ) → GavePrefix (R.told source.old) (R.told source.new) bytes
+        → WritesAll shown bytes (W.written sink.old) (W.written sink.new) result }
     ensures flushes { OnOk result (IsFlushed (W.written sink.new) (W.flushed sink.new)) }
     ensures read { CountsReading (R.failures source.old) (R.failures source.new) result }
     ensures write { CountsWriting (W.failures sink.old) (W.failures sink.new) result }

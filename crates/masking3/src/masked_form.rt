@@ -37,7 +37,7 @@ pub fn mask<R: Source, W: Sink, S: BuildHasher + Drop>(
     source: &mut R,
     sink: &mut W,
 ) -> Result<Summary, Error>
-    ensures masks { WritesGiven (masked_bytes ways) (R.left source.old) (R.left source.new)
+    ensures masks { WritesGiven (masked_bytes ways) (R.told source.old) (R.told source.new)
         (W.written sink.old) (W.written sink.new) result }
     ensures flushes { OnOk result (IsFlushed (W.written sink.new) (W.flushed sink.new)) }
     ensures read { CountsReading (R.failures source.old) (R.failures source.new) result }
@@ -55,7 +55,7 @@ fn mask_by_plan<P: Plan, R: Source, W: Sink, S: BuildHasher + Drop>(
     sink: &mut W,
 ) -> Result<Summary, Error>
     requires { ways ≡ P.ways }
-    ensures masks { WritesGiven (masked_bytes P.ways) (R.left source.old) (R.left source.new)
+    ensures masks { WritesGiven (masked_bytes P.ways) (R.told source.old) (R.told source.new)
         (W.written sink.old) (W.written sink.new) result }
     ensures flushes { OnOk result (IsFlushed (W.written sink.new) (W.flushed sink.new)) }
     ensures read { CountsReading (R.failures source.old) (R.failures source.new) result }

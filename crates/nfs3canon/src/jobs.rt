@@ -1,13 +1,14 @@
 // What each job does with its files.
 
-use canon3::{SameError, Sink, Summary, ToWrite, Which, canon, check, same};
+use crate::files;
+use canon3::{SameError, Sink, Summary, ToWrite, Traced, Which, canon};
 use capture3::{Error, FromRead, Hashers};
 use line3::LineFault;
 use listing3::show;
 use packing3::Packing;
 use program3::{
     Destination, Ended, OpenError, Outcome, OutputFile, SecretHasher, WRITTEN_AT_ONCE, both_opened,
-    hashers, if_there, opened, standard_output, uncounted, unopened, written_out,
+    hashers, if_there, opened, standard_output, unopened, written_out,
 };
 use std::fs;
 use std::fs::File;
@@ -21,29 +22,12 @@ fn unpacked(rt: &HostRuntime, name: &str, error: OpenError) -> Outcome {
     unopened(rt.alloc(), name, error, Outcome::Packed(Err(Error::Memory)))
 }
 
-/// If memory ran out for the name of one of two captures, that one is told.
-fn uncompared(rt: &HostRuntime, which: Which, name: &str, error: OpenError) -> Outcome {
-    let out_of_memory = SameError {
-        which,
-        error: Error::Memory,
-    };
-    unopened(
-        rt.alloc(),
-        name,
-        error,
-        Outcome::Compared(Err(out_of_memory)),
-    )
-}
-
 /// Checks the file with this name.
 pub fn checked(rt: &HostRuntime, name: &str) -> Outcome {
     let Ok(hashers) = hashers(rt) else {
         return Outcome::Counted(Err(Error::Read));
     };
-    match fs::open(rt, name) {
-        Ok(file) => Outcome::Counted(check(rt.alloc(), hashers, &mut FromRead::new(file))),
-        Err(error) => uncounted(rt.alloc(), name, OpenError::from(error)),
-    }
+    files::counted(rt.alloc(), hashers, rt, name)
 }
 
 /// The lines before a fault are written too.
@@ -55,7 +39,8 @@ pub fn listed(rt: &HostRuntime, name: &str) -> Outcome {
         Ok(file) => file,
         Err(error) => return unlisted(rt, name, OpenError::from(error)),
     };
-    let Ok(mut buffer) = BufWriter::with_capacity(rt.alloc(), WRITTEN_AT_ONCE, rt.stdout()) else {
+    let stdout = Traced::new(rt.stdout());
+    let Ok(mut buffer) = BufWriter::with_capacity(rt.alloc(), WRITTEN_AT_ONCE, stdout) else {
         return Outcome::Listed(Err(Error::Memory));
     };
     let mut sink = ToWrite::new(&mut buffer);
@@ -87,6 +72,7 @@ fn form_written(
     source: File,
     output: &File,
 ) -> Result<Summary, Error> {
+    let output = Traced::new(output);
     let Ok(mut buffer) = BufWriter::with_capacity(rt.alloc(), WRITTEN_AT_ONCE, output) else {
         return Err(Error::Memory);
     };
@@ -96,29 +82,17 @@ fn form_written(
     came
 }
 
-/// Both are open before either is read.
+/// Compares the files with these names.
 pub fn compared(rt: &HostRuntime, first: &str, second: &str) -> Outcome {
-    let (Ok(hashers), Ok(other_hashers)) = (hashers(rt), hashers(rt)) else {
-        return Outcome::Compared(Err(SameError {
+    match (hashers(rt), hashers(rt)) {
+        (Ok(hashers), Ok(other_hashers)) => {
+            files::compared(rt.alloc(), hashers, other_hashers, rt, first, second)
+        }
+        _ => Outcome::Compared(Err(SameError {
             which: Which::First,
             error: Error::Read,
-        }));
-    };
-    let source = match fs::open(rt, first) {
-        Ok(source) => source,
-        Err(error) => return uncompared(rt, Which::First, first, OpenError::from(error)),
-    };
-    let other = match fs::open(rt, second) {
-        Ok(other) => other,
-        Err(error) => return uncompared(rt, Which::Second, second, OpenError::from(error)),
-    };
-    Outcome::Compared(same(
-        rt.alloc(),
-        hashers,
-        other_hashers,
-        &mut FromRead::new(source),
-        &mut FromRead::new(other),
-    ))
+        })),
+    }
 }
 
 /// The output is made first, and then each pair of streams is opened in turn.
@@ -171,7 +145,7 @@ fn packing_kept(rt: &HostRuntime, made: OutputFile, streams: &[String]) -> Outco
 }
 
 fn streams_packed(rt: &HostRuntime, made: &OutputFile, streams: &[String]) -> Result<(), Outcome> {
-    let mut packing = match Packing::start(rt.alloc(), ToWrite::new(&made.file)) {
+    let mut packing = match Packing::start(rt.alloc(), ToWrite::new(Traced::new(&made.file))) {
         Ok(packing) => packing,
         Err((error, _)) => return Err(Outcome::Packed(Err(error))),
     };

@@ -1,6 +1,7 @@
 // Checks, lists, compares and packs recorded NFS version 3 traffic, and brings it into a canonical form.
 #![tactic(auto)]
 
+mod files;
 mod jobs;
 
 use jobs::{checked, compared, listed, packed, rewritten};

@@ -3,8 +3,10 @@ use Rattle.std.proofs.Common.{arith, ap, sym, refl, subst, append-nil, ◌≡◌
 use Rattle.std.specs.Prelude.{Option}
 use Rattle.std.specs.List.{concat, flat_map}
 use Rattle.std.proofs.lemmas.Grind.{flat_map-append}
-use Rattle.std.proofs.KnownBytes.{Appends-nil, Appends-trans, Consumes-trans}
-use Rattle.std.specs.Io.KnownBytes.{Appends, Consumes, IsAtEnd}
+use Rattle.capture3.specs.Told.{Gave, IsSpent, Told}
+use Rattle.capture3.proofs.ToldLemmas.{gave_both}
+use Rattle.std.proofs.KnownBytes.{Appends-nil, Appends-trans}
+use Rattle.std.specs.Io.KnownBytes.{Appends}
 use Rattle.record_mark.proofs.Words.{concat-snoc}
 use Rattle.xdr3.specs.Item.{word_bytes}
 use Rattle.capture3.specs.declared.fault.Error.{Error}
@@ -75,7 +77,7 @@ one_word n a b at streamed = record {
   streamed_is = omega (arith, streamed);
 }
 
-pub none_full : (l0 w0 : Option (List ℕ)) (e0 : Extent) → Consumes l0 l0 [] → HasFull l0 l0 w0 w0 e0 e0
+pub none_full : (l0 : Told) (w0 : Option (List ℕ)) (e0 : Extent) → Gave l0 l0 [] → HasFull l0 l0 w0 w0 e0 e0
 none_full l0 w0 e0 consumed = record {
   full = [];
   each = tt;
@@ -84,7 +86,7 @@ none_full l0 w0 e0 consumed = record {
   grows = record { at = omega arith; streamed_is = omega arith };
 }
 
-pub more_full : (l0 l1 l2 w0 w1 w2 : Option (List ℕ)) (e0 e1 e2 : Extent) (n : ℕ) → HasFull l0 l1 w0 w1 e0 e1 → HasChunk l1 l2 w1 w2 e1 e2 n → full_size ≤ n → HasFull l0 l2 w0 w2 e0 e2
+pub more_full : (l0 l1 l2 : Told) (w0 w1 w2 : Option (List ℕ)) (e0 e1 e2 : Extent) (n : ℕ) → HasFull l0 l1 w0 w1 e0 e1 → HasChunk l1 l2 w1 w2 e1 e2 n → full_size ≤ n → HasFull l0 l2 w0 w2 e0 e2
 more_full l0 l1 l2 w0 w1 w2 e0 e1 e2 n before it whole =
     let size : length it.chunk ≡ full_size = omega (arith, it.many, it.within, whole) in
     let joined : concat (before.full ++ it.chunk ∷ []) ≡ concat before.full ++ it.chunk = concat-snoc before.full it.chunk in
@@ -95,20 +97,20 @@ more_full l0 l1 l2 w0 w1 w2 e0 e1 e2 n before it whole =
     record {
       full = before.full ++ it.chunk ∷ [];
       each = full_snoc before.full it.chunk before.each size;
-      consumed = subst (Consumes l0 l2) (sym joined) (Consumes-trans l0 l1 l2 (concat before.full) it.chunk before.consumed it.consumed);
+      consumed = subst (Gave l0 l2) (sym joined) (gave_both l0 l1 l2 (concat before.full) it.chunk before.consumed it.consumed);
       appended = subst (Appends w0 w2) bytes (Appends-trans w0 w1 w2 _ _ before.appended it.appended);
       grows = subst (λ m. Grows e0 e2 (flat_map chunk_bytes (before.full ++ it.chunk ∷ [])) m) long
           (subst (λ l. Grows e0 e2 l (length (concat before.full) + n)) bytes (grows_more e0 e1 e2 _ _ (length (concat before.full)) n before.grows it.grows));
     }
 
-pub whole_stream : (l0 l1 l2 w0 w1 w2 w3 : Option (List ℕ)) (e0 e1 e2 e3 : Extent) (n : ℕ) → HasFull l0 l1 w0 w1 e0 e1 → HasChunk l1 l2 w1 w2 e1 e2 n → n < full_size → Appends w2 w3 (word_bytes 0) → Grows e2 e3 (word_bytes 0) 0 → HasStream l0 l2 w0 w3 e0 e3
+pub whole_stream : (l0 l1 l2 : Told) (w0 w1 w2 w3 : Option (List ℕ)) (e0 e1 e2 e3 : Extent) (n : ℕ) → HasFull l0 l1 w0 w1 e0 e1 → HasChunk l1 l2 w1 w2 e1 e2 n → n < full_size → Appends w2 w3 (word_bytes 0) → Grows e2 e3 (word_bytes 0) 0 → HasStream l0 l2 w0 w3 e0 e3
 whole_stream l0 l1 l2 w0 w1 w2 w3 e0 e1 e2 e3 n full it less word grown =
     let front = flat_map chunk_bytes full.full ++ flat_map chunk_bytes (last_chunk it.chunk) in
     let long : (length (concat full.full) + n) + 0 ≡ length (concat full.full ++ it.chunk) = omega (arith, it.many, length-append (concat full.full) it.chunk) in
     record {
       stream = concat full.full ++ it.chunk;
       bytes = front ++ word_bytes 0;
-      consumed = Consumes-trans l0 l1 l2 (concat full.full) it.chunk full.consumed it.consumed;
+      consumed = gave_both l0 l1 l2 (concat full.full) it.chunk full.consumed it.consumed;
       ended = it.ended less;
       packed = packed_so_far full.full it.chunk full.each (omega (arith, it.many, less));
       appended = Appends-trans w0 w2 w3 front (word_bytes 0) (Appends-trans w0 w1 w2 _ _ full.appended it.appended) word;
@@ -118,7 +120,7 @@ whole_stream l0 l1 l2 w0 w1 w2 w3 e0 e1 e2 e3 n full it less word grown =
 
 -- ---- where packing stops
 
-pub stops_in_chunk : (l0 l1 l2 w0 w1 w2 : Option (List ℕ)) (e0 e1 : Extent) (error : Error) → HasFull l0 l1 w0 w1 e0 e1 → StopsInChunk l1 l2 w1 w2 e1 error → StopsInStream l0 l2 w0 w2 e0 error
+pub stops_in_chunk : (l0 l1 l2 : Told) (w0 w1 w2 : Option (List ℕ)) (e0 e1 : Extent) (error : Error) → HasFull l0 l1 w0 w1 e0 e1 → StopsInChunk l1 l2 w1 w2 e1 error → StopsInStream l0 l2 w0 w2 e0 error
 stops_in_chunk l0 l1 l2 w0 w1 w2 e0 e1 error full it =
     let done = flat_map chunk_bytes full.full in
     let bytes = flat_map chunk_bytes (last_chunk it.chunk) in
@@ -126,14 +128,14 @@ stops_in_chunk l0 l1 l2 w0 w1 w2 e0 e1 error full it =
     record {
       stream = concat full.full ++ it.chunk;
       bytes = (done ++ bytes) ++ word_bytes 0;
-      consumed = Consumes-trans l0 l1 l2 (concat full.full) it.chunk full.consumed it.consumed;
+      consumed = gave_both l0 l1 l2 (concat full.full) it.chunk full.consumed it.consumed;
       packed = packed_so_far full.full it.chunk full.each it.within;
       stopped = subst (λ n. IsStopped w0 w2 ((done ++ bytes) ++ word_bytes 0) e0.at n error) total
           (stopped_before w0 w2 (done ++ bytes) (word_bytes 0) e0.at (e1.streamed + length it.chunk) error
           (stopped_after w0 w1 w2 done bytes e0.at e1.at (e1.streamed + length it.chunk) error full.appended full.grows.at it.stopped));
     }
 
-pub stops_at_end : (l0 l1 l2 w0 w1 w2 w3 : Option (List ℕ)) (e0 e1 e2 : Extent) (n : ℕ) (error : Error) → HasFull l0 l1 w0 w1 e0 e1 → HasChunk l1 l2 w1 w2 e1 e2 n → error ≡ errors.Write → AppendsFront w2 w3 (word_bytes 0) → StopsInStream l0 l2 w0 w3 e0 error
+pub stops_at_end : (l0 l1 l2 : Told) (w0 w1 w2 w3 : Option (List ℕ)) (e0 e1 e2 : Extent) (n : ℕ) (error : Error) → HasFull l0 l1 w0 w1 e0 e1 → HasChunk l1 l2 w1 w2 e1 e2 n → error ≡ errors.Write → AppendsFront w2 w3 (word_bytes 0) → StopsInStream l0 l2 w0 w3 e0 error
 stops_at_end l0 l1 l2 w0 w1 w2 w3 e0 e1 e2 n error full it is front =
     let done = flat_map chunk_bytes full.full ++ flat_map chunk_bytes (last_chunk it.chunk) in
     let grown = grows_more e0 e1 e2 (flat_map chunk_bytes full.full) (flat_map chunk_bytes (last_chunk it.chunk)) (length (concat full.full)) n full.grows it.grows in
@@ -141,7 +143,7 @@ stops_at_end l0 l1 l2 w0 w1 w2 w3 e0 e1 e2 n error full it is front =
     record {
       stream = concat full.full ++ it.chunk;
       bytes = done ++ word_bytes 0;
-      consumed = Consumes-trans l0 l1 l2 (concat full.full) it.chunk full.consumed it.consumed;
+      consumed = gave_both l0 l1 l2 (concat full.full) it.chunk full.consumed it.consumed;
       packed = packed_so_far full.full it.chunk full.each (omega (arith, it.many, it.within));
       stopped = stopped_after w0 w2 w3 done (word_bytes 0) e0.at e2.at total error (Appends-trans w0 w1 w2 _ _ full.appended it.appended) grown.at (stopped_writing w2 w3 (word_bytes 0) e2.at total error is front);
     }
@@ -152,7 +154,7 @@ chunk_of : (chunk : List ℕ) (n : ℕ) → length chunk ≡ n → 0 < n → fla
 chunk_of chunk n many some =
     ap (flat_map chunk_bytes) (last_of chunk (omega (arith, many, some))) ∙ append-nil (chunk_bytes chunk) ∙ ap (λ m. word_bytes m ++ chunk) many
 
-pub chunk_some : (l0 l1 w0 w1 w2 : Option (List ℕ)) (e0 e1 : Extent) (chunk : List ℕ) (n : ℕ) → Consumes l0 l1 chunk → length chunk ≡ n → 0 < n → n ≤ full_size → (n < full_size → IsAtEnd l1)
+pub chunk_some : (l0 l1 : Told) (w0 w1 w2 : Option (List ℕ)) (e0 e1 : Extent) (chunk : List ℕ) (n : ℕ) → Gave l0 l1 chunk → length chunk ≡ n → 0 < n → n ≤ full_size → (n < full_size → IsSpent l1)
     → Appends w0 w1 (word_bytes n) → Appends w1 w2 chunk → e1.at ≡ e0.at + (4 + n) → e1.streamed ≡ e0.streamed + n → HasChunk l0 l1 w0 w2 e0 e1 n
 chunk_some l0 l1 w0 w1 w2 e0 e1 chunk n consumed many some within ended word bytes at streamed =
     let are : flat_map chunk_bytes (last_chunk chunk) ≡ word_bytes n ++ chunk = chunk_of chunk n many some in
@@ -168,7 +170,7 @@ chunk_some l0 l1 w0 w1 w2 e0 e1 chunk n consumed many some within ended word byt
     }
 
 -- the chunk passes the limit
-pub chunk_refused : (l0 l1 w0 : Option (List ℕ)) (e0 : Extent) (error : Error) (chunk : List ℕ) (n : ℕ) → Consumes l0 l1 chunk → length chunk ≡ n → n ≤ full_size → e0.streamed ≤ max_bytes → max_bytes < e0.streamed + n
+pub chunk_refused : (l0 l1 : Told) (w0 : Option (List ℕ)) (e0 : Extent) (error : Error) (chunk : List ℕ) (n : ℕ) → Gave l0 l1 chunk → length chunk ≡ n → n ≤ full_size → e0.streamed ≤ max_bytes → max_bytes < e0.streamed + n
     → error ≡ errors.Refused (record { place = places.File e0.at; reason = reasons.TooManyBytes }) → StopsInChunk l0 l1 w0 w0 e0 error
 chunk_refused l0 l1 w0 e0 error chunk n consumed many within room over is =
     let are : flat_map chunk_bytes (last_chunk chunk) ≡ chunk_bytes chunk ++ [] = ap (flat_map chunk_bytes) (last_of chunk (omega (arith, many, room, over))) in
@@ -194,7 +196,7 @@ chunk_refused l0 l1 w0 e0 error chunk n consumed many within room over is =
     }
 
 -- a front of its bytes is written
-pub chunk_cut : (l0 l1 w0 w1 : Option (List ℕ)) (e0 : Extent) (error : Error) (chunk : List ℕ) (n : ℕ) → Consumes l0 l1 chunk → length chunk ≡ n → 0 < n → n ≤ full_size → error ≡ errors.Write
+pub chunk_cut : (l0 l1 : Told) (w0 w1 : Option (List ℕ)) (e0 : Extent) (error : Error) (chunk : List ℕ) (n : ℕ) → Gave l0 l1 chunk → length chunk ≡ n → 0 < n → n ≤ full_size → error ≡ errors.Write
     → AppendsFront w0 w1 (word_bytes n ++ chunk) → StopsInChunk l0 l1 w0 w1 e0 error
 chunk_cut l0 l1 w0 w1 e0 error chunk n consumed many some within is front = record {
   chunk = chunk;

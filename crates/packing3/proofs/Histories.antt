@@ -1,8 +1,10 @@
 -- What each call makes of the pairs for which a packing stood.
 use Rattle.std.proofs.Common.{arith, refl, sym, ap, subst, inl, inr, ◌≡◌, ◌∙◌, ◌≤◌, ◌+◌, ℕ, List, [], ◌∷◌, ◌++◌, length, length-append, append_assoc}
 use Rattle.std.specs.Prelude.{Option, None, Result, Ok, Err, OnOk, OnErr, IfErr}
-use Rattle.std.specs.Io.KnownBytes.{Appends, Consumes}
-use Rattle.std.proofs.KnownBytes.{Appends-trans, Consumes-nil}
+use Rattle.capture3.specs.Told.{Gave, GavePrefix, Told}
+use Rattle.capture3.proofs.ToldLemmas.{gave_none, prefix_of_kept}
+use Rattle.std.specs.Io.KnownBytes.{Appends}
+use Rattle.std.proofs.KnownBytes.{Appends-trans}
 use Rattle.record_mark.proofs.Words.{Joins-snoc}
 use Rattle.xdr3.specs.declared.reason.Reason.TheVariants as reasons
 use Rattle.xdr3.specs.Item.{word_bytes}
@@ -36,7 +38,7 @@ total_more [] streams = omega arith
 total_more (p ∷ pairs) streams = omega (arith, total_more pairs streams)
 
 module _ {W : Type 0} (written : W → Option (List ℕ)) where
-  pub added : (old new : Packing W) (first c0 c1 s0 s1 : Option (List ℕ)) (pairs : List Streams) → HasConnection c0 c1 s0 s1 (written old.sink) (written new.sink) old.extent new.extent → new.connections ≡ old.connections + 1 → ending_of new ≡ None
+  pub added : (old new : Packing W) (first : Option (List ℕ)) (c0 c1 s0 s1 : Told) (pairs : List Streams) → HasConnection c0 c1 s0 s1 (written old.sink) (written new.sink) old.extent new.extent → new.connections ≡ old.connections + 1 → ending_of new ≡ None
       → HasAdded written old first pairs → AddsPair written new first c0 c1 s0 s1 pairs (Ok (tt {0}))
   added old new first c0 c1 s0 s1 pairs it count going h = record {
     streams = it.streams;
@@ -57,7 +59,17 @@ module _ {W : Type 0} (written : W → Option (List ℕ)) where
     );
   }
 
-  broken_off : (old : Packing W) (first c0 c1 s0 s1 w1 : Option (List ℕ)) (pairs : List Streams) (error : Error) (it : StopsInConnection c0 c1 s0 s1 (written old.sink) w1 old.extent error)
+  -- of all bytes of both streams, of which the sources gave prefixes
+  pub added_all : (new : Packing W) (first : Option (List ℕ)) (c0 c1 s0 s1 : Told) (pairs : List Streams) (streams : Streams) → GavePrefix c0 c1 streams.client → GavePrefix s0 s1 streams.server
+      → AddsPair written new first c0 c1 s0 s1 pairs (Ok (tt {0})) → HasAdded written new first (pairs ++ streams ∷ [])
+  added_all new first c0 c1 s0 s1 pairs streams from_client from_server it =
+      let (client_ended, server_ended, has) = it.adds in
+      let client : it.streams.client ≡ streams.client = (prefix_of_kept c0 c1 it.streams.client streams.client from_client it.from_client).all client_ended in
+      let server : it.streams.server ≡ streams.server = (prefix_of_kept s0 s1 it.streams.server streams.server from_server it.from_server).all server_ended in
+      subst (λ (l : List ℕ). HasAdded written new first (pairs ++ record { client = streams.client; server = l } ∷ [])) server
+      (subst (λ (l : List ℕ). HasAdded written new first (pairs ++ record { client = l; server = it.streams.server } ∷ [])) client has)
+
+  broken_off : (old : Packing W) (first : Option (List ℕ)) (c0 c1 s0 s1 : Told) (w1 : Option (List ℕ)) (pairs : List Streams) (error : Error) (it : StopsInConnection c0 c1 s0 s1 (written old.sink) w1 old.extent error)
       → HasAdded written old first pairs → BreaksOff first w1 (pairs ++ it.streams ∷ []) error
   broken_off old first c0 c1 s0 s1 w1 pairs error it h =
       let before = old.extent.streamed + size it.streams in
@@ -75,7 +87,7 @@ module _ {W : Type 0} (written : W → Option (List ℕ)) where
         told = subst (λ n. Tells error (length all.front) all.next n) total (subst (λ n. Tells error n all.next before) at all.told);
       }
 
-  no_room : (old : Packing W) (first c0 c1 s0 s1 w1 : Option (List ℕ)) (pairs : List Streams) (error : Error) → IsFull old c0 c1 s0 s1 (written old.sink) w1 error
+  no_room : (old : Packing W) (first : Option (List ℕ)) (c0 c1 s0 s1 : Told) (w1 : Option (List ℕ)) (pairs : List Streams) (error : Error) → IsFull old c0 c1 s0 s1 (written old.sink) w1 error
       → HasAdded written old first pairs → HasNoRoom first w1 pairs error
   no_room old first c0 c1 s0 s1 w1 pairs error full h = record {
     front = h.front;
@@ -85,12 +97,12 @@ module _ {W : Type 0} (written : W → Option (List ℕ)) where
     is = full.is ∙ ap (λ (n : ℕ). errors.Refused (record { place = places.File n; reason = reasons.TooManyConnections })) h.at;
   }
 
-  pub not_added : (old new : Packing W) (first c0 c1 s0 s1 : Option (List ℕ)) (pairs : List Streams) (error : Error) → FailsToAdd old c0 c1 s0 s1 (written old.sink) (written new.sink) error
+  pub not_added : (old new : Packing W) (first : Option (List ℕ)) (c0 c1 s0 s1 : Told) (pairs : List Streams) (error : Error) → FailsToAdd old c0 c1 s0 s1 (written old.sink) (written new.sink) error
       → HasAdded written old first pairs → AddsPair written new first c0 c1 s0 s1 pairs (Err error)
   not_added old new first c0 c1 s0 s1 pairs error (inl full) h = record {
     streams = record { client = []; server = [] };
-    from_client = subst (λ l. Consumes c0 l []) (sym full.same_client) (Consumes-nil c0);
-    from_server = subst (λ l. Consumes s0 l []) (sym full.same_server) (Consumes-nil s0);
+    from_client = subst (λ l. Gave c0 l []) (sym full.same_client) (gave_none c0);
+    from_server = subst (λ l. Gave s0 l []) (sym full.same_server) (gave_none s0);
     adds = inl (refl, no_room old first c0 c1 s0 s1 (written new.sink) pairs error full h);
   }
   not_added old new first c0 c1 s0 s1 pairs error (inr it) h = record {

@@ -1,6 +1,7 @@
 -- A reader and a writer under way, and what each step of them does.
 use Rattle.std.specs.Prelude.{ℕ, ◌<◌, ◌^◌, Bool, true, false, Option, List, [], ◌∷◌, ◌++◌, length, Result, Ok, Err}
-use Rattle.std.specs.Io.KnownBytes.{Appends, Consumes, IsAtEnd}
+use Rattle.capture3.specs.Told.{Gave, IsSpent, Told}
+use Rattle.std.specs.Io.KnownBytes.{Appends}
 use Rattle.std.specs.declared.hash.BuildHasher as BuildHasher
 use Rattle.std.specs.declared.hash.Hasher as Hasher
 use Rattle.xdr3.specs.Item.{Item}
@@ -38,33 +39,33 @@ module _ {T : Type 0} (form : List Entry → List ℕ) (before : List Entry → 
       (old : Option (List ℕ)) (entries : List Entry) (one : Entry) → IsOfKind kind one → AreFirst (entries ++ one ∷ []) → length (entries ++ one ∷ []) < 2 ^ 32 → ArePassed passed entries
       → stands was (before entries ++ items_of one) → Appends old between (form entries) → HasMore now after old new (entries ++ one ∷ []) result
 
--- all that was left was read, and is a capture with these entries
-pub record IsEnded (first left : Option (List ℕ)) (given : List ℕ) (entries : List Entry) : Type 0 where
-  pub consumed : Consumes first left given
-  pub ended : IsAtEnd left
+-- all bytes were read, and is a capture with these entries
+pub record IsEnded (first told : Told) (given : List ℕ) (entries : List Entry) : Type 0 where
+  pub consumed : Gave first told given
+  pub ended : IsSpent told
   pub typed : Typed given entries
 
--- a reader that hands out entries, from when so much was left first, and a writer to a sink, from when it had the old bytes
-module _ {T R S H : Type 0} {builds : BuildHasher.Ghosts S H} {hashes : Hasher.Ghosts H} (form : List Entry → List ℕ) (before : List Entry → List Item) (stands : T → List Item → Type 0) (going : T → Type 0) (left : R → Option (List ℕ)) (first old : Option (List ℕ)) where
+-- a reader that hands out entries, from when the source told this first, and a writer to a sink, from when it had the old bytes
+module _ {T R S H : Type 0} {builds : BuildHasher.Ghosts S H} {hashes : Hasher.Ghosts H} (form : List Entry → List ℕ) (before : List Entry → List Item) (stands : T → List Item → Type 0) (going : T → Type 0) (told : R → Told) (first : Told) (old : Option (List ℕ)) where
   -- what it handed out was written
   pub record IsWriting (reader : Entries R S H builds hashes) (writer : T) (passed : Passed) (new : Option (List ℕ)) : Type 0 where
     pub given : List ℕ
     pub handed : List Entry
-    pub consumed : Consumes first (left (source_of reader)) given
-    pub reads : StandsFor left reader given handed
+    pub consumed : Gave first (told (source_of reader)) given
+    pub reads : StandsFor told reader given handed
     pub writes : HasWritten form before stands going writer passed old new handed
 
   -- all bytes were a capture's, and the form of all its entries was written
   pub record HasWrittenAll (reader : Entries R S H builds hashes) (writer : T) (passed : Passed) (new : Option (List ℕ)) : Type 0 where
     pub given : List ℕ
     pub handed : List Entry
-    pub ended : IsEnded first (left (source_of reader)) given handed
+    pub ended : IsEnded first (told (source_of reader)) given handed
     pub writes : HasWritten form before stands going writer passed old new handed
 
   pub record HasStopped (reader : Entries R S H builds hashes) (new : Option (List ℕ)) (error : Error) : Type 0 where
     pub given : List ℕ
-    pub consumed : Consumes first (left (source_of reader)) given
-    pub stopped : IsStoppedBy form error (left (source_of reader)) given old new
+    pub consumed : Gave first (told (source_of reader)) given
+    pub stopped : IsStoppedBy form error (told (source_of reader)) given old new
 
   abbrev pub WritesOn : Entries R S H builds hashes → T → Passed → Option (List ℕ) → Result Bool Error → Type 0
   WritesOn reader writer passed new (Ok true) = IsWriting reader writer passed new

@@ -1,6 +1,6 @@
 -- What is tallied of a capture's entries along a reader.
 use Rattle.std.specs.Prelude.{ℕ, Bool, true, false, Option, List, Result, Ok, Err}
-use Rattle.std.specs.Io.KnownBytes.{Consumes, IsAtEnd}
+use Rattle.capture3.specs.Told.{Gave, IsSpent, Told}
 use Rattle.std.specs.declared.hash.BuildHasher as BuildHasher
 use Rattle.std.specs.declared.hash.Hasher as Hasher
 use Rattle.capture3.specs.declared.reader.entries.Entries.{Entries}
@@ -20,36 +20,36 @@ pub record Tallies {S H : Type 0} (tally : Tally S H) (entries : List Entry) : T
   pub handles : GathersAll tally.handles (all_items entries)
 
 -- the bytes met an error
-pub record HasFailed {R S H : Type 0} {builds : BuildHasher.Ghosts S H} {hashes : Hasher.Ghosts H} (left : R → Option (List ℕ)) (first : Option (List ℕ)) (reader : Entries R S H builds hashes) (error : Error) : Type 0 where
+pub record HasFailed {R S H : Type 0} {builds : BuildHasher.Ghosts S H} {hashes : Hasher.Ghosts H} (told : R → Told) (first : Told) (reader : Entries R S H builds hashes) (error : Error) : Type 0 where
   pub given : List ℕ
   pub handed : List Entry
-  pub consumed : Consumes first (left (source_of reader)) given
-  pub met : IsMetBy error (left (source_of reader)) given handed
+  pub consumed : Gave first (told (source_of reader)) given
+  pub met : IsMetBy error (told (source_of reader)) given handed
 
--- a reader that hands out entries, from when so much was left first, and what is tallied of them
-module _ {R S H : Type 0} {builds : BuildHasher.Ghosts S H} {hashes : Hasher.Ghosts H} (left : R → Option (List ℕ)) (first : Option (List ℕ)) where
+-- a reader that hands out entries, from when the source told this first, and what is tallied of them
+module _ {R S H : Type 0} {builds : BuildHasher.Ghosts S H} {hashes : Hasher.Ghosts H} (told : R → Told) (first : Told) where
   -- what it handed out is in the tally
   pub record IsTallying (reader : Entries R S H builds hashes) (tally : Tally S H) : Type 0 where
     pub given : List ℕ
     pub handed : List Entry
-    pub consumed : Consumes first (left (source_of reader)) given
-    pub stands : StandsFor left reader given handed
+    pub consumed : Gave first (told (source_of reader)) given
+    pub stands : StandsFor told reader given handed
     pub tallied : Tallies tally handed
 
   -- all bytes were a capture's, and all its entries are in the tally
   pub record HasTalliedAll (reader : Entries R S H builds hashes) (tally : Tally S H) : Type 0 where
     pub given : List ℕ
     pub handed : List Entry
-    pub consumed : Consumes first (left (source_of reader)) given
-    pub ended : IsAtEnd (left (source_of reader))
+    pub consumed : Gave first (told (source_of reader)) given
+    pub ended : IsSpent (told (source_of reader))
     pub typed : Typed given handed
     pub tallied : Tallies tally handed
 
   abbrev pub TalliesOn : Entries R S H builds hashes → Tally S H → Result Bool Error → Type 0
   TalliesOn reader tally (Ok true) = IsTallying reader tally
   TalliesOn reader tally (Ok false) = HasTalliedAll reader tally
-  TalliesOn reader tally (Err error) = HasFailed left first reader error
+  TalliesOn reader tally (Err error) = HasFailed told first reader error
 
   abbrev pub TalliesToTheEnd : {X : Type 0} → Entries R S H builds hashes → Tally S H → Result X Error → Type 0
   TalliesToTheEnd reader tally (Ok x) = HasTalliedAll reader tally
-  TalliesToTheEnd reader tally (Err error) = HasFailed left first reader error
+  TalliesToTheEnd reader tally (Err error) = HasFailed told first reader error

@@ -1,6 +1,6 @@
 -- The histories for which a reader of entries stands: what its source gave it, and what it handed out.
 use Rattle.std.specs.Prelude.{◌≡◌, ℕ, ◌+◌, ◌≤◌, Option, Some, None, Result, Ok, Err, List, [], ◌∷◌, ◌++◌, length, slice_range}
-use Rattle.std.specs.Io.KnownBytes.{Consumes, IsAtEnd}
+use Rattle.capture3.specs.Told.{Told, Gave, IsSpent}
 use Rattle.xdr3.specs.Item.{AreBytes, Item}
 use Rattle.xdr3.specs.Visit.{Adds}
 use Rattle.std.specs.declared.hash.BuildHasher as BuildHasher
@@ -11,15 +11,13 @@ use Rattle.capture3.specs.declared.reader.entries.Stage.TheVariants.{Reading, Ov
 use Rattle.capture3.specs.declared.reader.entry.Kind.{Kind}
 use Rattle.capture3.specs.declared.fault.Error.{Error}
 use Rattle.capture3.specs.declared.container.Container.{Container}
-use Rattle.capture3.specs.Capture.{Two, max_connections}
 use Rattle.capture3.specs.machinery.Container.{room_in}
 use Rattle.capture3.specs.Entry.{Entry, items_of}
 use Rattle.capture3.specs.machinery.EntryParser.{HasCome, IsHeld}
 use Rattle.capture3.specs.Kept.{IsOfKind}
-use Rattle.capture3.specs.Laws.{begins, most_bytes}
 use Rattle.capture3.specs.Laws.{most_entries}
 use Rattle.capture3.specs.Typed.{Typed}
-use Rattle.capture3.specs.Entries.{IsMetBy, block_size}
+use Rattle.capture3.specs.Entries.{IsMetBy, KeepsLimits}
 
 -- how many entries there can be from here on
 abbrev pub entries_left_in : Stage → Container → ℕ
@@ -49,35 +47,33 @@ module _ {R S H : Type 0} {builds : BuildHasher.Ghosts S H} {hashes : Hasher.Gho
     pub counted : entries.judged ≡ length judged
     pub machine : HasCome entries.parser.container entries.parser.calls judged handed
 
-  abbrev pub StandsIn : Stage → Option (List ℕ) → Entries R S H builds hashes → List ℕ → List Entry → Type 0
-  StandsIn Reading left entries given handed = IsReading entries given handed
-  StandsIn Over left entries given handed = Typed given handed × IsAtEnd left
-  StandsIn (Failed error) left entries given handed = IsMetBy error left given handed
+  abbrev pub StandsIn : Stage → Told → Entries R S H builds hashes → List ℕ → List Entry → Type 0
+  StandsIn Reading told entries given handed = IsReading entries given handed
+  StandsIn Over told entries given handed = Typed given handed × IsSpent told
+  StandsIn (Failed error) told entries given handed = IsMetBy error told given handed
 
-  -- The source gave these bytes since the reader was new, at most a block more than the longest capture has, and the reader handed out these
-  -- entries.
-  pub record StandsFor (left : R → Option (List ℕ)) (entries : Entries R S H builds hashes) (given : List ℕ) (handed : List Entry) : Type 0 where
+  -- the source gave these bytes since the reader was new, and the reader handed out these entries
+  pub record StandsFor (told : R → Told) (entries : Entries R S H builds hashes) (given : List ℕ) (handed : List Entry) : Type 0 where
     pub bytes : AreBytes given
     pub few : length handed + entries_left entries ≤ most_entries
-    pub connections : begins handed ≤ max_connections
-    pub most : length given ≤ most_bytes Two + block_size entries
+    pub limits : KeepsLimits entries given handed
     pub holds : HoldsLast entries handed
-    pub here : StandsIn entries.stage (left entries.source.now) entries given handed
+    pub here : StandsIn entries.stage (told entries.source.now) entries given handed
 
   -- the source gave more bytes
-  pub record HasRead (left : R → Option (List ℕ)) (old new : Entries R S H builds hashes) (given : List ℕ) (handed : List Entry) : Type 0 where
+  pub record HasRead (told : R → Told) (old new : Entries R S H builds hashes) (given : List ℕ) (handed : List Entry) : Type 0 where
     pub more : List ℕ
-    pub consumed : Consumes (left old.source.now) (left new.source.now) more
-    pub stands : StandsFor left new (given ++ more) handed
+    pub consumed : Gave (told old.source.now) (told new.source.now) more
+    pub stands : StandsFor told new (given ++ more) handed
 
   -- an entry is handed out and told; or it goes on, or has failed
-  abbrev pub HandsOutOrGoesOn : {V : Type 0} → (R → Option (List ℕ)) → (V → List Item → Type 0) → Entries R S H builds hashes → (was now : V) → List ℕ → List Entry → Result (Option Kind) Error → Type 0
-  HandsOutOrGoesOn left stands new was now given handed (Ok (Some kind)) =
-      (entry : Entry) × IsOfKind kind entry × Adds stands was now (items_of entry) × StandsFor left new given (handed ++ entry ∷ [])
-  HandsOutOrGoesOn left stands new was now given handed (Ok None) = StandsFor left new given handed
-  HandsOutOrGoesOn left stands new was now given handed (Err error) = StandsFor left new given handed
+  abbrev pub HandsOutOrGoesOn : {V : Type 0} → (R → Told) → (V → List Item → Type 0) → Entries R S H builds hashes → (was now : V) → List ℕ → List Entry → Result (Option Kind) Error → Type 0
+  HandsOutOrGoesOn told stands new was now given handed (Ok (Some kind)) =
+      (entry : Entry) × IsOfKind kind entry × Adds stands was now (items_of entry) × StandsFor told new given (handed ++ entry ∷ [])
+  HandsOutOrGoesOn told stands new was now given handed (Ok None) = StandsFor told new given handed
+  HandsOutOrGoesOn told stands new was now given handed (Err error) = StandsFor told new given handed
 
-  pub record Turns {V : Type 0} (left : R → Option (List ℕ)) (stands : V → List Item → Type 0) (old new : Entries R S H builds hashes) (was now : V) (given : List ℕ) (handed : List Entry) (result : Result (Option Kind) Error) : Type 0 where
+  pub record Turns {V : Type 0} (told : R → Told) (stands : V → List Item → Type 0) (old new : Entries R S H builds hashes) (was now : V) (given : List ℕ) (handed : List Entry) (result : Result (Option Kind) Error) : Type 0 where
     pub more : List ℕ
-    pub consumed : Consumes (left old.source.now) (left new.source.now) more
-    pub goes_on : HandsOutOrGoesOn left stands new was now (given ++ more) handed result
+    pub consumed : Gave (told old.source.now) (told new.source.now) more
+    pub goes_on : HandsOutOrGoesOn told stands new was now (given ++ more) handed result

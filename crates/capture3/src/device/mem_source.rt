@@ -1,8 +1,9 @@
 // A source over bytes in memory.
 
-ghost use Rattle.std.specs.Prelude.{◌≡◌, ◌≤◌, ◌<◌, ◌-◌, ◌↔◌, length, min, Some, IfOk, IsErr};
-ghost use Rattle.std.specs.Io.KnownBytes.{ReadConsumes};
+ghost use Rattle.std.specs.Prelude.{◌≡◌, ◌≤◌, ◌<◌, ◌-◌, ◌↔◌, false, length, min, None, Some, IfOk, IsErr};
 ghost use Rattle.capture3.specs.Device.{Counts};
+ghost use Rattle.capture3.specs.MemSource.{told_in_memory};
+ghost use Rattle.capture3.specs.Told.{ReadGives, TellsSpent};
 
 use crate::device::DeviceFailed;
 use crate::device::plan::FaultPlan;
@@ -16,6 +17,8 @@ pub struct MemSource<'a> {
     bytes: &'a [u8],
     block: usize,
     plan: FaultPlan,
+    // The last read that did not fail gave none.
+    is_spent: bool,
 }
 
 impl<'a> Model for MemSource<'a> {
@@ -29,6 +32,7 @@ impl<'a> Model for MemSource<'a> {
       block = s.block;
       fails_in = s.plan.fails_in;
       failures = s.plan.failures;
+      is_spent = s.is_spent;
     } };
 
     ghost invariant = { λ s. 0 < s.block };
@@ -43,25 +47,29 @@ impl<'a> MemSource<'a> {
           block = block;
           fails_in = fail;
           failures = 0;
+          is_spent = false;
         } }
     {
         MemSource {
             bytes,
             block,
             plan: FaultPlan::new(fail),
+            is_spent: false,
         }
     }
 }
 
 impl Source for MemSource<'_> {
-    ghost left = { λ s. Some s.left };
+    ghost told = { told_in_memory };
 
     ghost failures = { λ s. s.failures };
 
     fn read_some(&mut self, buf: &mut [u8]) -> Result<usize, DeviceFailed>
         requires room { 0 < length buf.old }
         ensures within { IfOk result (λ n. n ≤ length buf.new) }
-        ensures bytes { ReadConsumes (Some self.old.left) (Some self.new.left) result buf.new }
+        ensures bytes { ReadGives (told_in_memory self.old) (told_in_memory self.new) result
+            buf.new }
+        ensures spent { TellsSpent (told_in_memory self.old) (told_in_memory self.new) result }
         ensures count { Counts self.old.failures self.new.failures result }
 
         // How many bytes a call gives, and which call fails.
@@ -76,6 +84,7 @@ impl Source for MemSource<'_> {
         let (front, rest) = self.bytes.split_at(count);
         buf[..count].copy_from_slice(front);
         self.bytes = rest;
+        self.is_spent = count == 0;
         Ok(count)
     }
 }

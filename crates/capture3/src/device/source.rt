@@ -1,17 +1,18 @@
 // What gives bytes and may fail, and a source over a reader.
 
-ghost use Rattle.std.specs.Prelude.{◌≡◌, ◌≤◌, ◌<◌, ℕ, List, length, Option, IfOk};
-ghost use Rattle.std.specs.Io.KnownBytes.{ReadConsumes};
+ghost use Rattle.std.specs.Prelude.{◌≡◌, ◌≤◌, ◌<◌, ℕ, [], false, length, Some, IfOk};
 ghost use Rattle.capture3.specs.Device.{Counts};
+ghost use Rattle.capture3.specs.Told.{Told, ReadGives, TellsSpent};
 
 use crate::device::DeviceFailed;
+use crate::device::trail::Trail;
 use std::io::Read;
 use std::marker::Model;
 
 /// A reader whose calls may fail.
 pub trait Source {
-    // The bytes that are left, where the source tells them.
-    ghost left: { Self → Option (List ℕ) };
+    // What the source tells of the bytes that are left and of those that its reads gave.
+    ghost told: { Self → Told };
 
     // How many reads have failed, up to 2^64 - 1.
     ghost failures: { Self → ℕ };
@@ -20,45 +21,70 @@ pub trait Source {
     fn read_some(&mut self, buf: &mut [u8]) -> Result<usize, DeviceFailed>
         requires room { 0 < length buf.old }
         ensures within { IfOk result (λ n. n ≤ length buf.new) }
-        ensures bytes { ReadConsumes (left self.old) (left self.new) result buf.new }
+        ensures bytes { ReadGives (told self.old) (told self.new) result buf.new }
+        ensures spent { TellsSpent (told self.old) (told self.new) result }
         ensures count { Counts (failures self.old) (failures self.new) result };
 }
 
-/// A source over any reader, which tells the bytes that the reader tells.
+/// A source over any reader. It tells the bytes that its reads gave, and the bytes that are left if the
+/// reader does.
 #[derive(Drop)]
 pub struct FromRead<R> {
     reader: R,
     failures: u64,
+    given: Trail,
+    // The last read that did not fail gave none.
+    is_spent: bool,
 }
 
 impl<R> Model for FromRead<R> {
-    ghost use Rattle.capture3.specs.Device.{CountedDevice};
+    ghost use Rattle.capture3.specs.Device.{TracedReader};
 
-    ghost Value = { CountedDevice R };
+    ghost Value = { TracedReader R };
 
-    ghost view = { λ s. record { device = s.reader; failures = s.failures } };
+    ghost view = { λ s. record {
+      device = s.reader;
+      failures = s.failures;
+      given = s.given.bytes;
+      is_spent = s.is_spent;
+    } };
 }
 
 impl<R: Read> FromRead<R> {
-    /// A source over the reader, of which no read has failed.
+    /// A source over the reader, which gave nothing yet, and of which no read has failed.
     pub fn new(reader: R) -> FromRead<R>
-        ensures { result ≡ record { device = reader; failures = 0 } }
+        ensures { result ≡ record {
+          device = reader;
+          failures = 0;
+          given = [];
+          is_spent = false;
+        } }
     {
         FromRead {
             reader,
             failures: 0,
+            given: Trail::new(),
+            is_spent: false,
         }
     }
 }
 
 impl<R: Read> Source for FromRead<R> {
-    ghost left = { λ s. R.remaining s.device };
+    ghost told = { λ s. record {
+      left = R.remaining s.device;
+      given = Some s.given;
+      is_spent = s.is_spent;
+    } };
 
     ghost failures = { λ s. s.failures };
 
     fn read_some(&mut self, buf: &mut [u8]) -> Result<usize, DeviceFailed> {
         match self.reader.read(buf) {
-            Ok(count) => Ok(count),
+            Ok(count) => {
+                self.given.note(&buf[..count]);
+                self.is_spent = count == 0;
+                Ok(count)
+            }
             Err(_) => {
                 self.failures = self.failures.saturating_add(1);
                 Err(DeviceFailed)

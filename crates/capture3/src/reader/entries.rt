@@ -1,7 +1,7 @@
 // The entries of a capture, read one by one.
 
 ghost use Rattle.std.specs.Prelude.{◌≡◌, ◌≢◌, ◌≤◌, ◌<◌, ◌+◌, ◌++◌, ◌∷◌, ℕ, List, [], length, vec_len, IsTrue, IsFalse, IsSome, IfErr, IfOk, IfSome, OnErr, OnOk, Err, Ok, None, Some};
-ghost use Rattle.std.specs.Io.KnownBytes.{IsAtEnd, ReadConsumes};
+ghost use Rattle.capture3.specs.Told.{IsSpent, ReadGives};
 ghost use Rattle.record_mark.specs.Taking.{released};
 ghost use Rattle.capture3.specs.declared.reader.entries.Stage.TheVariants as stages;
 ghost use Rattle.capture3.specs.declared.fault.Error.{Error};
@@ -83,7 +83,7 @@ impl<'r, R: Source, S: BuildHasher + Drop> Entries<'r, R, S> {
     /// connection by their xids, and plays no part in the answers.
     pub fn through(alloc: Global, hasher: S, source: &'r mut R, block: Vec<u8>) -> Entries<'r, R, S>
         requires { 0 < vec_len block }
-        ensures stands { StandsFor R.left result [] [] }
+        ensures stands { StandsFor R.told result [] [] }
         ensures unread { source_of result ≡ source.old }
         ensures going { failure_of result ≡ None }
         ensures unlent { last_of result ≡ None }
@@ -121,8 +121,8 @@ impl<'r, R: Source, S: BuildHasher + Drop> Entries<'r, R, S> {
     /// The same error is answered from then on, and nothing is read.
     pub fn next<V: Visit>(&mut self, visitor: &mut V) -> Result<Option<Kind>, Error>
         ensures answers { (given : List ℕ) (handed : List spec.Entry)
-            → StandsFor R.left self.old given handed
-            → HandsOutGiven R.left V.stands self.old self.new visitor.old visitor.new given handed
+            → StandsFor R.told self.old given handed
+            → HandsOutGiven R.told V.stands self.old self.new visitor.old visitor.new given handed
             result }
         ensures end { result ≡ Ok (Some Kind.End) → IsOver self.new }
         ensures over { IsOver self.old → (result ≡ Ok None) × (self.new ≡ self.old) }
@@ -154,7 +154,7 @@ impl<'r, R: Source, S: BuildHasher + Drop> Entries<'r, R, S> {
     pub fn entry(&self) -> Option<EntryRef<'_>>
         ensures kind { kind_lent result ≡ last_of self.now }
         ensures lent { (given : List ℕ) (handed : List spec.Entry) (entry : spec.Entry)
-            → StandsFor R.left self.now given (handed ++ entry ∷ [])
+            → StandsFor R.told self.now given (handed ++ entry ∷ [])
             → IfSome result (λ lent. IsLent lent entry) }
     {
         match self.last {
@@ -167,8 +167,8 @@ impl<'r, R: Source, S: BuildHasher + Drop> Entries<'r, R, S> {
     fn read_on<V: Visit>(&mut self, visitor: &mut V) -> Result<Option<Kind>, Error>
         requires reading { self.old.stage ≡ Stage.Reading }
         ensures turns { (given : List ℕ) (handed : List spec.Entry)
-            → StandsFor R.left self.old given handed
-            → Turns R.left V.stands self.old self.new visitor.old visitor.new given handed result }
+            → StandsFor R.told self.old given handed
+            → Turns R.told V.stands self.old self.new visitor.old visitor.new given handed result }
         ensures end { result ≡ Ok (Some Kind.End) → IsOver self.new }
         ensures last { IfOk result (λ next. IsSome next → last_of self.new ≡ next) }
         ensures fewer { OnOk result (entries_left self.new < entries_left self.old) }
@@ -200,8 +200,8 @@ impl<'r, R: Source, S: BuildHasher + Drop> Entries<'r, R, S> {
         requires reading { self.old.stage ≡ Stage.Reading }
         requires bounded { self.old.judged ≤ most_bytes Two + 1 }
         ensures turns { (given : List ℕ) (handed : List spec.Entry)
-            → StandsFor R.left self.old given handed
-            → Turns R.left V.stands self.old self.new visitor.old visitor.new given handed result }
+            → StandsFor R.told self.old given handed
+            → Turns R.told V.stands self.old self.new visitor.old visitor.new given handed result }
         ensures end { result ≡ Ok (Some Kind.End) → IsOver self.new }
         ensures last { IfOk result (λ next. IsSome next → last_of self.new ≡ next) }
         ensures fewer { IfOk result (λ next. IsSome next
@@ -251,12 +251,12 @@ impl<'r, R: Source, S: BuildHasher + Drop> Entries<'r, R, S> {
         requires judged { self.old.start ≡ self.old.end }
         requires unopened { self.old.parser.container.cursor ≡ None }
         ensures has_read { (given : List ℕ) (handed : List spec.Entry)
-            → StandsFor R.left self.old given handed
-            → HasRead R.left self.old self.new given handed }
+            → StandsFor R.told self.old given handed
+            → HasRead R.told self.old self.new given handed }
         ensures some { IfOk result (λ more. IsTrue more → self.new.start < self.new.end) }
         ensures none { IfOk result (λ more. IsFalse more → self.new.start ≡ self.new.end) }
         ensures end { IfOk result
-            (λ more. IsFalse more → IsAtEnd (R.left (source_of self.new))) }
+            (λ more. IsFalse more → IsSpent (R.told (source_of self.new))) }
         ensures same_parser { self.new.parser ≡ self.old.parser }
         ensures same_count { self.new.judged ≡ self.old.judged }
         ensures reading { OnOk result (self.new.stage ≡ Stage.Reading) }
@@ -287,8 +287,8 @@ impl<'r, R: Source, S: BuildHasher + Drop> Entries<'r, R, S> {
         requires bounded { self.old.judged ≤ most_bytes Two + 1 }
         requires some { self.old.parser.container.cursor ≡ None → self.old.start < self.old.end }
         ensures goes_on { (given : List ℕ) (handed : List spec.Entry)
-            → StandsFor R.left self.old given handed
-            → HandsOutOrGoesOn R.left V.stands self.new visitor.old visitor.new given handed
+            → StandsFor R.told self.old given handed
+            → HandsOutOrGoesOn R.told V.stands self.new visitor.old visitor.new given handed
             result }
         ensures not_end { result ≢ Ok (Some Kind.End) }
         ensures untold { IfOk result (λ next. next ≡ None → visitor.new ≡ visitor.old) }
@@ -327,13 +327,13 @@ impl<'r, R: Source, S: BuildHasher + Drop> Entries<'r, R, S> {
         requires reading { self.old.stage ≡ Stage.Reading }
         requires judged { self.old.start ≡ self.old.end }
         requires unopened { self.old.parser.container.cursor ≡ None }
-        requires end { IsAtEnd (R.left (source_of self.old)) }
+        requires end { IsSpent (R.told (source_of self.old)) }
         ensures ok { (given : List ℕ) (handed : List spec.Entry)
-            → StandsFor R.left self.old given handed
-            → OnOk result (StandsFor R.left self.new given (handed ++ spec.End ∷ [])) }
+            → StandsFor R.told self.old given handed
+            → OnOk result (StandsFor R.told self.new given (handed ++ spec.End ∷ [])) }
         ensures err { (given : List ℕ) (handed : List spec.Entry)
-            → StandsFor R.left self.old given handed
-            → OnErr result (StandsFor R.left self.new given handed) }
+            → StandsFor R.told self.old given handed
+            → OnErr result (StandsFor R.told self.new given handed) }
         ensures last { OnOk result (last_of self.new ≡ Some Kind.End) }
         ensures over { OnOk result (self.new.stage ≡ Stage.Over) }
         ensures failed { IfErr result (λ error. self.new.stage ≡ Stage.Failed error) }
@@ -370,7 +370,7 @@ pub fn new_block(alloc: Global) -> Result<Vec<u8>, AllocError>
 fn read_block<R: Source>(source: &mut R, block: &mut [u8]) -> Result<usize, DeviceFailed>
     requires room { 0 < length block.old }
     ensures within { IfOk result (λ n. n ≤ length block.new) }
-    ensures bytes { ReadConsumes (R.left source.old) (R.left source.new) result block.new }
+    ensures bytes { ReadGives (R.told source.old) (R.told source.new) result block.new }
     ensures count { Counts (R.failures source.old) (R.failures source.new) result }
     ensures fit { AreBytes block.new }
 {

@@ -1,6 +1,7 @@
 -- What the functions within the crate write: a chunk, a stream, a connection.
 use Rattle.std.specs.Prelude.{◌≡◌, ℕ, ◌+◌, ◌*◌, ◌<◌, ◌≤◌, List, [], ◌∷◌, ◌++◌, length, Option, ⊤}
-use Rattle.std.specs.Io.KnownBytes.{Appends, Consumes, IsAtEnd}
+use Rattle.capture3.specs.Told.{Gave, IsSpent, Told}
+use Rattle.std.specs.Io.KnownBytes.{Appends}
 use Rattle.std.specs.List.{concat, flat_map}
 use Rattle.capture3.specs.declared.fault.Error.{Error}
 use Rattle.capture3.specs.SidedChunks.{Streams, size}
@@ -9,9 +10,9 @@ use Rattle.packing3.specs.declared.stream.Extent.{Extent}
 use Rattle.packing3.specs.Packed.{IsPackedConnection, IsPackedStream, full_size}
 use Rattle.packing3.specs.Stopped.{Tells}
 
--- fewer bytes than this were consumed
-abbrev pub ConsumesFewer : (old new : Option (List ℕ)) → ℕ → Type 0
-ConsumesFewer old new n = (bytes : List ℕ) × Consumes old new bytes × (length bytes < n)
+-- fewer bytes than this were given
+abbrev pub GaveFewer : (old new : Told) → ℕ → Type 0
+GaveFewer old new n = (bytes : List ℕ) × Gave old new bytes × (length bytes < n)
 
 -- each chunk is full
 abbrev pub AreFull : List (List ℕ) → Type 0
@@ -33,29 +34,29 @@ abbrev pub GrowsLittle : (room : ℕ) (extent after : Extent) → Type 0
 GrowsLittle room extent after = after.at + 5 * extent.streamed ≤ extent.at + room + 5 * after.streamed
 
 -- A chunk of the next n bytes of the source is written: of fewer than fill it only where no more are left, and no chunk where there are none.
-pub record HasChunk (old_left left old written : Option (List ℕ)) (extent after : Extent) (n : ℕ) : Type 0 where
+pub record HasChunk (old_told told : Told) (old written : Option (List ℕ)) (extent after : Extent) (n : ℕ) : Type 0 where
   pub chunk : List ℕ
-  pub consumed : Consumes old_left left chunk
+  pub consumed : Gave old_told told chunk
   pub many : length chunk ≡ n
   pub within : n ≤ full_size
-  pub ended : n < full_size → IsAtEnd left
+  pub ended : n < full_size → IsSpent told
   pub appended : Appends old written (flat_map chunk_bytes (last_chunk chunk))
   pub grows : Grows extent after (flat_map chunk_bytes (last_chunk chunk)) n
 
 -- full chunks of the source's next bytes are written
-pub record HasFull (old_left left old written : Option (List ℕ)) (extent after : Extent) : Type 0 where
+pub record HasFull (old_told told : Told) (old written : Option (List ℕ)) (extent after : Extent) : Type 0 where
   pub full : List (List ℕ)
   pub each : AreFull full
-  pub consumed : Consumes old_left left (concat full)
+  pub consumed : Gave old_told told (concat full)
   pub appended : Appends old written (flat_map chunk_bytes full)
   pub grows : Grows extent after (flat_map chunk_bytes full) (length (concat full))
 
 -- the source's bytes are written to their end, as a stream
-pub record HasStream (old_left left old written : Option (List ℕ)) (extent after : Extent) : Type 0 where
+pub record HasStream (old_told told : Told) (old written : Option (List ℕ)) (extent after : Extent) : Type 0 where
   pub stream : List ℕ
   pub bytes : List ℕ
-  pub consumed : Consumes old_left left stream
-  pub ended : IsAtEnd left
+  pub consumed : Gave old_told told stream
+  pub ended : IsSpent told
   pub packed : IsPackedStream bytes stream
   pub appended : Appends old written bytes
   pub grows : Grows extent after bytes (length stream)
@@ -69,37 +70,37 @@ pub record IsStopped (old written : Option (List ℕ)) (bytes : List ℕ) (at to
   pub told : Tells error (at + length front) next total
 
 -- a front is written of the chunk of what was read
-pub record StopsInChunk (old_left left old written : Option (List ℕ)) (extent : Extent) (error : Error) : Type 0 where
+pub record StopsInChunk (old_told told : Told) (old written : Option (List ℕ)) (extent : Extent) (error : Error) : Type 0 where
   pub chunk : List ℕ
-  pub consumed : Consumes old_left left chunk
+  pub consumed : Gave old_told told chunk
   pub within : length chunk ≤ full_size
   pub stopped : IsStopped old written (flat_map chunk_bytes (last_chunk chunk)) extent.at (extent.streamed + length chunk) error
 
 -- a front is written of the stream of what was read
-pub record StopsInStream (old_left left old written : Option (List ℕ)) (extent : Extent) (error : Error) : Type 0 where
+pub record StopsInStream (old_told told : Told) (old written : Option (List ℕ)) (extent : Extent) (error : Error) : Type 0 where
   pub stream : List ℕ
   pub bytes : List ℕ
-  pub consumed : Consumes old_left left stream
+  pub consumed : Gave old_told told stream
   pub packed : IsPackedStream bytes stream
   pub stopped : IsStopped old written bytes extent.at (extent.streamed + length stream) error
 
 -- the word 1 and both sources' bytes to their ends are written, as a connection
-pub record HasConnection (old_client client old_server server old written : Option (List ℕ)) (extent after : Extent) : Type 0 where
+pub record HasConnection (old_client client old_server server : Told) (old written : Option (List ℕ)) (extent after : Extent) : Type 0 where
   pub streams : Streams
   pub bytes : List ℕ
-  pub from_client : Consumes old_client client streams.client
-  pub from_server : Consumes old_server server streams.server
-  pub client_ended : IsAtEnd client
-  pub server_ended : IsAtEnd server
+  pub from_client : Gave old_client client streams.client
+  pub from_server : Gave old_server server streams.server
+  pub client_ended : IsSpent client
+  pub server_ended : IsSpent server
   pub packed : IsPackedConnection bytes streams
   pub appended : Appends old written bytes
   pub grows : Grows extent after bytes (size streams)
 
 -- a front is written of the connection of what was read
-pub record StopsInConnection (old_client client old_server server old written : Option (List ℕ)) (extent : Extent) (error : Error) : Type 0 where
+pub record StopsInConnection (old_client client old_server server : Told) (old written : Option (List ℕ)) (extent : Extent) (error : Error) : Type 0 where
   pub streams : Streams
   pub bytes : List ℕ
-  pub from_client : Consumes old_client client streams.client
-  pub from_server : Consumes old_server server streams.server
+  pub from_client : Gave old_client client streams.client
+  pub from_server : Gave old_server server streams.server
   pub packed : IsPackedConnection bytes streams
   pub stopped : IsStopped old written bytes extent.at (extent.streamed + size streams) error

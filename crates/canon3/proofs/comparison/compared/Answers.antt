@@ -1,25 +1,30 @@
 use Rattle.std.proofs.Common.{[]}
+use Rattle.capture3.specs.Entries.{source_of}
 use Rattle.capture3.proofs.PassedOn.{error_is}
 use Rattle.canon3.proofs.ComparisonLemmas.{fresh}
 use Rattle.canon3.proofs.comparison.compared.Goals as goal
 
-pub returns-clause-decides : goal.returns-clause-decides
-returns-clause-decides g c file other tells other_tells =
-    c.conclude.ensures.decides file other (c.in_ok-finding.ensures.found file other (record {
+pub returns-clause-gave : goal.returns-clause-gave
+returns-clause-gave g c =
+    let start = g.A.Source.told (source_of c.args.first.now) in
+    let other_start = g.B.Source.told (source_of c.args.second.now) in
+    c.conclude.ensures.gave start other_start (c.in_ok-finding.ensures.found start other_start (record {
       a = [];
       b = [];
-      first_given = fresh g.A.Source.left file c.args.first.now tells c.requires.fresh_first;
-      second_given = fresh g.B.Source.left other c.args.second.now other_tells c.requires.fresh_second;
+      first_given = fresh g.A.Source.told c.args.first.now c.requires.fresh_first;
+      second_given = fresh g.B.Source.told c.args.second.now c.requires.fresh_second;
       compared = c.requires.new;
     }))
 
-pub returns-in_err-finding-clause-decides : goal.returns-in_err-finding-clause-decides
-returns-in_err-finding-clause-decides g c file other tells other_tells =
-    rw (error_is _ _ c.from_residual.ensures) (c.in_err-finding.ensures.found file other (record {
+pub returns-in_err-finding-clause-gave : goal.returns-in_err-finding-clause-gave
+returns-in_err-finding-clause-gave g c =
+    let start = g.A.Source.told (source_of c.args.first.now) in
+    let other_start = g.B.Source.told (source_of c.args.second.now) in
+    rw (error_is _ _ c.from_residual.ensures) (c.in_err-finding.ensures.found start other_start (record {
       a = [];
       b = [];
-      first_given = fresh g.A.Source.left file c.args.first.now tells c.requires.fresh_first;
-      second_given = fresh g.B.Source.left other c.args.second.now other_tells c.requires.fresh_second;
+      first_given = fresh g.A.Source.told c.args.first.now c.requires.fresh_first;
+      second_given = fresh g.B.Source.told c.args.second.now c.requires.fresh_second;
       compared = c.requires.new;
     }))
 

@@ -6,44 +6,48 @@ use Rattle.canon3.specs.machinery.Comparison.{IsFound}
 use Rattle.canon3.proofs.ComparisonLemmas.{ended_decides, first_of, first_stops, given_on, parted_decides}
 use Rattle.canon3.proofs.comparison.conclude.Goals as goal
 
-pub returns-in-Ended-clause-decides : goal.returns-in-Ended-clause-decides
-returns-in-Ended-clause-decides g c file other found =
-    let left = g.A.Source.left in
-    let left_other = g.B.Source.left in
+pub returns-in-Ended-clause-gave : goal.returns-in-Ended-clause-gave
+returns-in-Ended-clause-gave g c start other_start found =
+    let left = g.A.Source.told in
+    let left_other = g.B.Source.told in
     let first = c.args.first.now in
     let second = c.args.second.now in
-    let h = subst (IsFound left left_other file other first second) c.in-Ended.is found in
-    ended_decides left left_other file other first second h c.read_second.result (c.read_second.ensures.out other h.b h.second_given)
+    let now = left (source_of c.read_out.new.entries) in
+    let other_now = left_other (source_of c.read_second.new.entries) in
+    let h = subst (IsFound left left_other start other_start first second) c.in-Ended.is found in
+    ended_decides left left_other start other_start first second now other_now h c.read_second.result (c.in-Ok.ensures.out start h.a (given_on left start first h.a h.first_given)) (c.read_second.ensures.out other_start h.b h.second_given)
 
 pub returns-in-Ended-clause-read_first : goal.returns-in-Ended-clause-read_first
 returns-in-Ended-clause-read_first g c =
     let old = g.A.Source.failures (source_of c.args.first.now) in
     subst (λ n. CountsReadingOf First old n c.read_second.result) (sym c.in-Ok.ensures.read) (c.read_second.ensures.never_first old)
 
-pub returns-in-Parted-clause-decides : goal.returns-in-Parted-clause-decides
-returns-in-Parted-clause-decides g c file other found =
-    let left = g.A.Source.left in
-    let left_other = g.B.Source.left in
+pub returns-in-Parted-clause-gave : goal.returns-in-Parted-clause-gave
+returns-in-Parted-clause-gave g c start other_start found =
+    let left = g.A.Source.told in
+    let left_other = g.B.Source.told in
     let first = c.args.first.now in
     let second = c.args.second.now in
-    let h = subst (IsFound left left_other file other first second) c.in-Parted.is found in
-    parted_decides left left_other file other first second c.in-Parted.place h c.read_second-in-Parted.result (c.in-Ok.ensures.out file (h.a ++ h.e ∷ []) (given_on left file first (h.a ++ h.e ∷ []) h.first_given))
-    (c.read_second-in-Parted.ensures.out other (h.b ++ h.f ∷ []) h.second_given)
+    let now = left (source_of c.read_out.new.entries) in
+    let other_now = left_other (source_of c.read_second-in-Parted.new.entries) in
+    let h = subst (IsFound left left_other start other_start first second) c.in-Parted.is found in
+    parted_decides left left_other start other_start first second now other_now c.in-Parted.place h c.read_second-in-Parted.result (c.in-Ok.ensures.out start (h.a ++ h.e ∷ []) (given_on left start first (h.a ++ h.e ∷ []) h.first_given))
+    (c.read_second-in-Parted.ensures.out other_start (h.b ++ h.f ∷ []) h.second_given)
 
 pub returns-in-Parted-clause-read_first : goal.returns-in-Parted-clause-read_first
 returns-in-Parted-clause-read_first g c =
     let old = g.A.Source.failures (source_of c.args.first.now) in
     subst (λ n. CountsReadingOf First old n c.read_second-in-Parted.result) (sym c.in-Ok.ensures.read) (c.read_second-in-Parted.ensures.never_first old)
 
-pub returns-in-Refused-clause-decides : goal.returns-in-Refused-clause-decides
-returns-in-Refused-clause-decides g c file other found =
-    let left = g.A.Source.left in
-    let h = subst (IsFound left g.B.Source.left file other c.args.first.now c.args.second.now) c.in-Refused.is found in
-    let (more, typed) = c.in-Ok.ensures.out file h.0.0 (given_on left file c.args.first.now h.0.0 h.0.1) in
-    ((h.0.0 ++ more, typed), h.1)
+pub returns-in-Refused-clause-gave : goal.returns-in-Refused-clause-gave
+returns-in-Refused-clause-gave g c start other_start found =
+    let left = g.A.Source.told in
+    let h = subst (IsFound left g.B.Source.told start other_start c.args.first.now c.args.second.now) c.in-Refused.is found in
+    let (more, all) = c.in-Ok.ensures.out start h.0.0 (given_on left start c.args.first.now h.0.0 h.0.1) in
+    ((h.0.0 ++ more, all), h.1)
 
-pub returns-in-Err-clause-decides : goal.returns-in-Err-clause-decides
-returns-in-Err-clause-decides g c file other found =
-    let left = g.A.Source.left in
-    let (a, given) = first_of left g.B.Source.left file other c.args.first.now c.args.second.now c.args.finding found in
-    first_stops file other c.in-Err.error (c.in-Err.ensures.out file a (given_on left file c.args.first.now a given))
+pub returns-in-Err-clause-gave : goal.returns-in-Err-clause-gave
+returns-in-Err-clause-gave g c start other_start found =
+    let left = g.A.Source.told in
+    let (a, given) = first_of left g.B.Source.told start other_start c.args.first.now c.args.second.now c.args.finding found in
+    first_stops start (left (source_of c.read_out.new.entries)) other_start (g.B.Source.told (source_of c.args.second.now)) c.in-Err.error (c.in-Err.ensures.out start a (given_on left start c.args.first.now a given))

@@ -1,7 +1,7 @@
 use Rattle.std.proofs.Common.{rules, ap, sym, ◌≡◌, ◌∙◌, ◌≤◌, ◌+◌, ℕ, List, ◌++◌, length, take}
 use Rattle.std.proofs.lemmas.List.{take-append-le, length-take-le}
 use Rattle.std.proofs.Math.Seq.{take-append-add}
-use Rattle.std.proofs.KnownBytes.{Consumes-trans}
+use Rattle.capture3.proofs.ToldLemmas.{gave_both}
 use Rattle.packing3.proofs.block.fill.Goals as goal
 
 -- a front of what stands after the first bytes
@@ -12,7 +12,7 @@ front_of a n xs ys rest within few =
 pub loop-filled-preserved : goal.loop-filled-preserved
 loop-filled-preserved g c =
     let inv = c.loop-filled.invariant in
-    let got = Consumes-trans (g.R.Source.left c.args.source.now) (g.R.Source.left c.loop-filled.source) (g.R.Source.left c.read_some.new.self) (take c.loop-filled.filled c.loop-filled.block) (take c.in_ok-count.count c.read_some.new.buf) inv.bytes c.in_ok-count.ensures.bytes.0 in
+    let got = gave_both (g.R.Source.told c.args.source.now) (g.R.Source.told c.loop-filled.source) (g.R.Source.told c.read_some.new.self) (take c.loop-filled.filled c.loop-filled.block) (take c.in_ok-count.count c.read_some.new.buf) inv.bytes c.in_ok-count.ensures.bytes.0 in
     record {
       within = search rules;
       size = search rules;

@@ -1,12 +1,12 @@
 use Rattle.std.proofs.Common.{◌≡◌, ◌≤◌, ◌-◌, length, take}
-use Rattle.std.specs.Io.KnownBytes.{Consumes}
+use Rattle.capture3.specs.Told.{Gave}
 use Rattle.packing3.proofs.block.fill.Given as goal
 
 abbrev pub invariant-loop-filled : goal.invariant-loop-filled
 invariant-loop-filled g l = record {
   within : l.filled ≤ length l.block;
   size : length l.block ≡ length l.fn.block;
-  bytes : Consumes (g.R.Source.left l.fn.source) (g.R.Source.left l.source) (take l.filled l.block);
+  bytes : Gave (g.R.Source.told l.fn.source) (g.R.Source.told l.source) (take l.filled l.block);
   count : g.R.Source.failures l.source ≡ g.R.Source.failures l.fn.source;
 }
 

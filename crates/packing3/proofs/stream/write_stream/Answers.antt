@@ -9,7 +9,7 @@ use Rattle.packing3.proofs.stream.write_stream.Goals as goal
 pub returns-in_err-count-clause-err : goal.returns-in_err-count-clause-err
 returns-in_err-count-clause-err g c =
     rw (error_is _ _ c.from_residual.ensures)
-    (stops_in_chunk (g.R.Source.left c.args.source.now) (g.R.Source.left c.loop-count.source) (g.R.Source.left c.write_chunk.new.source) (g.W.Sink.written c.args.sink.now) (g.W.Sink.written c.loop-count.sink) (g.W.Sink.written c.write_chunk.new.sink) c.args.extent.now c.loop-count.extent _ c.loop-count.invariant.full c.in_err-count.ensures.err)
+    (stops_in_chunk (g.R.Source.told c.args.source.now) (g.R.Source.told c.loop-count.source) (g.R.Source.told c.write_chunk.new.source) (g.W.Sink.written c.args.sink.now) (g.W.Sink.written c.loop-count.sink) (g.W.Sink.written c.write_chunk.new.sink) c.args.extent.now c.loop-count.extent _ c.loop-count.invariant.full c.in_err-count.ensures.err)
 
 pub loop-count-preserved : goal.loop-count-preserved
 loop-count-preserved g c =
@@ -19,7 +19,7 @@ loop-count-preserved g c =
       block = search rules;
       room = c.in_ok-count.ensures.room;
       small = omega (arith, inv.small, c.in_ok-count.ensures.small);
-      full = more_full (g.R.Source.left c.args.source.now) (g.R.Source.left c.loop-count.source) (g.R.Source.left c.write_chunk.new.source) (g.W.Sink.written c.args.sink.now) (g.W.Sink.written c.loop-count.sink) (g.W.Sink.written c.write_chunk.new.sink) c.args.extent.now c.loop-count.extent c.write_chunk.new.extent c.in_ok-count.count inv.full c.in_ok-count.ensures.ok whole;
+      full = more_full (g.R.Source.told c.args.source.now) (g.R.Source.told c.loop-count.source) (g.R.Source.told c.write_chunk.new.source) (g.W.Sink.written c.args.sink.now) (g.W.Sink.written c.loop-count.sink) (g.W.Sink.written c.write_chunk.new.sink) c.args.extent.now c.loop-count.extent c.write_chunk.new.extent c.in_ok-count.count inv.full c.in_ok-count.ensures.ok whole;
       read = c.in_ok-count.ensures.read ∙ inv.read;
       write = c.in_ok-count.ensures.write ∙ inv.write;
     }
@@ -28,10 +28,10 @@ pub returns-in_err-write-clause-err : goal.returns-in_err-write-clause-err
 returns-in_err-write-clause-err g c =
     let front = subst (AppendsFront (g.W.Sink.written c.write_chunk.new.sink) (g.W.Sink.written c.write.new.sink)) c.pack_chunk.ensures c.in_err-write.ensures.err in
     rw (error_is _ _ c.from_residual-in_err-write.ensures)
-    (stops_at_end (g.R.Source.left c.args.source.now) (g.R.Source.left c.loop-count.source) (g.R.Source.left c.write_chunk.new.source) (g.W.Sink.written c.args.sink.now) (g.W.Sink.written c.loop-count.sink) (g.W.Sink.written c.write_chunk.new.sink) (g.W.Sink.written c.write.new.sink) c.args.extent.now c.loop-count.extent c.write_chunk.new.extent c.in_ok-count.count _ c.loop-count.invariant.full c.in_ok-count.ensures.ok c.in_err-write.ensures.error front)
+    (stops_at_end (g.R.Source.told c.args.source.now) (g.R.Source.told c.loop-count.source) (g.R.Source.told c.write_chunk.new.source) (g.W.Sink.written c.args.sink.now) (g.W.Sink.written c.loop-count.sink) (g.W.Sink.written c.write_chunk.new.sink) (g.W.Sink.written c.write.new.sink) c.args.extent.now c.loop-count.extent c.write_chunk.new.extent c.in_ok-count.count _ c.loop-count.invariant.full c.in_ok-count.ensures.ok c.in_err-write.ensures.error front)
 
 pub returns-clause-ok : goal.returns-clause-ok
 returns-clause-ok g c =
     let less : c.in_ok-count.count < full_size = search rules in
     let word = subst (Appends (g.W.Sink.written c.write_chunk.new.sink) (g.W.Sink.written c.write.new.sink)) c.pack_chunk.ensures c.in_ok-write.ensures.ok in
-    whole_stream (g.R.Source.left c.args.source.now) (g.R.Source.left c.loop-count.source) (g.R.Source.left c.write_chunk.new.source) (g.W.Sink.written c.args.sink.now) (g.W.Sink.written c.loop-count.sink) (g.W.Sink.written c.write_chunk.new.sink) (g.W.Sink.written c.write.new.sink) c.args.extent.now c.loop-count.extent c.write_chunk.new.extent _ c.in_ok-count.count c.loop-count.invariant.full c.in_ok-count.ensures.ok less word (one_word 0 c.write_chunk.new.extent _ refl refl)
+    whole_stream (g.R.Source.told c.args.source.now) (g.R.Source.told c.loop-count.source) (g.R.Source.told c.write_chunk.new.source) (g.W.Sink.written c.args.sink.now) (g.W.Sink.written c.loop-count.sink) (g.W.Sink.written c.write_chunk.new.sink) (g.W.Sink.written c.write.new.sink) c.args.extent.now c.loop-count.extent c.write_chunk.new.extent _ c.in_ok-count.count c.loop-count.invariant.full c.in_ok-count.ensures.ok less word (one_word 0 c.write_chunk.new.extent _ refl refl)

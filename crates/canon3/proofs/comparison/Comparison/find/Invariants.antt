@@ -1,4 +1,5 @@
-use Rattle.std.proofs.Common.{◌≡◌, ◌≤◌, ◌+◌, List, ℕ, None}
+use Rattle.std.proofs.Common.{◌≡◌, ◌≤◌, ◌+◌, None}
+use Rattle.capture3.specs.Told.{Told}
 use Rattle.capture3.specs.Entries.{failure_of, loan_of, source_of}
 use Rattle.capture3.specs.machinery.Entries.{entries_left}
 use Rattle.capture3.specs.Laws.{most_entries}
@@ -11,7 +12,7 @@ invariant-loop-finding g l = record {
   going_first : failure_of l.first ≡ None;
   going_second : failure_of l.second ≡ None;
   room : steps_of l.self.progress + entries_left l.first ≤ most_entries;
-  under_way : (file other : List ℕ) → IsComparing g.A.Source.left g.B.Source.left file other l.fn.first l.fn.second l.fn.self → IsComparing g.A.Source.left g.B.Source.left file other l.first l.second l.self;
+  under_way : (start other_start : Told) → IsComparing g.A.Source.told g.B.Source.told start other_start l.fn.first l.fn.second l.fn.self → IsComparing g.A.Source.told g.B.Source.told start other_start l.first l.second l.self;
   read_first : g.A.Source.failures (source_of l.first) ≡ g.A.Source.failures (source_of l.fn.first);
   read_second : g.B.Source.failures (source_of l.second) ≡ g.B.Source.failures (source_of l.fn.second);
   same_first : loan_of l.first ≡ loan_of l.fn.first;

@@ -1,4 +1,5 @@
 use Rattle.std.proofs.Common.{◌≡◌, ◌≤◌, ◌+◌, List, ℕ, None, Option}
+use Rattle.capture3.specs.Told.{Told}
 use Rattle.capture3.specs.Entries.{failure_of, loan_of, source_of}
 use Rattle.capture3.specs.machinery.Entries.{entries_left}
 use Rattle.capture3.specs.Laws.{most_entries}
@@ -10,7 +11,7 @@ abbrev pub invariant-loop : goal.invariant-loop
 invariant-loop g l = record {
   going : failure_of l.entries ≡ None;
   room : passed_steps l.self.passed + entries_left l.entries ≤ most_entries;
-  under_way : (first : Option (List ℕ)) → IsTallying g.R.Source.left first l.fn.entries l.fn.self → IsTallying g.R.Source.left first l.entries l.self;
+  under_way : (first : Told) → IsTallying g.R.Source.told first l.fn.entries l.fn.self → IsTallying g.R.Source.told first l.entries l.self;
   read : g.R.Source.failures (source_of l.entries) ≡ g.R.Source.failures (source_of l.fn.entries);
   same_reference : loan_of l.entries ≡ loan_of l.fn.entries;
 }

@@ -1,5 +1,5 @@
 use Rattle.std.proofs.Common.{List, Ok, [], ◌∷◌, ◌++◌, subst, sym}
-use Rattle.std.proofs.KnownBytes.{Consumes-trans}
+use Rattle.capture3.proofs.ToldLemmas.{gave_both}
 use Rattle.xdr3.specs.Item.{Item}
 use Rattle.xdr3.specs.Visit.{Adds}
 use Rattle.capture3.specs.Entries.{source_of}
@@ -14,11 +14,11 @@ pub returns-in-Some-clause-goes_on : goal.returns-in-Some-clause-goes_on
 unfolding Adds
 returns-in-Some-clause-goes_on g c first u =
     let a = c.in_ok-kind.ensures.answers u.given u.handed u.stands in
-    let (one, is, reached, adds, stands) = subst (λ next. HandsOut g.R.Source.left GathersAll c.next.new.self c.args.self.now.handles c.next.new.visitor (u.given ++ a.more) u.handed (Ok next)) c.in-Some.is a.hands_out in
+    let (one, is, reached, adds, stands) = subst (λ next. HandsOut g.R.Source.told GathersAll c.next.new.self c.args.self.now.handles c.next.new.visitor (u.given ++ a.more) u.handed (Ok next)) c.in-Some.is a.hands_out in
     record {
       given = u.given ++ a.more;
       handed = u.handed ++ one ∷ [];
-      consumed = Consumes-trans first (g.R.Source.left (source_of c.args.entries.now)) (g.R.Source.left (source_of c.next.new.self)) u.given a.more u.consumed a.consumed;
+      consumed = gave_both first (g.R.Source.told (source_of c.args.entries.now)) (g.R.Source.told (source_of c.next.new.self)) u.given a.more u.consumed a.consumed;
       stands = stands;
       tallied = record {
         passed = c.add.ensures.passed u.handed one is u.tallied.passed;
@@ -32,6 +32,22 @@ returns-in_err-kind-clause-goes_on g c first u =
     rw (error_is _ _ c.from_residual.ensures) (record {
       given = u.given ++ a.more;
       handed = u.handed;
-      consumed = Consumes-trans first (g.R.Source.left (source_of c.args.entries.now)) (g.R.Source.left (source_of c.next.new.self)) u.given a.more u.consumed a.consumed;
+      consumed = gave_both first (g.R.Source.told (source_of c.args.entries.now)) (g.R.Source.told (source_of c.next.new.self)) u.given a.more u.consumed a.consumed;
       met = a.hands_out.0;
     })
+
+pub returns-in-None-clause-goes_on : goal.returns-in-None-clause-goes_on
+returns-in-None-clause-goes_on g c first u =
+    let a = c.in_ok-kind.ensures.answers u.given u.handed u.stands in
+    let (typed, ended, stands) = subst (λ next. HandsOut g.R.Source.told GathersAll c.next.new.self c.args.self.now.handles c.next.new.visitor (u.given ++ a.more) u.handed (Ok next)) c.in-None.is a.hands_out in
+    record {
+      given = u.given ++ a.more;
+      handed = u.handed;
+      consumed = gave_both first (g.R.Source.told (source_of c.args.entries.now)) (g.R.Source.told (source_of c.next.new.self)) u.given a.more u.consumed a.consumed;
+      ended = ended;
+      typed = typed;
+      tallied = record {
+        passed = u.tallied.passed;
+        handles = rw (c.in_ok-kind.ensures.untold c.in-None.is) u.tallied.handles;
+      };
+    }

@@ -20,14 +20,14 @@ returns-in-Ok-clause-goes_on g c given handed s =
     let inner = length-take (c.args.self.now.end - c.args.self.now.start) (drop c.args.self.now.start c.deref.result.now) in
     let fits : c.args.self.now.start + c.in-Ok.count ≤ c.args.self.now.end = omega (arith, c.in-Ok.ensures.within, inner, c.args.self.now.ordered) in
     let within : c.args.self.now.end ≤ length c.args.self.now.block.items = omega (arith, c.args.self.now.within, c.deref.ensures.len, ap length c.deref.ensures.value) in
-    judged_on g.R.Source.left g.V.Visit.stands c.args.visitor.now c.next.new.visitor c.args.self.now _ c.in-Ok.count given handed c.in-Ok.kind c.requires.reading c.requires.reading refl refl refl refl fits within c.in-Ok.ensures.room s
+    judged_on g.R.Source.told g.V.Visit.stands c.args.visitor.now c.next.new.visitor c.args.self.now _ c.in-Ok.count given handed c.in-Ok.kind c.requires.reading c.requires.reading refl refl refl refl fits within c.in-Ok.ensures.room s
     (λ judged at. subst
     (λ (items : List ℕ). GoesTo g.V.Visit.stands c.args.visitor.now c.next.new.visitor c.in-Ok.kind c.next.new.self.container c.next.new.self.calls (judged ++ take c.in-Ok.count (slice_range items c.args.self.now.start c.args.self.now.end)) handed)
     c.deref.ensures.value (c.in-Ok.ensures.machine judged handed at))
 
 pub returns-in-Err-clause-goes_on : goal.returns-in-Err-clause-goes_on
 returns-in-Err-clause-goes_on g c given handed s =
-    judged_failed g.R.Source.left c.args.self.now _ c.in-Err.error given handed c.requires.reading refl refl refl s
+    judged_failed g.R.Source.told c.args.self.now _ c.in-Err.error given handed c.requires.reading refl refl refl s
     (λ judged at. subst (λ (items : List ℕ). FailsAt (judged ++ slice_range items c.args.self.now.start c.args.self.now.end) handed c.in-Err.error) c.deref.ensures.value (c.in-Err.ensures.fault judged handed at))
 
 pub returns-in-Err-clause-never_reads : goal.returns-in-Err-clause-never_reads

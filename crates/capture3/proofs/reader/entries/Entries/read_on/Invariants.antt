@@ -10,7 +10,7 @@ use Rattle.capture3.proofs.reader.entries.Entries.read_on.Given as goal
 abbrev pub invariant-loop-self : goal.invariant-loop-self
 invariant-loop-self g l = record {
   reading : l.self.stage ≡ Reading;
-  has_read : (given : List ℕ) (handed : List Entry) → StandsFor g.R.Source.left l.initial.self given handed → HasRead g.R.Source.left l.initial.self l.self given handed;
+  has_read : (given : List ℕ) (handed : List Entry) → StandsFor g.R.Source.told l.initial.self given handed → HasRead g.R.Source.told l.initial.self l.self given handed;
   untold : l.visitor ≡ l.initial.visitor;
   fewer : entries_left l.self ≤ entries_left l.initial.self;
   read : g.R.Source.failures l.self.source.now ≡ g.R.Source.failures l.initial.self.source.now;

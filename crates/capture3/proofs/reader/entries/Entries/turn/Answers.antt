@@ -7,7 +7,7 @@ use Rattle.capture3.proofs.reader.entries.Entries.turn.Goals as goal
 
 pub returns-clause-turns : goal.returns-clause-turns
 returns-clause-turns g c given handed s =
-    let left = g.R.Source.left in
+    let left = g.R.Source.told in
     let read : HasRead left c.args.self.now c.if-is_used_up.self given handed =
     elim c.if-is_used_up.branch [
       | then-is_used_up+in-Ok-true w ↦ subst (λ e. HasRead left c.args.self.now e given handed) (sym w.self-is) (w.refill.ensures.has_read given handed s)
@@ -17,6 +17,6 @@ returns-clause-turns g c given handed s =
 
 pub returns-in-Ok-clause-turns : goal.returns-in-Ok-clause-turns
 returns-in-Ok-clause-turns g c given handed s =
-    let left = g.R.Source.left in
+    let left = g.R.Source.told in
     turned left g.V.Visit.stands c.args.visitor.now c.args.visitor.now c.args.self.now c.refill.new.self c.finish.new.self given handed (Ok (Some kinds.End)) (c.refill.ensures.has_read given handed s)
     (λ so_far out at. ended_on left g.V.Visit.stands c.args.visitor.now c.finish.new.self so_far out (c.in-Ok.ensures.ok so_far out at)) c.finish.ensures.unread

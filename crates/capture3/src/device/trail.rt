@@ -1,0 +1,34 @@
+// The bytes that calls of a device moved, which only clauses read.
+
+ghost use Rattle.std.specs.Prelude.{◌≡◌, ℕ, List, [], ◌++◌};
+ghost use Rattle.std.specs.Borrow.{ftrue};
+
+use std::marker::{Model, PhantomData};
+
+/// The bytes that the calls of a device moved, one call after another. It takes no room, and only clauses
+/// read it: no memory holds them, so what is noted is as true as the code that notes it.
+#[derive(Drop)]
+pub struct Trail {
+    marker: PhantomData<u8>,
+    pub ghost bytes: { List ℕ },
+}
+
+impl Model for Trail {
+    ghost also_owns = { λ _. ftrue };
+}
+
+impl Trail {
+    /// No byte has been moved yet.
+    pub fn new() -> Trail
+        ensures { result.bytes ≡ [] }
+    {
+        Trail {
+            marker: PhantomData,
+        }
+    }
+
+    /// These bytes were moved. Nothing is done when it runs.
+    pub fn note(&mut self, _piece: &[u8])
+        ensures { self.new.bytes ≡ self.old.bytes ++ _piece.now }
+    {}
+}

@@ -1,0 +1,2 @@
+-- Lemmas of what came of files.
+pub mod FilesLemmas
