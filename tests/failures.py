@@ -18,7 +18,7 @@ import outputs
 import tracing
 from captures import Runs
 from outputs import AS_IT_WAS, PACKED, SETTINGS, Setting
-from running import try_all, words_of
+from running import command_of, try_all, words_of
 from texts import fragment, mixed
 from tracing import Fault
 from traffic import NFS, NFSACL, Names, Traffic, call, in_version_2, messages, streams_of, success
@@ -28,9 +28,12 @@ OUT_OF_MEMORY, READ_FAILED, WRITE_FAILED = 'out of memory\n', 'read failed\n', '
 BLOCK = 65_536
 # The last growths of a run are those of its line, which is not printed where one of them is refused.
 GROWTHS_OF_THE_LINE = 6
-COMMANDS = ['check a', 'show a', 'canon a out', 'canon a /dev/stdout', 'same a a', 'pack out a a', 'pack /dev/stdout a a']
+COMMANDS = ['check a', 'show a', 'canon a out', 'canon a /dev/stdout', 'same a a', 'pack out a a', 'pack /dev/stdout a a',
+            'nfs3mask a out', 'nfs3mask a /dev/stdout owners=number']
 OTHER_LINES = ['check absent', 'same a absent', 'canon a ./a', 'canon a new', 'pack new a a',
-               'pack out a', 'check', 'shou a', '--help']
+               'pack out a', 'check', 'shou a', '--help', 'nfs3mask a new', 'nfs3mask a ./a', 'nfs3mask a out times', 'nfs3mask a']
+# The commands that read one capture and write another.
+REWRITING = ('canon', 'nfs3mask')
 # Examples, and how many bytes of each the system gives at once where reads are to fail.
 GIVEN_AT_ONCE = {'getattr': 3, 'two_connections': 7, 'bad_bool': 1, 'bad_server_record': 5, 'bad_file_length': 9,
                  'every_procedure': 997, 'interleaved': 101}
@@ -53,7 +56,7 @@ class Place(Runs):
         self.write('out', AS_IT_WAS)
         if os.path.exists(os.path.join(self.folder, 'new')):
             os.remove(os.path.join(self.folder, 'new'))
-        return tracing.run(self.program, line.split(), self.folder, fault, pieces)
+        return tracing.run(*command_of(self.program, line.split()), self.folder, fault, pieces)
 
     def files(self):
         return {name: self.read(name) for name in os.listdir(self.folder)}
@@ -90,7 +93,7 @@ def growths(line, capture, place):
     plain = place.fail(line, Fault('growth', 0))
     written, last = place.files(), plain.counts['growth']
     harmless = 0
-    place.want('growths of ' + line, last > 40, True)
+    place.want('growths of ' + line, last > 20, True)
     for number in range(1, last + 1):
         answer = place.fail(line, Fault('growth', number))
         what = '%s without its growth %d of %d' % (line, number, last)
@@ -146,7 +149,7 @@ def before_the_read(place, line, count, plain, answer):
         return ''
     if count >= len(place.capture):
         # That nothing stands after the last word 0 is not known yet, so its like is not written.
-        return plain.out[:-4] if line.startswith('canon') and plain.status == 0 else plain.out
+        return plain.out[:-4] if line.startswith(REWRITING) and plain.status == 0 else plain.out
     place.write('a', place.capture[:count])
     out = place.fail(line).out
     place.write('a', place.capture)
@@ -216,8 +219,8 @@ def calls(setting: Setting, place: Place) -> None:
     plain, streamed = outputs.run(program, folder, setting)
     after = outputs.found_in(folder)
     place.want(setting.line, (plain.status, plain.error.startswith('ok ') or plain.out.startswith('ok ')),
-               (setting.status, setting.status == 0 and setting.line.startswith('canon')))
-    whole = PACKED if setting.line.startswith('pack') else form_of(place, capture)
+               (setting.status, setting.status == 0 and setting.line.startswith(REWRITING)))
+    whole = PACKED if setting.line.startswith('pack') else form_of(place, setting, capture)
     place.want('what was written', written(setting, after, streamed), expected(setting, whole))
     for kind, errors in FAILING.items():
         for number in range(1, plain.counts[kind] + 1):
@@ -228,10 +231,9 @@ def calls(setting: Setting, place: Place) -> None:
                 old_or_whole(place, what, setting, (answer, outputs.found_in(folder), through), (plain, before, after, streamed))
 
 
-def form_of(place, capture):
+def form_of(place, setting, capture):
     place.write('a', capture)
-    place.write('new', b'')
-    tracing.run(place.program, ['canon', 'a', 'new'], place.folder)
+    place.fail(setting.line.split()[0] + ' a new')
     return place.read('new')
 
 
@@ -288,15 +290,15 @@ def number_of_reads(make, place):
     for size in (100, BLOCK - 1, BLOCK, BLOCK + 1, 5 * BLOCK, 1_000_000):
         most = -(-size // BLOCK) + 1
         place.put(of_size(size))
-        for line, files in (('check a', 1), ('show a', 1), ('canon a new', 1), ('same a a', 2), ('pack new a a', 2)):
+        for line, files in (('check a', 1), ('show a', 1), ('canon a new', 1), ('nfs3mask a new', 1), ('same a a', 2), ('pack new a a', 2)):
             answer = place.fail(line)
             place.want('%s of %d bytes' % (line, size), (answer.status, answer.counts['read']), (0, files * most))
         place.put(of_size(size) + bytes(3 * BLOCK))
-        for line in ('check a', 'show a', 'canon a out'):
+        for line in ('check a', 'show a', 'canon a out', 'nfs3mask a out'):
             answer = place.fail(line)
             place.ended(line, answer, 2, answer.out if line == 'show a' else '', 'file %d: AfterEnd\n' % size)
             place.want('%s, refused at %d' % (line, size), answer.counts['read'], size // BLOCK + 1)
-    for line in ('check /dev/zero', 'show /dev/zero', 'canon /dev/zero out'):
+    for line in ('check /dev/zero', 'show /dev/zero', 'canon /dev/zero out', 'nfs3mask /dev/zero out'):
         answer = place.fail(line)
         place.ended(line, answer, 2, '', 'file 0: BadMagic\n')
         place.want(line, answer.counts['read'], 1)
@@ -310,7 +312,8 @@ def number_of_writes(place):
     listing = place.run('show', 'a')[1]
     longest = max(map(len, listing.splitlines())) + 1
     chunks = -(-len(capture) // BLOCK)
-    for line, most in (('canon a out', -(-len(capture) // (BLOCK - 4_100)) + 1), ('show a', -(-len(listing) // (BLOCK - longest))),
+    rewritten = -(-len(capture) // (BLOCK - 4_100)) + 1
+    for line, most in (('canon a out', rewritten), ('nfs3mask a out', rewritten), ('show a', -(-len(listing) // (BLOCK - longest))),
                        ('pack out a a', 2 * 2 * chunks + len(('magic', 'connection', 'client', 'server', 'end')))):
         answer = place.fail(line)
         place.want(line, (answer.status, answer.counts['write'] <= most), (0, True))
@@ -334,9 +337,9 @@ def tries():
             yield 'writes: %s of %s' % (line, name), writes, line, examples[name]
     for line in COMMANDS:
         yield 'reads: %s of version 2 byte by byte' % line, reads, line, MIXED, 1
-    for line in ('canon a out', 'canon a new', 'pack out a a', 'pack new a a'):
+    for line in ('canon a out', 'canon a new', 'nfs3mask a out', 'nfs3mask a new', 'pack out a a', 'pack new a a'):
         yield 'syncs: ' + line, syncs, line
-    for line in ('check a', 'show a', 'canon a out', 'same a a', 'pack out a a'):
+    for line in ('check a', 'show a', 'canon a out', 'nfs3mask a out', 'same a a', 'pack out a a'):
         yield 'random bytes: ' + line, randoms, line
     for line, told in (('same absent a', 'first: '), ('same a absent', 'second: ')):
         yield 'unopened names: ' + line, unopened_names, line, told

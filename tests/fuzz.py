@@ -19,6 +19,8 @@ import sys
 import tempfile
 
 from containers import Container
+from masking import Masker, Renamer, Way, masked_bodies
+from running import command_of
 from traffic import Names, Traffic, in_pieces, in_version_2, messages, streams_of, word
 
 HERE = pathlib.Path(__file__).resolve().parent
@@ -47,7 +49,8 @@ class Trial:
         pathlib.Path(self.folder, name).write_bytes(content)
 
     def run(self, *words):
-        done = subprocess.run([self.program, *words], cwd=self.folder, stdin=subprocess.DEVNULL, timeout=TIMEOUT,
+        program, words = command_of(self.program, list(words))
+        done = subprocess.run([program, *words], cwd=self.folder, stdin=subprocess.DEVNULL, timeout=TIMEOUT,
                               stdout=subprocess.PIPE, stderr=subprocess.PIPE)
         return done.returncode, done.stdout, done.stderr.decode()
 
@@ -208,10 +211,66 @@ def damaged(chance, capture):
     return capture[:at] if kind == 3 else capture + word(0)[chance.randrange(4):] if kind == 4 else capture
 
 
+# The words of nfs3mask without a way, and what each class is in the order of its lines.
+MASKED_CLASSES = {'times': 'zero', 'stamps': 'zero', 'space': 'zero', 'ids': 'number', 'fsids': 'number', 'cookies': 'number',
+                  'cookieverfs': 'number', 'createverfs': 'number', 'owners': 'keep'}
+
+
+def drawn_mask(chance):
+    """A way for each class, or the usual ways, and the words that ask for it."""
+    if chance.random() < 0.3:
+        return dict(MASKED_CLASSES), []
+    ways = {name: chance.choice(('keep', 'zero', 'number')) for name in MASKED_CLASSES}
+    words = ['%s=%s' % pair for pair in ways.items()]
+    chance.shuffle(words)
+    return ways, words
+
+
+def model_of(ways):
+    return {name: Way(way) for name, way in ways.items() if way != 'keep'}
+
+
+def masked_form(trial, name, ways, words):
+    """What nfs3mask writes of a file that is well formed."""
+    status, form, error = trial.run('nfs3mask', name, '/dev/stdout', *words)
+    told = 'masked %s\n' % ' '.join('%s=%s' % pair for pair in ways.items())
+    trial.want('nfs3mask ' + name, (status, error), (0, trial.counts() + told))
+    return form
+
+
+def masked_values_are_those_of_a_model(trial):
+    """Byte for byte those of a masker that goes by other layouts; the counts stay, and masking again changes nothing."""
+    ways, words = drawn_mask(trial.chance)
+    form = masked_form(trial, 'a', ways, words)
+    trial.want('the model', form, messages.capture(*masked_bodies(trial.traffic.connections, Masker(model_of(ways)))))
+    trial.write('masked', form)
+    trial.want('check of the masked', trial.run('check', 'masked'), (0, trial.counts().encode(), ''))
+    trial.want('masked again', masked_form(trial, 'masked', ways, words), form)
+
+
+def masked_values_do_not_count(trial):
+    """Two captures that differ in them, and in names, are the same once they are masked; also of version 2."""
+    ways, words = drawn_mask(trial.chance)
+    other = list(masked_bodies(Traffic(trial.seed, Names.drawn(trial.chance)).connections, Renamer(model_of(ways), trial.chance)))
+    trial.write('other', in_version_2(trial.chance, streams_of(trial.chance, other)))
+    for name in ('a', 'other'):
+        trial.write('masked_' + name, masked_form(trial, name, ways, words))
+    trial.want('same', trial.run('same', 'masked_a', 'masked_other'), (0, b'same\n', ''))
+
+
+def masking_and_canon_go_in_either_order(trial):
+    """The canonical form of a masked capture is the masked canonical form."""
+    ways, words = drawn_mask(trial.chance)
+    trial.write('masked', masked_form(trial, 'a', ways, words))
+    trial.write('form', trial.form('a'))
+    trial.want('both ways', trial.form('masked'), masked_form(trial, 'form', ways, words))
+
+
 LAWS = [numbers_are_those_of_the_traffic, canonical_again_is_the_same, renaming_one_to_one_keeps_the_form,
         merging_two_values_parts_at_the_second, a_line_is_shown_for_each_message, packing_the_streams_gives_the_capture,
         a_flipped_bit_shows, pieces_do_not_count, a_front_is_cut_or_has_the_fault, version_2_changes_nothing,
-        version_2_has_its_first_fault]
+        version_2_has_its_first_fault, masked_values_are_those_of_a_model, masked_values_do_not_count,
+        masking_and_canon_go_in_either_order]
 
 
 def broken_by(program, seed):

@@ -6,6 +6,7 @@ from dataclasses import dataclass
 from typing import Optional
 
 import tracing
+from running import command_of
 from texts import chunk, word
 from tracing import Answer, Fault
 from traffic import messages
@@ -46,6 +47,10 @@ SETTINGS = {
     'the input': Setting('canon a ./a', 'a', status=4),
     'a link to the input': Setting('canon a link', '', (('symlink', 'link', 'a'),), status=4),
     'the input, as standard output': Setting('canon a /dev/stdout', '', stdout='a', status=4),
+    'a masked file': Setting('nfs3mask a out', 'out'),
+    'a new name of a masked file': Setting('nfs3mask a new', 'new'),
+    'standard output of a masked file': Setting('nfs3mask a /dev/stdout', 'out', stdout='out'),
+    'the input, masked': Setting('nfs3mask a ./a', 'a', status=4),
     'a file of streams': Setting('pack out c s', 'out'),
     'a new name of streams': Setting('pack new c s', 'new'),
     'standard output of streams': Setting('pack /dev/stdout c s', 'out', stdout='out'),
@@ -108,7 +113,7 @@ def run(program: str, folder: str, setting: Setting, fault: Optional[Fault] = No
     elif ('fifo', 'fifo', '') in setting.made:
         through = os.open(os.path.join(folder, 'fifo'), os.O_RDWR)
     try:
-        answer = tracing.run(program, setting.line.split(), folder, fault, stdout=out, closed=setting.closed)
+        answer = tracing.run(*command_of(program, setting.line.split()), folder, fault, stdout=out, closed=setting.closed)
         return answer, drained(through)
     finally:
         for file in (through, out):

@@ -16,7 +16,7 @@ import subprocess
 import tempfile
 import threading
 
-from running import try_all, words_of
+from running import program_named, try_all, words_of
 from texts import bytes_of, capture_of, mixed_of
 
 HERE = pathlib.Path(__file__).resolve().parent
@@ -34,7 +34,7 @@ class Case:
     def __init__(self, name, place):
         self.name, self.place = name, place
         self.making, self.content, self.wanted = [], {}, {}
-        self.args, self.status, self.out, self.err = [], 0, b'', b''
+        self.name_of_program, self.args, self.status, self.out, self.err = None, [], 0, b'', b''
         self.err_begins = False
         self.stdout, self.stdin, self.through, self.modes, self.gone = None, None, {}, {}, set()
 
@@ -53,6 +53,8 @@ class Case:
             self.making.append(('mode', value.split()[0], int(value.split()[1], 8)))
         elif key == 'run':
             self.args = [text_of(w) for w in value.split()]
+        elif key == 'mask':
+            self.name_of_program, self.args = 'nfs3mask', [text_of(w) for w in value.split()]
         elif key == 'status':
             self.status = int(value)
         elif key == 'out':
@@ -164,6 +166,7 @@ def judge(case, done, folder, before, got):
 
 def start(case, program, folder):
     """The program, with its standard output where the case says."""
+    program = program_named(case.name_of_program, program) if case.name_of_program else program
     stdin = open(os.path.join(folder, case.stdin), 'rb') if case.stdin else subprocess.DEVNULL
     stdout = subprocess.PIPE
     if case.stdout == 'closed-pipe':

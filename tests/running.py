@@ -9,6 +9,17 @@ import sys
 BUILT = pathlib.Path(__file__).resolve().parent.parent / 'crates/nfs3canon/out/nfs3canon'
 
 
+def program_named(name, program=BUILT):
+    """The path of a program of this repository, where `program` is that of nfs3canon: what is built for its own crate, or beside it."""
+    path = pathlib.Path(program)
+    return str(path.parents[2] / name / 'out' / name if path.parent.name == 'out' else path.parent / name)
+
+
+def command_of(program, words):
+    """The path and the words of a command line that begins with the name of a program, or has the words of nfs3canon."""
+    return (program_named(words[0], program), words[1:]) if words and words[0] == 'nfs3mask' else (program, words)
+
+
 def words_of(text, built=BUILT):
     """PROGRAM, as a path, or the one built, `--only` and `-v`; the text is the help."""
     parser = argparse.ArgumentParser(description=text, formatter_class=argparse.RawDescriptionHelpFormatter)

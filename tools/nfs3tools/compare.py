@@ -25,7 +25,7 @@ from . import pages, telling
 from .classes import CLASSES, Mask, default_mask, mask_of, told
 from .comparing import Compared, Run, compare
 from .listings import Message
-from .masking import Bodies, masked
+from .masking import write_masked
 from .messages import FAILED, REFUSED, add_options, options_of, parser_of
 from .places import Place, parse_fault
 from .programs import program_path, run_program
@@ -81,21 +81,14 @@ def checked(program: str, taken: Taken, capture: str, name: str) -> None:
     raise Ended(REFUSED if answer.status == 2 else FAILED, f'{name}: {line}' + ''.join(f' (frame {frame.number})' for frame in frames))
 
 
-def bodies_of(taken: Taken) -> Iterator[Bodies]:
-    for connection in taken.connections:
-        yield ([record.body for record in connection.client.records()], [record.body for record in connection.server.records()])
-
-
-def verdict_of(program: str, folder: Path, runs: list[Taken], mask: Mask) -> str:
+def verdict_of(program: str, folder: Path, captures: list[str], mask: Mask) -> str:
     """Returns what `same` says of the masked captures."""
-    names = []
-    for number, taken in enumerate(runs):
-        path = folder / f'masked{number}'
-        with open(path, 'wb') as file:
-            for piece in masked(bodies_of(taken), mask):
-                file.write(piece)
-        names.append(str(path))
-    answer = run_program(program, ['same', *names])
+    masked = [str(folder / f'masked{number}') for number, _ in enumerate(captures)]
+    for capture, path in zip(captures, masked):
+        answer = write_masked(program, capture, path, mask)
+        if answer.status:
+            raise Ended(FAILED, f'nfs3mask: {answer.error.strip()}')
+    answer = run_program(program, ['same', *masked])
     if answer.status > DIFFERENT:
         raise Ended(FAILED, f'same: {answer.error.strip()}')
     return answer.out.strip()
@@ -131,7 +124,7 @@ def compared_runs(words: argparse.Namespace, stack: ExitStack) -> int:
         tell(name, taken)
         checked(program, taken, capture, name)
     print(f'masked: {told(words.mask)}', flush=True)
-    verdict = verdict_of(program, folder, runs, words.mask)
+    verdict = verdict_of(program, folder, captures, words.mask)
     print(verdict, flush=True)
     if verdict == 'same' and not words.html:
         return SAME

@@ -1,80 +1,93 @@
-"""Captures whose values of some classes are zero, or numbers by their first appearance, so that `nfs3canon same` passes over them."""
-import sys
-from collections.abc import Iterable, Iterator
+"""Captures with masked values, so that `nfs3canon same` passes over them. nfs3mask masks all classes but two, of which the second pass
+below masks what it does not: machine names, and users and groups together with the groups of credentials."""
+from collections.abc import Callable, Iterable, Iterator
 from pathlib import Path
+from typing import BinaryIO
 
-from .classes import CLASSES, Mask, ValueClass, Way
-
-sys.path.insert(0, str(Path(__file__).resolve().parent.parent))
-from layouts import Item, Message, Procedure, procedure_of  # noqa: E402
+from .classes import BY_NAME, Mask, Way
+from .owners import Owners
+from .programs import Answer, program_beside, run_program
 
 MAGIC = b'NFS3CAP1'
 LAST_FRAGMENT = 0x80000000
+# The classes that the second pass masks. nfs3mask knows the second one, and keeps it.
+BEYOND = ('machines', 'owners')
+# Where the words of a call with an AUTH_SYS credential begin (RFC 5531, section 9 and appendix A).
+FLAVOR, LENGTH, NAME_LENGTH, NAME = 24, 28, 36, 40
+AUTH_SYS = 1
 
 Bodies = tuple[list[bytes], list[bytes]]
+Change = Callable[[Bodies], Bodies]
 
 
 def word(number: int) -> bytes:
     return number.to_bytes(4, 'big')
 
 
-class Masker:
-    """Masks the bodies of messages, in the order of the capture: the numbers of values go on from body to body."""
-
-    def __init__(self, mask: Mask) -> None:
-        self.mask = mask
-        self.numbers: dict[str, dict[bytes, int]] = {name: {} for name, way in mask.items() if way is Way.NUMBER}
-
-    def class_of(self, name: str, is_call: bool) -> ValueClass | None:
-        return next((one for one in CLASSES if one.name in self.mask and one.has(name, is_call)), None)
-
-    def value(self, owner: ValueClass, content: bytes) -> bytes:
-        """Returns what stands for a value, in its own width."""
-        if self.mask[owner.name] is Way.ZERO or owner.keeps_zero and not any(content):
-            return bytes(len(content))
-        numbers = self.numbers[owner.name]
-        return numbers.setdefault(content, len(numbers) + 1).to_bytes(len(content), 'big')
-
-    def body(self, body: bytes, is_call: bool, procedure: Procedure) -> bytes:
-        """Returns the body of a well-formed message with its masked values."""
-        message = Message(body)
-        message.read(is_call, procedure)
-        items = without_machine_name(message.items, body) if 'machines' in self.mask else [
-            (item.name, body[item.begin:item.end]) for item in message.items]
-        out, end = [], message.items[-1].end if message.items else 0
-        for name, content in items:
-            owner = self.class_of(name, is_call) if content and name != 'machinename' else None
-            out.append(self.value(owner, content) if owner else content)
-        return b''.join(out) + body[end:]
+def number_at(content: bytes, at: int) -> int:
+    return int.from_bytes(content[at:at + 4], 'big')
 
 
-def without_machine_name(items: list[Item], body: bytes) -> list[tuple[str, bytes]]:
-    """Returns the items' names and bytes, with an empty name of the machine, and the credential's length with it."""
-    dropped = sum(item.end - item.begin for item in items if item.name in ('machinename', 'machinename (residual bytes)'))
-    out = []
-    for item in items:
-        content = body[item.begin:item.end]
-        if item.name == 'cred_length':
-            content = word(int.from_bytes(content, 'big') - dropped)
-        elif item.name == 'machinename (its length)':
-            content = word(0)
-        elif item.name.startswith('machinename'):
-            content = b''
-        out.append((item.name, content))
-    return out
+def words_for(mask: Mask) -> list[str]:
+    """Returns the words by which nfs3mask masks what it masks of the classes."""
+    ways = {name: mask[name].value if name in mask and name not in BEYOND else 'keep' for name in BY_NAME if name != 'machines'}
+    return [f'{name}={way}' for name, way in ways.items()]
 
 
-def masked(connections: Iterable[Bodies], mask: Mask) -> Iterator[bytes]:
-    """Returns a capture of version 1, in pieces: one chunk and one fragment for each record. The connections are those of a
-    well-formed capture, each the bodies of its calls and of its replies."""
-    masker = Masker(mask)
-    yield MAGIC
-    for calls, replies in connections:
-        procedures = {body[:4]: procedure_of(*(int.from_bytes(body[at:at + 4], 'big') for at in (12, 16, 20))) for body in reversed(calls)}
-        yield word(1)
-        for bodies, is_call in ((calls, True), (replies, False)):
-            for body in bodies:
-                record = masker.body(body, is_call, procedures[body[:4]])
-                yield word(len(record) + 4) + word(LAST_FRAGMENT + len(record)) + record
-            yield word(0)
+def write_masked(program: str, capture: str, path: str, mask: Mask) -> Answer:
+    """Writes a well-formed capture with masked values to a path, and returns what nfs3mask answered.
+
+    Raises `Missing` if nfs3mask is not there.
+    """
+    answer = run_program(program_beside(program, 'nfs3mask'), [capture, path, *words_for(mask)])
+    if answer.status == 0:
+        for change in second_pass(mask):
+            rewrite(Path(path), change)
+    return answer
+
+
+# --- The second pass ---
+
+def second_pass(mask: Mask) -> Iterator[Change]:
+    if 'machines' in mask:
+        yield without_machine_names
+    if 'owners' in mask:
+        yield Owners(mask['owners'] is Way.NUMBER)
+
+
+def rewrite(path: Path, change: Change) -> None:
+    """Changes each connection of a capture that nfs3mask or this function wrote: a chunk and a fragment for each record."""
+    changed = path.with_name(path.name + '.changed')
+    with open(path, 'rb') as source, open(changed, 'wb') as target:
+        target.write(source.read(len(MAGIC)))
+        while (begin := source.read(4)) == word(1):
+            target.write(begin)
+            for bodies in change((list(bodies_of(source)), list(bodies_of(source)))):
+                target.writelines(records_of(bodies))
+        target.write(begin)
+    changed.replace(path)
+
+
+def bodies_of(source: BinaryIO) -> Iterator[bytes]:
+    """Returns the bodies of a stream, up to its word 0."""
+    while length := number_at(source.read(4), 0):
+        yield source.read(length)[4:]
+
+
+def records_of(bodies: Iterable[bytes]) -> Iterator[bytes]:
+    for body in bodies:
+        yield word(len(body) + 4) + word(LAST_FRAGMENT + len(body)) + body
     yield word(0)
+
+
+def without_machine_names(bodies: Bodies) -> Bodies:
+    calls, replies = bodies
+    return [without_machine_name(body) for body in calls], replies
+
+
+def without_machine_name(call: bytes) -> bytes:
+    """Returns the call with an empty name of the machine, and the length of the credential with it."""
+    if number_at(call, FLAVOR) != AUTH_SYS:
+        return call
+    length = (number_at(call, NAME_LENGTH) + 3) // 4 * 4
+    return call[:LENGTH] + word(number_at(call, LENGTH) - length) + call[LENGTH + 4:NAME_LENGTH] + word(0) + call[NAME + length:]

@@ -34,6 +34,20 @@ def program_path(named: str | None = None) -> str:
     raise Missing(f'{named or "nfs3canon"} is missing')
 
 
+def program_beside(program: str, name: str) -> str:
+    """Another program: what is beside the given one, or in its own crate's folder or under its own launcher, else on the PATH.
+
+    Raises `Missing`.
+    """
+    path = pathlib.Path(program).resolve()
+    own = path.parents[2] / name / 'out' / name if path.parent.name == 'out' else path.parent / name
+    for place in (str(own), str(TOP / name), name):
+        found = shutil.which(place)
+        if found:
+            return found
+    raise Missing(f'{name} is missing')
+
+
 def run_program(program: str, words: list[str], content: typing.Iterable[bytes] = ()) -> Answer:
     """Runs the program with the content as its standard input, which it may leave unread."""
     with tempfile.TemporaryFile() as out, tempfile.TemporaryFile() as error:

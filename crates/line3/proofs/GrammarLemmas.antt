@@ -15,8 +15,7 @@ use Rattle.clap.specs.declared.parser.matches.ValueSource.TheVariants.{CommandLi
 use Rattle.clap.specs.declared.builder.value_parser.Reading.TheVariants.{AsWritten}
 use Rattle.line3.specs.declared.asked.LineFault.{LineFault}
 use Rattle.line3.specs.declared.asked.LineFault.TheVariants.{Usage, Odd, SameName, NotText, Memory}
-use Rattle.line3.specs.Asked.{AreFileWords, AreRefused, Form, Check, Show, Canon, Same, Pack, IsFileWord, IsLine, words_of}
-use Rattle.line3.specs.machinery.Asked.{IsUsage}
+use Rattle.line3.specs.Asked.{AreFileWords, AreRefused, Form, Check, Show, Canon, Same, Pack, IsFileWord, IsLine, words_of, IsUsage}
 use Rattle.line3.specs.Grammar.{app, one_file, packing_form, two_files}
 
 pub simple : is_simple app ≡ true
@@ -26,7 +25,7 @@ simple = refl
 -- ---- a word that does not begin with a hyphen
 
 -- where a walk stands, no subcommand met and no `--`
-abbrev at : Held → Waiting → ℕ → Walk
+abbrev pub at : Held → Waiting → ℕ → Walk
 at h waiting position = record { held = h; waiting = waiting; position = position; is_trailing = false; stopped = None }
 
 module _ (x : ℕ) (xs : Text) (no_hyphen : (x == 45) ≡ false) where
@@ -52,11 +51,11 @@ module _ (x : ℕ) (xs : Text) (no_hyphen : (x == 45) ≡ false) where
       ap (λ b. if b then (h, trailing position) else long_or_other c positional (x ∷ xs) (long_of (x ∷ xs)) h) no_end
       ∙ ap (λ o. long_or_other c positional (x ∷ xs) o h) no_long ∙ ap (λ o. short_or_plain c positional (x ∷ xs) o h) no_short
 
-  plain_walked : (c : List Rule) (h : Held) (n : ℕ) → walked c [] (at h idle n) (x ∷ xs) ≡ to_positional c (arg_by_index c n) (x ∷ xs) (at h idle n) h
+  pub plain_walked : (c : List Rule) (h : Held) (n : ℕ) → walked c [] (at h idle n) (x ∷ xs) ≡ to_positional c (arg_by_index c n) (x ∷ xs) (at h idle n) h
   unfolding walked
   plain_walked c h n = ap (λ (m : Held × Step). after_step c (x ∷ xs) (at h idle n) m.0 m.1) (plain_met c n h)
 
-  further_walked : (c : List Rule) (h : Held) (n : ℕ) → walked c [] (at h positional n) (x ∷ xs) ≡ to_positional c (arg_by_index c n) (x ∷ xs) (at h positional n) h
+  pub further_walked : (c : List Rule) (h : Held) (n : ℕ) → walked c [] (at h positional n) (x ∷ xs) ≡ to_positional c (arg_by_index c n) (x ∷ xs) (at h positional n) h
   unfolding walked
   further_walked c h n = ap (λ (m : Held × Step). after_step c (x ∷ xs) (at h positional n) m.0 m.1) (further_met c n h)
 
@@ -72,12 +71,12 @@ module _ (x : ℕ) (xs : Text) (no_hyphen : (x == 45) ≡ false) where
       ∙ ap (λ o. flag_word_passes s.rules s.args_override_self o (x ∷ xs) h) no_long
       ∙ ap (λ o. option_map_or (λ flags. bundle_passes s.rules s.args_override_self flags h) o true) no_short
 
-  plain_turn : (s : Shape) (h : Held) (n : ℕ) → turn_passes s [] (at h idle n) (x ∷ xs) ≡ step_passes s n h value
+  pub plain_turn : (s : Shape) (h : Held) (n : ℕ) → turn_passes s [] (at h idle n) (x ∷ xs) ≡ step_passes s n h value
   plain_turn s h n =
       ap (λ b. b && step_passes s n (word_met s.rules [] false idle n (x ∷ xs) h).0 (word_met s.rules [] false idle n (x ∷ xs) h).1) (plain_passes s h)
       ∙ ap (λ (m : Held × Step). step_passes s n m.0 m.1) (plain_met s.rules n h)
 
-  further_turn : (s : Shape) (h : Held) (n : ℕ) → turn_passes s [] (at h positional n) (x ∷ xs) ≡ step_passes s n h value
+  pub further_turn : (s : Shape) (h : Held) (n : ℕ) → turn_passes s [] (at h positional n) (x ∷ xs) ≡ step_passes s n h value
   further_turn s h n =
       ap (λ b. b && step_passes s n (word_met s.rules [] false positional n (x ∷ xs) h).0 (word_met s.rules [] false positional n (x ∷ xs) h).1) (further_passes s h)
       ∙ ap (λ (m : Held × Step). step_passes s n m.0 m.1) (further_met s.rules n h)
@@ -88,7 +87,7 @@ abbrev leaf_of : App → Shape
 leaf_of a = built_leaf (inherited app.top a.top)
 
 -- what a level asks for after its last word
-abbrev ends : Shape → Held → Bool
+abbrev pub ends : Shape → Held → Bool
 ends s h = settle_passes s.rules s.args_override_self h && (list_all default_passes s.rules && is_valid s (finished s.rules h) false)
 
 module _ (x : ℕ) (xs : Text) (no_hyphen : (x == 45) ≡ false) (p : Text) where
@@ -170,7 +169,7 @@ read output streams = record {
   stopped = None;
 }
 
-no_first : (words : List Text) (w : Text) → All IsFileWord (w ∷ words) → All IsFileWord words
+pub no_first : (words : List Text) (w : Text) → All IsFileWord (w ∷ words) → All IsFileWord words
 no_first words w all k d low = all (suc k) d (omega (arith, low))
 
 module _ (output : Text) where
@@ -200,7 +199,7 @@ module _ (output : Text) where
       ap₂ (λ (t : Bool) (v : Walk). t && walk_passes pack_leaf [] v words) (turn_step got w (all 0 w (omega arith))) (read_step got w (all 0 w (omega arith)))
       ∙ read_passes (got ++ w ∷ []) words (no_first words w all)
 
-all_pass : (words : List Text) → list_all (λ (w : Text). true) words ≡ true
+pub all_pass : (words : List Text) → list_all (λ (w : Text). true) words ≡ true
 all_pass [] = refl
 all_pass (w ∷ words) = all_pass words
 

@@ -1,2 +1,2 @@
-mod GrammarLemmas
-mod LineLemmas
+pub mod GrammarLemmas
+pub mod LineLemmas

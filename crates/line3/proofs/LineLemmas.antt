@@ -6,8 +6,7 @@ use Rattle.std.specs.String.{string_eq}
 use Rattle.std.proofs.lemmas.Slice.Eq.{bytes_eq-Decides}
 use Rattle.line3.specs.declared.asked.LineFault.{LineFault}
 use Rattle.line3.specs.declared.asked.LineFault.TheVariants.{Usage, Odd, SameName, NotText, Memory}
-use Rattle.line3.specs.Asked.{AreRefused, Form, Check, Show, Canon, Same, Pack, IsLine, words_of}
-use Rattle.line3.specs.machinery.Asked.{IsUsage}
+use Rattle.line3.specs.Asked.{AreRefused, Form, Check, Show, Canon, Same, Pack, IsLine, words_of, IsUsage}
 
 abbrev pub tail_of : List (List ℕ) → List (List ℕ)
 tail_of [] = []

@@ -83,3 +83,9 @@ AreRefused words Odd = HasOddStream words
 AreRefused words SameName = RewritesItself words ⊎ PacksItself words
 AreRefused words NotText = ⊥
 AreRefused words Memory = Unit
+
+-- a usage, or that memory ran out for its text
+abbrev pub IsUsage : LineFault → Type 0
+IsUsage (Usage _) = Unit
+IsUsage Memory = Unit
+IsUsage _ = ⊥

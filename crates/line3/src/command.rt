@@ -2,8 +2,7 @@
 
 ghost use Rattle.std.specs.Prelude.{◌≡◌, ◌≤◌, ◌∷◌, ℕ, List, [], IfErr, IfOk, codes, length, map, string_bytes};
 ghost use Rattle.clap.specs.Words.{kind_of};
-ghost use Rattle.line3.specs.Asked.{AreRefused, Asks};
-ghost use Rattle.line3.specs.machinery.Asked.{IsUsage};
+ghost use Rattle.line3.specs.Asked.{AreRefused, Asks, IsUsage};
 
 use crate::asked::{Job, LineFault};
 use crate::grammar::command;
@@ -39,8 +38,8 @@ fn taken(alloc: Global, words: &[String]) -> Result<(), LineFault>
     }
 }
 
-/// What clap says.
-fn told(alloc: Global, error: clap::Error) -> LineFault
+/// Returns the fault of a line that clap does not take: the text that clap writes, or that memory ran out.
+pub fn told(alloc: Global, error: clap::Error) -> LineFault
     ensures usage { IsUsage result }
     ensures memory { kind_of error ≡ ErrorKind.OutOfMemory → result ≡ LineFault.Memory }
 {
@@ -163,7 +162,8 @@ fn packing<'a>(output: &'a String, streams: &'a [String]) -> Result<Job<'a>, Lin
     }
 }
 
-fn usage(alloc: Global) -> LineFault
+/// Returns the fault of a line that clap takes and that has none of the forms: it has a `--`.
+pub fn usage(alloc: Global) -> LineFault
     ensures { IsUsage result }
 {
     let text: Result<String, AllocError> = String::from_str(alloc, NO_FORM);

@@ -67,7 +67,8 @@ STREAMS are files, for each connection the bytes sent by the client and then
 those sent by the server. Their contents are not checked. Prints nothing. If
 anything fails, OUT is unchanged.";
 
-fn file<'a>(alloc: Global, id: &'a str, help: &'a str) -> Arg<'a>
+/// Returns the argument that names a file. It is required.
+pub fn file<'a>(alloc: Global, id: &'a str, help: &'a str) -> Arg<'a>
     ensures rule { rule_of result ≡ file_rule id.entry.now }
     ensures local { result.global ≡ false }
 {

@@ -1,4 +1,5 @@
-//! The command line of nfs3canon: its words, read by clap, and the job that they ask for.
+//! The command line of nfs3canon: its words, read by clap, and the job that they ask for. What the command lines of
+//! other programs have in common with it.
 #![tactic(auto)]
 
 mod asked;
@@ -6,4 +7,5 @@ mod command;
 mod grammar;
 
 pub use asked::{Job, LineFault};
-pub use command::job;
+pub use command::{job, told, usage};
+pub use grammar::file;

@@ -18,7 +18,7 @@ use Rattle.canon3.specs.declared.verdict.Which.TheVariants.{First, Second}
 use Rattle.line3.specs.declared.asked.LineFault.{LineFault}
 use Rattle.line3.specs.declared.asked.LineFault.TheVariants as lines
 use Rattle.program3.specs.declared.outcome.Outcome.{Outcome}
-use Rattle.program3.specs.declared.outcome.Outcome.TheVariants.{Counted, Listed, Compared, Packed, Unopened, Line}
+use Rattle.program3.specs.declared.outcome.Outcome.TheVariants.{Counted, Masked, Listed, Compared, Packed, Unopened, Line}
 use Rattle.program3.specs.declared.outcome.Report.{Report}
 
 -- the byte that ends a line
@@ -39,6 +39,10 @@ unopened_of name = concat (codes "open failed: " ∷ escaped name ∷ newline �
 -- the line that tells the counts
 abbrev pub counts_of : Summary → List ℕ
 counts_of s = concat (codes "ok connections=" ∷ decimal s.connections ∷ codes " calls=" ∷ decimal s.calls ∷ codes " replies=" ∷ decimal s.replies ∷ codes " handles=" ∷ decimal s.handles ∷ newline ∷ [])
+
+-- the line that tells a mask by these words
+abbrev pub mask_line : List ℕ → List ℕ
+mask_line mask = concat (codes "masked" ∷ mask ∷ newline ∷ [])
 
 -- the name of a side
 abbrev pub side_of : Side → List ℕ
@@ -106,6 +110,7 @@ PrintsLineFault lines.Memory = PrintsError errors.Memory
 abbrev pub PrintsOutcome : Outcome → Report → Type 0
 PrintsOutcome (Counted (Ok summary)) = Prints 0 (counts_of summary) []
 PrintsOutcome (Counted (Err error)) = PrintsError error
+PrintsOutcome (Masked summary mask) = Prints 0 (counts_of summary ++ mask_line (string_bytes mask)) []
 PrintsOutcome (Listed (Ok summary)) = Prints 0 [] []
 PrintsOutcome (Listed (Err error)) = PrintsError error
 PrintsOutcome (Compared (Ok verdict)) = PrintsVerdict verdict

@@ -11,6 +11,8 @@ use line3::LineFault;
 pub enum Outcome {
     /// A capture was read to its end and counted, or its first fault or a failure met.
     Counted(Result<Summary, captures::Error>),
+    /// A capture was masked and counted. The text is the words that tell the mask, each with a space before it.
+    Masked(Summary, String),
     /// A capture was listed, or its first fault or a failure met.
     Listed(Result<Summary, captures::Error>),
     /// Two captures were compared, or a fault or a failure met.

@@ -1,7 +1,7 @@
 // What the program prints of an outcome.
 
 ghost use Rattle.std.specs.Prelude.{◌≡◌, ◌++◌, [], IfOk, OnOk, string_bytes};
-ghost use Rattle.program3.specs.Printed.{Prints, PrintsLineFault, PrintsOutcome, PrintsVerdict, counts_of, differing_at, ended_of, error_line, escaped, escaped_byte, fault_of, prefix_of, side_of, status_of, unopened_of};
+ghost use Rattle.program3.specs.Printed.{Prints, PrintsLineFault, PrintsOutcome, PrintsVerdict, counts_of, differing_at, ended_of, error_line, escaped, escaped_byte, fault_of, mask_line, prefix_of, side_of, status_of, unopened_of};
 
 use crate::outcome::{Outcome, Report};
 use canon3::{Summary, Verdict, Which};
@@ -15,7 +15,8 @@ pub const OUTSIDE: u8 = 3;
 
 /// Returns the lines and the exit status of an outcome: 0 for a job that is done, 1 for captures that differ,
 /// 2 for a refused capture, 3 for a file, a device or memory that failed, and 4 for a refused command line.
-/// A fault of one of two captures has `first: ` or `second: ` before it.
+/// A fault of one of two captures has `first: ` or `second: ` before it. After the counts of a masked capture
+/// comes a line with its mask.
 ///
 /// # Errors
 ///
@@ -26,6 +27,9 @@ pub fn report(alloc: Global, outcome: &Outcome) -> Result<Report, AllocError>
     match outcome {
         Outcome::Counted(Ok(summary)) => printed(alloc, 0, counts(alloc, summary)?),
         Outcome::Counted(Err(error)) => failed(alloc, "", error),
+        Outcome::Masked(summary, mask) => {
+            printed(alloc, 0, counts_and_mask(alloc, summary, mask.as_str())?)
+        }
         Outcome::Listed(Ok(_)) => printed(alloc, 0, String::new(alloc)),
         Outcome::Listed(Err(error)) => failed(alloc, "", error),
         Outcome::Compared(Ok(verdict)) => compared(alloc, verdict),
@@ -163,6 +167,17 @@ fn counts(alloc: Global, summary: &Summary) -> Result<String, AllocError>
     format!(in alloc;
         "ok connections={connections} calls={calls} replies={replies} handles={handles}\n"
     )
+}
+
+fn counts_and_mask(alloc: Global, summary: &Summary, mask: &str) -> Result<String, AllocError>
+    ensures { IfOk result
+        (λ text. string_bytes text ≡ counts_of summary.now ++ mask_line mask.now) }
+{
+    let mut text = counts(alloc, summary)?;
+    text.push_str("masked")?;
+    text.push_str(mask)?;
+    text.push('\n')?;
+    Ok(text)
 }
 
 fn line_of(alloc: Global, fault: &Fault) -> Result<String, AllocError>

@@ -1,0 +1,12 @@
+use Rattle.std.proofs.Common.{arith, ap, ◌≡◌, ◌≤◌, ◌∙◌, length, map, string_bytes}
+use Rattle.std.proofs.lemmas.List.{length-map}
+use Rattle.clap.specs.Lexer.{usize_max}
+use Rattle.clap.specs.Words.{App, takes}
+use Rattle.mask_line3.proofs.GrammarLemmas.{mask_refuses}
+use Rattle.mask_line3.proofs.command.taken.Goals as goal
+
+pub returns-in-Err-try_get_matches_from : goal.returns-in-Err-try_get_matches_from
+returns-in-Err-try_get_matches_from c =
+    let many : length (map string_bytes c.args.words.now) ≡ length c.args.words.now = length-map c.args.words.now string_bytes in
+    let few : length (map string_bytes c.args.words.now) ≤ usize_max = omega (arith, many) in
+    mask_refuses (map string_bytes c.args.words.now) c.told.result few c.told.ensures.usage (λ taken. c.told.ensures.memory (c.in-Err-try_get_matches_from.ensures.passes (ap (λ (a : App). takes a (map string_bytes c.args.words.now)) c.in-Ok.ensures ∙ taken)))

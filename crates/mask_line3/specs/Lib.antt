@@ -1,0 +1,6 @@
+-- What the words of a command line of nfs3mask ask for.
+pub mod Names
+pub mod Changes
+pub mod MaskLine
+pub mod Grammar
+pub mod machinery

@@ -1,0 +1,104 @@
+// The words of a line that change a mask, and the words that tell one.
+
+ghost use Rattle.std.specs.Prelude.{◌≡◌, ◌≢◌, ◌++◌, IfErr, IfOk, List, MatchOption, OnOk, map, string_bytes};
+ghost use Rattle.masking3.specs.Ways.{usual};
+ghost use Rattle.mask_line3.specs.Changes.{change_of, change_told, change_word, changes_of, mask_told, with_way, ways_after};
+ghost use Rattle.mask_line3.specs.machinery.Changes.{AreChanges};
+
+use crate::asked::Change;
+use crate::names::{class_name, class_named, way_name, way_named};
+use masking3::{Class, Way, Ways};
+use std::alloc::{AllocError, Global};
+
+/// What a word changes.
+pub(crate) fn change(word: &str) -> Option<Change>
+    ensures { MatchOption result ((change : Change) → word.now ≢ change_word change)
+        (λ change. word.now ≡ change_word change) }
+{
+    let (class, way) = word.split_once('=')?;
+    Some(Change {
+        class: class_named(class)?,
+        way: way_named(way)?,
+    })
+}
+
+/// The ways with another one for a class.
+pub(crate) fn with_way(ways: Ways, class: Class, way: Way) -> Ways
+    ensures { result ≡ with_way ways class way }
+{
+    match class {
+        Class::Times => Ways { times: way, ..ways },
+        Class::Stamps => Ways {
+            stamps: way,
+            ..ways
+        },
+        Class::Space => Ways { space: way, ..ways },
+        Class::Ids => Ways { ids: way, ..ways },
+        Class::Fsids => Ways { fsids: way, ..ways },
+        Class::Cookies => Ways {
+            cookies: way,
+            ..ways
+        },
+        Class::CookieVerifiers => Ways {
+            cookie_verifiers: way,
+            ..ways
+        },
+        Class::CreateVerifiers => Ways {
+            create_verifiers: way,
+            ..ways
+        },
+        Class::Owners => Ways {
+            owners: way,
+            ..ways
+        },
+    }
+}
+
+/// The usual ways, changed by these words one after another, or the first word that changes none.
+pub(crate) fn changed<'a>(words: &'a [String]) -> Result<Ways, &'a str>
+    ensures ok { IfOk result (AreChanges (map string_bytes words.now)) }
+    ensures err { IfErr result (λ word. (changes : List Change)
+        → map string_bytes words.now ≢ map change_word changes) }
+{
+    let mut ways = Ways::usual();
+    for word in words {
+        match change(word.as_str()) {
+            Some(change) => ways = with_way(ways, change.class, change.way),
+            None => return Err(word.as_str()),
+        }
+    }
+    Ok(ways)
+}
+
+/// Returns the words that tell a mask, each with a space before it: of each class, in the order of the
+/// classes, what becomes of its values. On a command line they ask for the same mask.
+///
+/// # Errors
+///
+/// `AllocError` if memory ran out for the text.
+pub fn ways_told(alloc: Global, ways: &Ways) -> Result<String, AllocError>
+    ensures told { IfOk result (λ text. string_bytes text ≡ mask_told ways.now) }
+    ensures again { ways_after (changes_of ways.now) ≡ ways.now }
+{
+    let mut text = String::new(alloc);
+    push_change(&mut text, Class::Times, ways.times)?;
+    push_change(&mut text, Class::Stamps, ways.stamps)?;
+    push_change(&mut text, Class::Space, ways.space)?;
+    push_change(&mut text, Class::Ids, ways.ids)?;
+    push_change(&mut text, Class::Fsids, ways.fsids)?;
+    push_change(&mut text, Class::Cookies, ways.cookies)?;
+    push_change(&mut text, Class::CookieVerifiers, ways.cookie_verifiers)?;
+    push_change(&mut text, Class::CreateVerifiers, ways.create_verifiers)?;
+    push_change(&mut text, Class::Owners, ways.owners)?;
+    Ok(text)
+}
+
+fn push_change(text: &mut String, class: Class, way: Way) -> Result<(), AllocError>
+    ensures { OnOk result
+        (string_bytes text.new ≡ string_bytes text.old ++ change_told (change_of class way)) }
+{
+    text.push(' ')?;
+    text.push_str(class_name(class))?;
+    text.push('=')?;
+    text.push_str(way_name(way))
+}

@@ -1,0 +1,104 @@
+// The command line.
+
+ghost use Rattle.std.specs.Prelude.{◌≡◌, ◌∷◌, ℕ, IfErr, IfOk, List, map, string_bytes};
+ghost use Rattle.line3.specs.Asked.{IsUsage};
+ghost use Rattle.mask_line3.specs.MaskLine.{AreMaskWordsRefused, AsksForMask};
+
+use crate::asked::MaskJob;
+use crate::change::changed;
+use crate::grammar::command;
+use line3::{LineFault, told, usage};
+use std::alloc::{AllocError, Global};
+
+/// Reads the words of a command line, the program's name first: the names of a capture and of an output, and
+/// words that change the usual mask. A line that clap does not take, and a call for help, is answered by the
+/// text that clap writes.
+///
+/// # Errors
+///
+/// - `Usage` if the line has not this form. The text says so, or is the help that was asked for.
+/// - `SameName` if the output is the input.
+/// - `Memory` if memory ran out.
+pub fn mask_job<'a>(alloc: Global, words: &'a [String]) -> Result<MaskJob<'a>, LineFault>
+    ensures asked { IfOk result (AsksForMask (map string_bytes words.now)) }
+    ensures refused { IfErr result (AreMaskWordsRefused (map string_bytes words.now)) }
+{
+    match taken(alloc, words) {
+        Ok(()) => placed(alloc, words),
+        Err(fault) => Err(fault),
+    }
+}
+
+/// Whether clap takes the line.
+fn taken(alloc: Global, words: &[String]) -> Result<(), LineFault>
+    ensures { IfErr result (AreMaskWordsRefused (map string_bytes words.now)) }
+{
+    let command = match command(alloc) {
+        Ok(command) => command,
+        Err(_) => return Err(LineFault::Memory),
+    };
+    match command.try_get_matches_from(words) {
+        Ok(_matches) => Ok(()),
+        Err(error) => Err(told(alloc, error)),
+    }
+}
+
+/// The job of a line that clap took.
+fn placed<'a>(alloc: Global, words: &'a [String]) -> Result<MaskJob<'a>, LineFault>
+    ensures asked { IfOk result (AsksForMask (map string_bytes words.now)) }
+    ensures refused { IfErr result (AreMaskWordsRefused (map string_bytes words.now)) }
+{
+    match words {
+        [_, input, output, changes @ ..] => {
+            of_two_files(alloc, input.as_str(), output.as_str(), changes)
+        }
+        _ => Err(usage(alloc)),
+    }
+}
+
+/// The names of two files, of which none is the `--` that clap passes over, and words that change the mask.
+fn of_two_files<'a>(
+    alloc: Global,
+    input: &'a str,
+    output: &'a str,
+    changes: &[String],
+) -> Result<MaskJob<'a>, LineFault>
+    ensures asked { let said = map string_bytes changes.now in (program : List ℕ)
+        → IfOk result (AsksForMask (program ∷ input.now ∷ output.now ∷ said)) }
+    ensures refused { let said = map string_bytes changes.now in (program : List ℕ)
+        → IfErr result (AreMaskWordsRefused (program ∷ input.now ∷ output.now ∷ said)) }
+{
+    if input == "--" || output == "--" {
+        return Err(usage(alloc));
+    }
+    match changed(changes) {
+        Ok(_) if input == output => Err(LineFault::SameName),
+        Ok(ways) => Ok(MaskJob {
+            input,
+            output,
+            ways,
+        }),
+        Err(word) => Err(unchanging(alloc, word)),
+    }
+}
+
+/// The text for a word that changes no mask.
+fn unchanging(alloc: Global, word: &str) -> LineFault
+    ensures { IsUsage result }
+{
+    let text: Result<String, AllocError> = format!(in alloc;
+        "error: '{word}' is not CLASS=WAY
+
+  classes: times, stamps, space, ids, fsids, cookies, cookieverfs, createverfs, owners
+  ways: keep, zero, number
+
+Usage: nfs3mask <IN> <OUT> [CLASS=WAY]...
+
+For more information, try '--help'.
+"
+    );
+    match text {
+        Ok(text) => LineFault::Usage(text),
+        Err(_) => LineFault::Memory,
+    }
+}
