@@ -30,9 +30,9 @@ pub fn count_calls<R: Source, S: BuildHasher + Drop>(
     source: &mut R,
     procedure: ProcId,
 ) -> Result<u64, Error>
-    ensures counted { (bytes : List ℕ) → R.left source.old ≡ Some bytes
+    ensures counted { (bytes : List ℕ) → (R.told source.old).left ≡ Some bytes
         → IfOk result (CountsCalls bytes procedure) }
-    ensures refused { (bytes : List ℕ) → R.left source.old ≡ Some bytes
+    ensures refused { (bytes : List ℕ) → (R.told source.old).left ≡ Some bytes
         → OnRefused result (FirstFault bytes) }
 {
     let block = match new_block(alloc) {

@@ -90,9 +90,9 @@ pub fn bytes_to_write<R: Source, S: BuildHasher + Drop>(
     hasher: S,
     source: &mut R,
 ) -> Result<u64, Error>
-    ensures summed { (bytes : List ℕ) → R.left source.old ≡ Some bytes
+    ensures summed { (bytes : List ℕ) → (R.told source.old).left ≡ Some bytes
         → IfOk result (SumsWrites bytes) }
-    ensures refused { (bytes : List ℕ) → R.left source.old ≡ Some bytes
+    ensures refused { (bytes : List ℕ) → (R.told source.old).left ≡ Some bytes
         → OnRefused result (FirstFault bytes) }
 {
     let block = match new_block(alloc) {

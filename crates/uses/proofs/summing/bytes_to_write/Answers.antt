@@ -8,7 +8,7 @@ pub returns-in_err-kind-clause-refused : goal.returns-in_err-kind-clause-refused
 returns-in_err-kind-clause-refused g c bytes tells =
     let u = c.loop-entries.invariant.returned in
     rw (error_is _ _ c.from_residual.ensures)
-    (refused _ _ ℕ _ _ _ _ _ _ c.in_err-kind.field-0.0 bytes (ap g.R.Source.left c.through-entries.ensures.unread ∙ tells) u
+    (refused _ _ ℕ _ _ _ _ _ _ c.in_err-kind.field-0.0 bytes (ap (λ s. (g.R.Source.told s).left) c.through-entries.ensures.unread ∙ tells) u
     (c.in_err-kind.ensures.answers u.given u.handed u.stands))
 
 pub loop-entries-preserved : goal.loop-entries-preserved
