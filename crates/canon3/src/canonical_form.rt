@@ -1,4 +1,4 @@
-// The canonical form of a capture, from a source to a sink.
+//! The canonical form of a capture, from a source to a sink.
 
 ghost use Rattle.std.specs.Prelude.{◌≡◌, ◌<◌, ◌^◌, ◌++◌, ◌∷◌, ℕ, List, [], length, IfErr, OnErr, OnOk};
 ghost use Rattle.std.specs.Io.KnownBytes.{Appends};
@@ -28,16 +28,20 @@ use capture3::{Error, Hashers, Kind, Source, pack_header};
 use std::alloc::Global;
 use std::hash::BuildHasher;
 
-/// Reads a capture to its end, writes its canonical form as it comes, and flushes the sink: each file
-/// handle that is not empty (RFC 1813, section 2.5), write verifier and xid (RFC 5531, section 9) is
-/// written as its number. It holds one block of the source's bytes, one record, the calls of the open
-/// connection, and the values that have numbers.
+/// Reads a capture to its end, writes its canonical form as it comes, and flushes the sink. Each
+/// file handle that is not empty (RFC 1813, section 2.5), write verifier and xid (RFC 5531, section
+/// 9) is written as its number. It keeps one block of the source's bytes, one record, the calls of
+/// the open connection, and the values that have numbers.
 ///
 /// # Errors
 ///
-/// `Refused` with the first fault of a capture that is not well formed, and `Read` where a read failed:
-/// the form of the entries before it is written whole. `Write` where a write or the flush failed, and
-/// `Memory` where it ran out: a front of the form is written. After an error nothing is flushed.
+/// - `Refused` with the first fault if the capture is not well formed. The form of the entries
+///   before it is written whole.
+/// - `Read` if a read failed. The form of the entries before it is written whole.
+/// - `Write` if a write or the flush failed, and `Memory` if an allocation failed. A prefix of the
+///   form is written.
+///
+/// After an error nothing is flushed.
 pub fn canon<R: Source, W: Sink, S: BuildHasher + Drop>(
     alloc: Global,
     hashers: Hashers<S>,
@@ -61,7 +65,7 @@ pub fn canon<R: Source, W: Sink, S: BuildHasher + Drop>(
     write_entries(alloc, hashers.calls, source, sink, &mut message_writer)
 }
 
-/// Writes the magic, where no connection began.
+/// Writes the magic, if no connection began.
 fn open<W: Sink>(passed: &Passed, sink: &mut W) -> Result<(), Error>
     ensures ok { OnOk result
         (Appends (W.written sink.old) (W.written sink.new)

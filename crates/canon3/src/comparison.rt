@@ -1,4 +1,4 @@
-// Whether two captures are the same up to renaming.
+//! Whether two captures are the same up to renaming.
 
 ghost use Rattle.std.specs.Prelude.{◌≡◌, ◌≢◌, ◌<◌, ◌≤◌, ◌+◌, ◌^◌, ◌++◌, ◌∷◌, ℕ, List, [], length, None, Some, IfErr, IfOk, IsTrue, OnOk};
 ghost use Rattle.capture3.specs.Told.{GavePrefix, Told};
@@ -21,14 +21,17 @@ use capture3::{Entries, Error, Fault, Hashers, Kind, Place, Silent, Source, new_
 use std::alloc::Global;
 use std::hash::BuildHasher;
 
-/// Whether two captures are the same up to one-to-one renamings of file handles, write verifiers and xids;
-/// where they are not, the first record at which they part. It takes one entry of each in turn, and once
-/// they part, or the second is refused, reads on to the ends.
+/// Returns whether two captures are the same up to one-to-one renamings of file handles, write
+/// verifiers and xids, and if not, the first record at which they part. It takes one entry of each
+/// alternately. Once they part, or the second is refused, it reads both to their ends.
 ///
 /// # Errors
 ///
-/// `Refused` with the first fault of the first capture that is not well formed, `Read` where a read failed,
-/// and `Memory` where it ran out; never `Write`.
+/// - `Refused` with the first fault of the first capture that is not well formed.
+/// - `Read` if a read failed.
+/// - `Memory` if an allocation failed.
+///
+/// It never returns `Write`.
 pub fn same<A: Source, B: Source, S: BuildHasher + Drop>(
     alloc: Global,
     first_hashers: Hashers<S>,
@@ -80,7 +83,7 @@ pub fn same<A: Source, B: Source, S: BuildHasher + Drop>(
     result
 }
 
-/// Memory ran out for this one.
+/// Returns that memory ran out for this one.
 fn wanting(which: Which) -> SameError
     ensures which { result.which ≡ which }
     ensures error { result.error ≡ Error.Memory }
@@ -91,7 +94,7 @@ fn wanting(which: Which) -> SameError
     }
 }
 
-/// What two new readers hand out.
+/// Compares what two new readers return.
 fn compared<A: Source, B: Source, S: BuildHasher + Drop>(
     mut comparison: Comparison<S>,
     first: &mut Entries<'_, A, S>,
@@ -126,7 +129,7 @@ enum Finding {
     Refused(Fault),
 }
 
-/// The verdict, once both captures are read to their ends.
+/// Returns the verdict, once both captures are read to their ends.
 fn conclude<A: Source, B: Source, S: BuildHasher + Drop>(
     finding: Finding,
     first: &mut Entries<'_, A, S>,
@@ -160,7 +163,7 @@ fn conclude<A: Source, B: Source, S: BuildHasher + Drop>(
     }
 }
 
-/// The verdict, once the second capture is read to its end.
+/// Returns the verdict, once the second capture is read to its end.
 fn read_second<R: Source, S: BuildHasher + Drop>(
     entries: &mut Entries<'_, R, S>,
     verdict: Verdict,
@@ -197,7 +200,7 @@ fn read_out<R: Source, S: BuildHasher + Drop>(entries: &mut Entries<'_, R, S>) -
     Ok(())
 }
 
-/// Reads the next entry. False stands for the end.
+/// Reads the next entry. Returns `false` at the end.
 fn read_next<R: Source, S: BuildHasher + Drop>(
     entries: &mut Entries<'_, R, S>,
 ) -> Result<bool, Error>
@@ -224,7 +227,7 @@ struct Comparison<S: BuildHasher + Drop> {
 }
 
 impl<S: BuildHasher + Drop> Comparison<S> {
-    /// Takes one entry of each in turn, up to where they end, they part, or the second is refused.
+    /// Takes one entry of each alternately, until they end, they part, or the second is refused.
     fn find<A: Source, B: Source>(
         &mut self,
         first: &mut Entries<'_, A, S>,
@@ -252,7 +255,7 @@ impl<S: BuildHasher + Drop> Comparison<S> {
         }
     }
 
-    /// Takes one entry of each. None stands for a pair that is alike.
+    /// Takes one entry of each. Returns `None` if they are alike.
     fn step<A: Source, B: Source>(
         &mut self,
         first: &mut Entries<'_, A, S>,
@@ -287,7 +290,7 @@ impl<S: BuildHasher + Drop> Comparison<S> {
         }
     }
 
-    /// Takes the second's entry beside the first's, whose items were told.
+    /// Takes the second's entry beside the first's, whose items were visited.
     fn meet<B: Source>(
         &mut self,
         kind: Kind,
@@ -313,8 +316,8 @@ impl<S: BuildHasher + Drop> Comparison<S> {
         }
     }
 
-    /// Compares what two entries are written as, whose items were told. None stands for a pair that is
-    /// alike.
+    /// Compares what two entries are written as, whose items were visited. Returns `None` if they
+    /// are alike.
     fn compare(&mut self, kind: Kind, other: Kind) -> Result<Option<Place>, SameError>
         requires room { steps_of self.old.progress + 1 < 2 ^ 32 }
         ensures compares { (a b : List spec.Entry) (e f : spec.Entry) → IsOfKind kind e
@@ -344,7 +347,8 @@ impl<S: BuildHasher + Drop> Comparison<S> {
     }
 }
 
-/// What a second capture's error is: a refusal waits until the first capture is read to its end.
+/// Returns what an error of the second capture leads to: a refusal waits until the first capture is
+/// read to its end.
 fn refused(error: Error) -> Result<Option<Finding>, SameError>
     ensures { result ≡ met_second error }
 {

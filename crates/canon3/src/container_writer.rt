@@ -1,4 +1,4 @@
-// What entries are written as, to a sink.
+//! What entries are written as, to a sink.
 
 ghost use Rattle.std.specs.Prelude.{◌≡◌, IfErr, OnErr, OnOk};
 ghost use Rattle.std.specs.Io.KnownBytes.{Appends};
@@ -14,11 +14,12 @@ use crate::whole_writes::{write_all, write_record};
 use capture3::{Error, pack_chunk};
 use record_mark::BODY_LIMIT;
 
-/// Writes what an entry is written as. After an error a front of it was written.
+/// Writes what an entry is written as. After an error a prefix of it was written.
 ///
 /// # Errors
 ///
-/// `Write` where a write failed, and `Memory` where the message has more than 16,777,216 bytes.
+/// - `Write` if a write failed.
+/// - `Memory` if the message has more than 16,777,216 bytes.
 pub(crate) fn write_spelling<W: Sink>(
     sink: &mut W,
     form: Spelling,
@@ -39,11 +40,11 @@ pub(crate) fn write_spelling<W: Sink>(
     }
 }
 
-/// Writes a word of the container. After an error a front of it was written.
+/// Writes a word of the container. After an error a prefix of it was written.
 ///
 /// # Errors
 ///
-/// `Write` where a write failed.
+/// `Write` if a write failed.
 pub fn write_word<W: Sink>(sink: &mut W, n: u32) -> Result<(), Error>
     ensures ok { OnOk result (Appends (W.written sink.old) (W.written sink.new) (word_bytes n)) }
     ensures err { OnErr result
@@ -57,12 +58,13 @@ pub fn write_word<W: Sink>(sink: &mut W, n: u32) -> Result<(), Error>
     }
 }
 
-/// Writes a message as one chunk, which is one record of one fragment. After an error a front of it was
-/// written.
+/// Writes a message as one chunk, which is one record of one fragment. After an error a prefix of
+/// it was written.
 ///
 /// # Errors
 ///
-/// `Write` where a write failed, and `Memory` where the message has more than 16,777,216 bytes.
+/// - `Write` if a write failed.
+/// - `Memory` if the message has more than 16,777,216 bytes.
 // No message of a capture has more bytes than a record may have, and with numbers it has no more.
 pub fn write_message<W: Sink>(sink: &mut W, message: &[u8]) -> Result<(), Error>
     ensures ok { OnOk result

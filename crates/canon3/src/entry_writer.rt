@@ -1,4 +1,4 @@
-// What is written of a capture while it is read, from a source to a sink.
+//! What is written of a capture while it is read, from a source to a sink.
 
 ghost use Rattle.std.specs.Prelude.{◌≡◌, ◌<◌, ◌≤◌, ◌+◌, ◌^◌, ◌++◌, ◌∷◌, ℕ, List, [], Option, None, bytes_eq, length, min, IfErr, IfOk, IsTrue, OnOk};
 ghost use Rattle.capture3.specs.Told.{GavePrefix, Told};
@@ -23,24 +23,26 @@ use std::alloc::Global;
 use std::hash::BuildHasher;
 use xdr3::Visit;
 
-/// A writer of a capture's entries, one after another, in some form. It is told the items of each entry
-/// while it is read, and then writes it.
+/// A writer of a capture's entries, one after another, in some form. It visits the items of each
+/// entry while it is read, and then writes it.
 pub trait EntryWriter: Visit {
     /// The bytes that a list of entries is written as.
     ghost form: { List spec.Entry → List ℕ };
 
-    /// The items that stand for the entries that were written, in front of those of the next one.
+    /// The items that represent the entries that were written, before those of the next one.
     ghost before: { List spec.Entry → List Item };
 
     /// Holds of a writer that has not failed.
     ghost going: { Self → Type 0 };
 
-    /// Writes what the entry whose items were told adds to the form.
+    /// Writes what the entry whose items were visited adds to the form.
     ///
     /// # Errors
     ///
-    /// `Write` where a write failed, and `Memory` where it ran out: a front of the form is
-    /// written, and nothing can follow.
+    /// - `Write` if a write failed.
+    /// - `Memory` if an allocation failed.
+    ///
+    /// A prefix of the form is written then, and nothing can follow.
     fn write<W: Sink>(&mut self, passed: &Passed, sink: &mut W, kind: Kind) -> Result<(), Error>
         requires { passed_steps passed.now + 1 < 2 ^ 32 }
         ensures writes { WritesOne form before Self.stands going self.old self.new passed.now kind
@@ -48,22 +50,26 @@ pub trait EntryWriter: Visit {
         ensures count { CountsWriting (W.failures sink.old) (W.failures sink.new) result }
         ensures error { IfErr result IsOfWriting };
 
-    /// How many distinct file handles that are not empty there were, at most 4,294,967,295.
+    /// Returns how many distinct file handles that are not empty there were, at most 4,294,967,295.
     fn handles(&self) -> u32
         ensures { (entries : List spec.Entry) → going self.now
             → Self.stands self.now (before entries)
             → result ≡ min (length (distinct bytes_eq (values.handles entries))) number_limit };
 }
 
-/// Reads a capture to its end, writes the form of its entries as they come, and flushes the sink. It
-/// holds one block of the source's bytes, one record, the calls of the open connection, and what the
-/// writer holds.
+/// Reads a capture to its end, writes the form of its entries as they come, and flushes the sink.
+/// It keeps one block of the source's bytes, one record, the calls of the open connection, and what
+/// the writer keeps.
 ///
 /// # Errors
 ///
-/// `Refused` with the first fault of a capture that is not well formed, and `Read` where a read failed:
-/// the form of the entries before it is written whole. `Write` where a write or the flush failed, and
-/// `Memory` where it ran out: a front of the form is written. After an error nothing is flushed.
+/// - `Refused` with the first fault if the capture is not well formed. The form of the entries
+///   before it is written whole.
+/// - `Read` if a read failed. The form of the entries before it is written whole.
+/// - `Write` if a write or the flush failed, and `Memory` if an allocation failed. A prefix of the
+///   form is written.
+///
+/// After an error nothing is flushed.
 pub fn write_entries<R: Source, W: Sink, E: EntryWriter, S: BuildHasher + Drop>(
     alloc: Global,
     hasher: S,
@@ -93,7 +99,7 @@ pub fn write_entries<R: Source, W: Sink, E: EntryWriter, S: BuildHasher + Drop>(
     result
 }
 
-/// Writes what a new reader hands out.
+/// Writes what a new reader returns.
 fn write_new<R: Source, W: Sink, E: EntryWriter, S: BuildHasher + Drop>(
     entries: &mut Entries<'_, R, S>,
     sink: &mut W,
@@ -162,7 +168,7 @@ fn write_rest<R: Source, W: Sink, E: EntryWriter, S: BuildHasher + Drop>(
     Ok(())
 }
 
-/// Writes the next entry. False stands for the end.
+/// Writes the next entry. Returns `false` at the end.
 fn write_next<R: Source, W: Sink, E: EntryWriter, S: BuildHasher + Drop>(
     entries: &mut Entries<'_, R, S>,
     passed: &mut Passed,
@@ -194,7 +200,7 @@ fn write_next<R: Source, W: Sink, E: EntryWriter, S: BuildHasher + Drop>(
     }
 }
 
-/// Writes the entry, and says that it came.
+/// Writes the entry, and counts it.
 fn write_one<W: Sink, E: EntryWriter>(
     passed: &mut Passed,
     sink: &mut W,

@@ -1,4 +1,4 @@
-// The file handles of a capture.
+//! The file handles of a capture.
 
 ghost use Rattle.std.specs.Prelude.{◌≡◌, ◌++◌, ◌∷◌, List, [], bytes_eq, length, min, OnErr, OnOk};
 ghost use Rattle.xdr3.specs.Item.{Item};
@@ -14,7 +14,7 @@ use std::hash::BuildHasher;
 use std::marker::Model;
 use xdr3::{PlainField, Visit};
 
-/// A visitor that gathers the distinct file handles that are not empty (RFC 1813, section 2.5).
+/// A visitor that collects the distinct file handles that are not empty (RFC 1813, section 2.5).
 #[derive(Drop)]
 pub struct HandleTable<S: BuildHasher + Drop> {
     numbers: Numbers<Handle, S>,
@@ -30,7 +30,7 @@ impl<S: BuildHasher + Drop> Model for HandleTable<S> {
 }
 
 impl<S: BuildHasher + Drop> HandleTable<S> {
-    /// No handles.
+    /// Returns a table without handles.
     pub fn new(alloc: Global, hasher: S) -> HandleTable<S>
         ensures { Gathers result [] }
     {
@@ -49,7 +49,7 @@ impl<S: BuildHasher + Drop> HandleTable<S> {
         Ok(())
     }
 
-    /// How many there are, at most 4,294,967,295.
+    /// Returns how many there are, at most 4,294,967,295.
     pub fn len(&self) -> u32
         ensures { (items : List Item) → Gathers self.now items
             → result ≡ min (length (distinct bytes_eq (handles_in items))) number_limit }

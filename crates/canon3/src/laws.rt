@@ -16,7 +16,7 @@ ghost use Rattle.canon3.specs.CanonicalStream.{entries_after};
 ghost use Rattle.canon3.specs.Bytes.{bytes_of};
 ghost use Rattle.canon3.specs.Laws.{AreFirst, AreOfTheirBytes, CallStaysACall, EndTogether, FrontsAreDecided, HavePlaces, PartOnce, PartSomewhere, PartWhereFormsDo, ReplyStaysAReply};
 
-/// Ranks are blind to one-to-one renaming.
+/// Ranks are the same before and after a one-to-one renaming.
 pub fn ranks_are_blind()
     ensures injective { (f : List ℕ → List ℕ) (x : List ℕ) (l : List (List ℕ))
         → IsInjectiveOn f (x ∷ l) → rank bytes_eq (f x) (map f l) ≡ rank bytes_eq x l }
@@ -25,7 +25,8 @@ pub fn ranks_are_blind()
         → rank bytes_eq x l ≡ rank bytes_eq y m }
 {}
 
-/// A table of the distinct keys so far numbers each key by its rank, and later keys leave the numbers.
+/// A table of the distinct keys so far numbers each key by its rank, and later keys do not change
+/// the numbers.
 pub fn tables_number_by_rank()
     ensures number { (x : List ℕ) (l : List (List ℕ))
         → rank bytes_eq x (l ++ x ∷ []) ≡ 1 + position_or_len (bytes_eq x) (distinct bytes_eq l) }
@@ -35,14 +36,15 @@ pub fn tables_number_by_rank()
         → rank bytes_eq x (l ++ m) ≡ rank bytes_eq x l }
 {}
 
-/// Two captures that are not the same part at one place.
+/// If two captures are not the same up to renaming, there is exactly one position at which they
+/// first differ.
 pub fn captures_part_at_one_place()
     ensures some { (file other : List ℕ) (a b : List Entry) → Typed file a → Typed other b
         → PartSomewhere a b }
     ensures one { (a b : List Entry) → AreFirst a → AreFirst b → PartOnce a b }
 {}
 
-/// Messages under numbers keep their layouts and their procedures.
+/// Messages with numbers keep their layouts and their procedures.
 pub fn numbers_keep_layouts()
     ensures call { (hs vs : List (List ℕ)) (xs : List ℕ) (items : List Item)
         → CallStaysACall hs vs xs items }
@@ -50,15 +52,15 @@ pub fn numbers_keep_layouts()
         → ReplyStaysAReply hs vs xs id items }
 {}
 
-/// The canonical form of the entries of a well-formed file is well formed: its bytes are a file with
-/// just these entries, which has no more stream bytes than the file.
+/// The canonical form of the entries of a well-formed file is well formed: its bytes are a file
+/// with exactly these entries, which has no more stream bytes than the file.
 pub fn canonical_form_is_a_file()
     ensures { (file : List ℕ) (entries : List Entry) (typed : Typed file entries)
         → AreOfTheirBytes (canonical entries) (total_size typed.connections) }
 {}
 
-/// The entries that any bytes reach are the first entries of a well-formed file, so the laws speak of
-/// them too.
+/// The entries that any bytes reach are the first entries of a well-formed file, so the laws hold
+/// for them too.
 pub fn reached_entries_are_first()
     ensures { (bytes : List ℕ) (entries : List Entry) → Reached bytes entries → AreFirst entries }
 {}
@@ -70,8 +72,8 @@ pub fn canonical_again()
     ensures same { (entries : List Entry) → AreFirst entries → Same entries (canonical entries) }
 {}
 
-/// Two captures, or the first entries of two, are the same up to renaming exactly where the bytes of
-/// their canonical forms are equal.
+/// Two captures, or the first entries of two, are the same up to renaming if and only if the bytes
+/// of their canonical forms are equal.
 pub fn canonical_bytes_decide()
     ensures same { (a b : List Entry) → AreFirst a → AreFirst b
         → bytes_of (canonical a) ≡ bytes_of (canonical b) → Same a b }
@@ -87,8 +89,8 @@ pub fn same_is_an_equivalence()
     ensures transitive { (a b c : List Entry) → Same a b → Same b c → Same a c }
 {}
 
-/// The canonical form of the first entries is the first entries of the canonical form, and its bytes
-/// are a prefix of the whole's. It is made entry by entry, with numbers by the values so far.
+/// The canonical form of the first entries is the first entries of the canonical form, and its
+/// bytes are a prefix of the whole's. It is made entry by entry, with numbers by the values so far.
 pub fn canonical_forms_of_prefixes()
     ensures entries { (i : ℕ) (a : List Entry) → AreFirst a
         → canonical (take i a) ≡ take i (canonical a) }
@@ -98,7 +100,7 @@ pub fn canonical_forms_of_prefixes()
     ensures first { (i : ℕ) (a : List Entry) → AreFirst a → AreFirst (take i a) }
 {}
 
-/// A comparison of canonical bytes entry by entry finds the first place.
+/// A comparison of canonical bytes entry by entry finds the first position at which they differ.
 pub fn comparison_finds_the_parting()
     ensures fronts { (a b : List Entry) → AreFirst a → AreFirst b → FrontsAreDecided a b }
     ensures parts { (a b : List Entry) → AreFirst a → AreFirst b → PartWhereFormsDo a b }

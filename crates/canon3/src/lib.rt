@@ -1,4 +1,4 @@
-//! Counts of a capture, what it is up to renaming, and where its canonical form is written to.
+//! What a capture has, what it is up to renaming, and its canonical form.
 #![tactic(auto)]
 
 mod canonical_form;

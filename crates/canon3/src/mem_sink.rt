@@ -1,4 +1,4 @@
-// A sink in memory.
+//! A sink in memory.
 
 ghost use Rattle.std.specs.Prelude.{◌≡◌, ◌≤◌, ◌<◌, ◌+◌, ◌-◌, ◌↔◌, ◌⊎◌, [], length, take, min, Some, IfOk, IsErr, OnOk, OnErr, vec_len, vec_capacity};
 ghost use Rattle.std.specs.Io.KnownBytes.{WriteAppends, Keeps};
@@ -11,8 +11,9 @@ use capture3::{DeviceFailed, FaultPlan};
 use std::alloc::{AllocError, Global};
 use std::marker::Model;
 
-/// A sink in memory, which tells its bytes, and which of them were flushed. It has room for so many bytes,
-/// takes at most `block` of a piece, and one call alone fails besides those without room.
+/// A sink in memory, which exposes its bytes to clauses, and which of them were flushed. It takes
+/// at most `room` bytes in all, and at most `block` of a piece. One planned call fails, and so does
+/// each call without room.
 #[derive(Drop)]
 pub struct MemSink {
     bytes: Vec<u8>,
@@ -43,7 +44,8 @@ impl Model for MemSink {
 }
 
 impl MemSink {
-    /// Call number `fail` fails, writes and flushes counted together, and none where it is 0.
+    /// Returns a sink whose call number `fail` fails, counting writes and flushes together. If
+    /// `fail` is 0, none does.
     pub fn new(alloc: Global, room: usize, block: usize, fail: u64) -> Result<MemSink, AllocError>
         requires { 0 < block }
         ensures { IfOk result (λ sink. sink
@@ -67,14 +69,14 @@ impl MemSink {
         })
     }
 
-    /// What was written.
+    /// Returns the bytes written so far.
     pub fn bytes(&self) -> &[u8]
         ensures { result.now ≡ self.now.bytes }
     {
         &self.bytes
     }
 
-    /// Those of the bytes that were flushed.
+    /// Returns those of the bytes that were flushed.
     pub fn flushed(&self) -> &[u8]
         ensures { result.now ≡ self.now.flushed }
     {

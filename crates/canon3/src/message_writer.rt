@@ -1,4 +1,4 @@
-// The writer of the canonical form, one message at a time.
+//! The writer of the canonical form, one message at a time.
 
 ghost use Rattle.std.specs.Prelude.{◌≡◌, ◌≢◌, ◌≤◌, ◌++◌, ◌∷◌, ℕ, List, [], bytes_eq, length, min, IfOk, OnErr, OnOk};
 ghost use Rattle.xdr3.specs.Item.{Handle as HandleKind, Item, Opaque, Word, WriteVerf, word_bytes};
@@ -16,14 +16,14 @@ use std::alloc::{AllocError, Global};
 use std::hash::BuildHasher;
 use xdr3::{PlainField, Visit, Writer};
 
-/// How far a message is.
+/// How far the message is.
 #[derive(Clone, Copy)]
 pub(crate) enum Stage {
-    /// At its xid.
+    /// The message has been opened; its xid is the next item.
     Begins,
-    /// After its xid.
+    /// Its xid was written.
     Goes,
-    /// Memory ran out, and the tables may have more than was written.
+    /// An allocation failed, and the tables may have more than was written.
     Failed,
 }
 
@@ -37,7 +37,7 @@ pub(crate) struct MessageWriter<S: BuildHasher + Drop> {
     pub(crate) stage: Stage,
 }
 
-/// The handle's number. At most 64 bytes in it.
+/// Returns the handle's number. The handle has at most 64 bytes.
 fn number_of_handle<S: BuildHasher + Drop>(
     handles: &mut Numbers<Handle, S>,
     bytes: &[u8],
@@ -51,7 +51,7 @@ fn number_of_handle<S: BuildHasher + Drop>(
     handles.number_of(Handle::from_short(bytes))
 }
 
-/// Returns the spelling of a handle of four bytes, which are the number.
+/// Returns the encoding of a handle of four bytes, which are the number.
 fn spelled_number(number: u32) -> [u8; 8]
     ensures { result ≡ word_bytes 4 ++ word_bytes number }
 {
@@ -62,7 +62,7 @@ fn spelled_number(number: u32) -> [u8; 8]
 }
 
 impl<S: BuildHasher + Drop> MessageWriter<S> {
-    /// Before a capture.
+    /// Returns a writer before a capture.
     pub(crate) fn new(alloc: Global, handles: S, verfs: S, xids: S) -> MessageWriter<S>
         ensures stands { WriterStands result (told_after (values_of []) []) }
         ensures going { IsGoing result }
@@ -99,7 +99,7 @@ impl<S: BuildHasher + Drop> MessageWriter<S> {
         self.stage = Stage::Begins;
     }
 
-    /// Fails where memory ran out for a value. Then nothing can follow.
+    /// Returns an error if an earlier allocation failed; the writer can then not be used further.
     pub(crate) fn unless_failed(&self) -> Result<(), AllocError>
         ensures { OnOk result (IsGoing self.now) }
     {
@@ -109,7 +109,7 @@ impl<S: BuildHasher + Drop> MessageWriter<S> {
         }
     }
 
-    /// Writes the xid's number in place of the xid `n`.
+    /// Writes the number of an xid instead of the xid `n`.
     fn write_xid(&mut self, name: &'static str, n: u32) -> Result<(), AllocError>
         requires { self.old.stage ≡ Stage.Begins }
         ensures ok { OnOk result (Adds WriterStands self.old self.new (Word name.now n ∷ [])) }
@@ -120,7 +120,7 @@ impl<S: BuildHasher + Drop> MessageWriter<S> {
         self.writer.word(name, number)
     }
 
-    /// Writes the handle's number in place of the handle.
+    /// Writes the number of a file handle instead of the handle.
     fn write_handle(&mut self, name: &'static str, bytes: &[u8]) -> Result<(), AllocError>
         requires short { length bytes.now ≤ 64 }
         requires some { bytes.now ≢ [] }
@@ -132,7 +132,7 @@ impl<S: BuildHasher + Drop> MessageWriter<S> {
         self.writer.fixed(name, &spelled_number(number))
     }
 
-    /// Writes the verifier's number in place of the verifier.
+    /// Writes the number of a write verifier instead of its bytes.
     fn write_verifier(&mut self, name: &'static str, bytes: &[u8; 8]) -> Result<(), AllocError>
         ensures ok { OnOk result (Adds WriterStands self.old self.new
             (WriteVerf name.now bytes.now ∷ [])) }

@@ -1,4 +1,4 @@
-// Numbers of keys by their first appearance.
+//! Numbers of keys by their first appearance.
 
 ghost use Rattle.std.specs.Prelude.{◌≡◌, ◌+◌, ◌-◌, ◌^◌, ◌++◌, ◌∷◌, min, true, List, [], length, IfOk, OnOk, OnErr, IsOk};
 ghost use Rattle.std.specs.List.{list_any};
@@ -9,8 +9,8 @@ use std::alloc::{AllocError, Global};
 use std::hash::{BuildHasher, Hash};
 use std::marker::Model;
 
-/// The keys given so far, each with a number: 1 for the first, 2 for the next other one, and so on. The
-/// hasher plays no part in the numbers.
+/// The keys given so far, each with a number: 1 for the first, 2 for the next other one, and so on.
+/// The hasher does not affect the numbers.
 #[derive(Drop)]
 pub struct Numbers<K: Copy + Eq + Hash, S: BuildHasher + Drop> {
     keys: IndexSet<K, S>,
@@ -28,7 +28,7 @@ impl<K: Copy + Eq + Hash, S: BuildHasher + Drop> Model for Numbers<K, S> {
 }
 
 impl<K: Copy + Eq + Hash, S: BuildHasher + Drop> Numbers<K, S> {
-    /// A table that was given no key.
+    /// Returns a table that was given no key.
     pub fn new(alloc: Global, hasher: S) -> Numbers<K, S>
         ensures { HoldsDistinct K.eq result [] }
     {
@@ -37,9 +37,9 @@ impl<K: Copy + Eq + Hash, S: BuildHasher + Drop> Numbers<K, S> {
         }
     }
 
-    /// The key's number: 1 plus the number of distinct keys given before its first time, at most
-    /// 4,294,967,295. Only a key that was not given before takes memory, and where there is none the
-    /// table stays.
+    /// Returns the key's number: 1 plus the number of distinct keys given before its first time, at
+    /// most 4,294,967,295. Only a key that was not given before needs memory. If an allocation
+    /// fails, the table is unchanged.
     pub fn number_of(&mut self, key: K) -> Result<u32, AllocError>
         ensures number { (given : List K) → HoldsDistinct K.eq self.old given
             → IfOk result (λ n. n ≡ min (rank K.eq key (given ++ key ∷ [])) number_limit) }
@@ -53,7 +53,7 @@ impl<K: Copy + Eq + Hash, S: BuildHasher + Drop> Numbers<K, S> {
         Ok(u32::try_from(index).unwrap_or(u32::MAX).saturating_add(1))
     }
 
-    /// The number of distinct keys given, at most 4,294,967,295.
+    /// Returns the number of distinct keys given, at most 4,294,967,295.
     pub fn len(&self) -> u32
         ensures { (given : List K) → HoldsDistinct K.eq self.now given
             → result ≡ min (length (distinct K.eq given)) number_limit }
@@ -61,8 +61,8 @@ impl<K: Copy + Eq + Hash, S: BuildHasher + Drop> Numbers<K, S> {
         u32::try_from(self.keys.len()).unwrap_or(u32::MAX)
     }
 
-    /// Forgets the keys, and keeps the hasher and the memory. It costs what the table holds, and not what it
-    /// has room for.
+    /// Drops the keys, and keeps the hasher and the memory. Its cost follows what the table holds,
+    /// not its capacity.
     pub fn clear(&mut self)
         ensures { HoldsDistinct K.eq self.new [] }
     {

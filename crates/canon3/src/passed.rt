@@ -1,4 +1,4 @@
-// What came of a capture so far.
+//! What came of a capture so far.
 
 ghost use Rattle.std.specs.Prelude.{◌≡◌, ◌<◌, ◌≤◌, ◌+◌, ◌^◌, ◌++◌, ◌∷◌, List, [], bytes_eq, if◌then◌else◌, length, min};
 ghost use Rattle.capture3.specs.Entry as spec;
@@ -13,7 +13,7 @@ use crate::progress::Progress;
 use crate::summary::Summary;
 use capture3::Kind;
 
-/// How many entries of each kind came, and where the next one stands.
+/// How many entries of each kind came, and the position of the next one.
 #[derive(Drop)]
 pub struct Passed {
     progress: Progress,
@@ -22,7 +22,7 @@ pub struct Passed {
 }
 
 impl Passed {
-    /// Before any entry.
+    /// Returns the counts before any entry.
     pub(crate) fn new() -> Passed
         ensures passed { ArePassed result [] }
         ensures none { passed_steps result ≡ 0 }
@@ -34,21 +34,21 @@ impl Passed {
         }
     }
 
-    /// How many connections began.
+    /// Returns how many connections began.
     pub fn connections(&self) -> u32
         ensures { result ≡ connections_in self.now }
     {
         self.progress.connections()
     }
 
-    /// How many records the open stream has so far.
+    /// Returns how many records the open stream has so far.
     pub fn records(&self) -> u32
         ensures { result ≡ records_in self.now }
     {
         self.progress.records()
     }
 
-    /// One entry more.
+    /// Counts an entry.
     pub(crate) fn add(&mut self, kind: Kind)
         requires { passed_steps self.old + 1 < 2 ^ 32 }
         ensures few { passed_steps self.new ≤ passed_steps self.old + 1 }
@@ -59,7 +59,7 @@ impl Passed {
         self.count(kind);
     }
 
-    /// One message more, where the entry is one.
+    /// Counts a message, if the entry is one.
     fn count(&mut self, kind: Kind)
         requires { self.old.calls + self.old.replies + 1 < 2 ^ 32 }
         ensures calls { self.new.calls ≡ self.old.calls + (if calls kind then 1 else 0) }
@@ -73,7 +73,7 @@ impl Passed {
         }
     }
 
-    /// The summary with so many distinct handles.
+    /// Returns the counts so far, with the given number of distinct handles.
     pub(crate) fn summary(&self, handles: u32) -> Summary
         ensures { (entries : List spec.Entry) → ArePassed self.now entries
             → handles ≡ min (length (distinct bytes_eq (values.handles entries))) number_limit

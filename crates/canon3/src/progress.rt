@@ -1,4 +1,4 @@
-// How far the entries of a capture have come.
+//! How far the entries of a capture have come.
 
 ghost use Rattle.std.specs.Prelude.{◌≡◌, ◌<◌, ◌≤◌, ◌+◌, ◌^◌, [], None, Some};
 ghost use Rattle.canon3.specs.Progress.{HasPassed, steps_of};
@@ -25,7 +25,7 @@ fn side_of(kind: Kind) -> Option<Side>
 }
 
 impl Progress {
-    /// Before any entry.
+    /// Returns the progress before any entry.
     pub fn new() -> Progress
         ensures passed { HasPassed result [] }
         ensures none { steps_of result ≡ 0 }
@@ -36,21 +36,21 @@ impl Progress {
         }
     }
 
-    /// How many connections began.
+    /// Returns how many connections began.
     pub fn connections(&self) -> u32
         ensures { result ≡ self.now.connections }
     {
         self.connections
     }
 
-    /// How many records the open stream has so far.
+    /// Returns how many records the open stream has so far.
     pub fn records(&self) -> u32
         ensures { result ≡ self.now.records }
     {
         self.records
     }
 
-    /// One entry more.
+    /// Counts an entry.
     pub fn pass(&mut self, kind: Kind)
         requires { steps_of self.old + 1 < 2 ^ 32 }
         ensures few { steps_of self.new ≤ steps_of self.old + 1 }
@@ -67,8 +67,8 @@ impl Progress {
         }
     }
 
-    /// Where the next two entries differ: at the next record where one of them is a message, and else
-    /// before the records of the next connection.
+    /// Returns where the next two entries differ: at the next record if one of them is a message,
+    /// and otherwise before the records of the next connection.
     pub(crate) fn place(&self, kind: Kind, other: Kind) -> Place
         requires { steps_of self.now + 1 < 2 ^ 32 }
         ensures { result ≡ place_from self.now (side_of_kind kind) (side_of_kind other) }
@@ -87,7 +87,7 @@ impl Progress {
         }
     }
 
-    /// The next record of the open stream.
+    /// Returns the position of the next record in the open stream.
     fn record(&self, side: Side) -> Place
         requires { steps_of self.now + 1 < 2 ^ 32 }
         ensures { result ≡ place_from self.now (Some side) None }

@@ -1,4 +1,4 @@
-// What takes bytes and may fail, and a sink over a writer.
+//! Sinks of bytes whose calls may fail.
 
 ghost use Rattle.std.specs.Prelude.{◌≡◌, ◌≤◌, ◌<◌, ℕ, List, length, Option, None, IfOk, OnOk};
 ghost use Rattle.std.specs.Io.KnownBytes.{WriteAppends, Keeps};
@@ -20,7 +20,7 @@ pub trait Sink {
     // How many writes and flushes have failed, up to 2^64 - 1.
     ghost failures: { Self → ℕ };
 
-    /// Writes a front of `piece`, and gives how many bytes of it.
+    /// Writes a prefix of `piece`, and returns how many bytes it has.
     fn write_some(&mut self, piece: &[u8]) -> Result<usize, DeviceFailed>
         requires content { 0 < length piece.now }
         ensures some { IfOk result (λ n. 0 < n) }
@@ -36,8 +36,8 @@ pub trait Sink {
         ensures count { Counts (failures self.old) (failures self.new) result };
 }
 
-/// A sink over any writer, which tells the bytes that the writer tells. What a flush of a writer does,
-/// no contract of the standard library says, so it does not tell what was flushed.
+/// A sink over any writer, which exposes to clauses the bytes that the writer does. No contract of the
+/// standard library says what a flush of a writer does, so it does not expose what was flushed.
 #[derive(Drop)]
 pub struct ToWrite<W> {
     writer: W,
@@ -53,7 +53,7 @@ impl<W> Model for ToWrite<W> {
 }
 
 impl<W: Write> ToWrite<W> {
-    /// A sink over the writer, of which no write or flush has failed.
+    /// Returns a sink over the writer, of which no write or flush has failed.
     pub fn new(writer: W) -> ToWrite<W>
         ensures { result ≡ record { device = writer; failures = 0 } }
     {
@@ -63,7 +63,7 @@ impl<W: Write> ToWrite<W> {
         }
     }
 
-    /// The writer.
+    /// Returns the writer.
     pub fn inner(&self) -> &W
         ensures { result.now ≡ self.now.device }
     {

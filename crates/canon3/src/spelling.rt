@@ -1,4 +1,4 @@
-// What an entry is written as in the canonical form.
+//! What an entry is written as in the canonical form.
 
 ghost use Rattle.std.specs.Prelude.{◌≡◌, ◌≢◌, ◌<◌, ◌^◌, ◌++◌, ◌∷◌, List, [], length, IfOk, MatchBool};
 ghost use Rattle.capture3.specs.Entry as spec;
@@ -20,11 +20,12 @@ pub(crate) enum Spelling {
     Zero,
     /// The word 1.
     One,
-    /// The message that the writer holds.
+    /// The message that the writer has encoded.
     Message,
 }
 
-/// What an entry is written as, whose items the writer was told. After an error nothing can follow.
+/// Returns what an entry is written as, whose items the writer visited. After an error nothing can
+/// follow.
 pub(crate) fn spelling_of_entry<S: BuildHasher + Drop>(
     message_writer: &mut MessageWriter<S>,
     kind: Kind,
@@ -45,7 +46,7 @@ pub(crate) fn spelling_of_entry<S: BuildHasher + Drop>(
     }
 }
 
-/// Whether two entries are written as the same bytes.
+/// Returns whether two entries are written as the same bytes.
 pub(crate) fn are_alike(form: Spelling, message: &[u8], other_form: Spelling, other: &[u8]) -> bool
     ensures { MatchBool result (spelling_of form message.now ≡ spelling_of other_form other.now)
         (spelling_of form message.now ≢ spelling_of other_form other.now) }

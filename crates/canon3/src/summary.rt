@@ -1,4 +1,4 @@
-// Whether a capture is well formed, and what it has.
+//! Whether a capture is well formed, and what it has.
 
 ghost use Rattle.std.specs.Prelude.{◌≡◌, ◌≢◌, ◌<◌, ◌≤◌, ◌+◌, ℕ, List, [], Option, None, Some, IfErr, IfOk, IsTrue, OnOk};
 ghost use Rattle.capture3.specs.Told.{GavePrefix, Told};
@@ -28,12 +28,16 @@ pub struct Summary {
     pub handles: u32,
 }
 
-/// Reads a capture to its end, and counts what it has where it is well formed.
+/// Reads a capture to its end, and returns how many connections, calls, replies and distinct file
+/// handles it has.
 ///
 /// # Errors
 ///
-/// `Refused` with the first fault of a capture that is not well formed, `Read` where a read failed, and
-/// `Memory` where it ran out; never `Write`.
+/// - `Refused` with the first fault if the capture is not well formed.
+/// - `Read` if a read failed.
+/// - `Memory` if an allocation failed.
+///
+/// It never returns `Write`.
 pub fn check<R: Source, S: BuildHasher + Drop>(
     alloc: Global,
     hashers: Hashers<S>,
@@ -59,7 +63,7 @@ pub fn check<R: Source, S: BuildHasher + Drop>(
     result
 }
 
-/// What a new reader hands out, up to its end.
+/// Counts what a new reader returns, up to its end.
 fn summed<R: Source, S: BuildHasher + Drop>(
     alloc: Global,
     hasher: S,
@@ -78,7 +82,7 @@ fn summed<R: Source, S: BuildHasher + Drop>(
     Ok(tally.summary()?)
 }
 
-/// What was met so far.
+/// What was counted so far.
 #[derive(Drop)]
 struct Tally<S: BuildHasher + Drop> {
     passed: Passed,
@@ -96,7 +100,7 @@ impl<S: BuildHasher + Drop> Tally<S> {
         }
     }
 
-    /// Adds all entries that are left.
+    /// Counts all entries that are left.
     fn add_all<R: Source>(&mut self, entries: &mut Entries<'_, R, S>) -> Result<(), Error>
         requires going { failure_of entries.old ≡ None }
         requires room { passed_steps self.old.passed + entries_left entries.old ≤ most_entries }
@@ -110,7 +114,7 @@ impl<S: BuildHasher + Drop> Tally<S> {
         Ok(())
     }
 
-    /// Adds the next entry. False stands for the end.
+    /// Counts the next entry. Returns `false` at the end.
     fn add_next<R: Source>(&mut self, entries: &mut Entries<'_, R, S>) -> Result<bool, Error>
         requires going { failure_of entries.old ≡ None }
         requires room { passed_steps self.old.passed + entries_left entries.old ≤ most_entries }

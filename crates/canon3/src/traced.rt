@@ -1,4 +1,4 @@
-// A writer that keeps a trail of what its writes took.
+//! A writer that keeps a trail of what its writes took.
 
 ghost use Rattle.std.specs.Prelude.{◌≡◌, [], Some};
 
@@ -7,8 +7,8 @@ use std::io;
 use std::io::Write;
 use std::marker::Model;
 
-/// A writer over any other, as a file, which tells the bytes that the other's writes took: they are held
-/// nowhere, and only clauses read them.
+/// A writer over any other, such as a file, which exposes to clauses the bytes that the other's writes took.
+/// They are kept nowhere, and only clauses read them.
 #[derive(Drop)]
 pub struct Traced<W> {
     writer: W,
@@ -24,7 +24,7 @@ impl<W> Model for Traced<W> {
 }
 
 impl<W: Write> Traced<W> {
-    /// Over a writer whose writes took nothing yet.
+    /// Returns a writer over one whose writes took nothing yet.
     pub fn new(writer: W) -> Traced<W>
         ensures { result ≡ record { device = writer; taken = [] } }
     {

@@ -1,4 +1,4 @@
-// What a comparison of two captures answers.
+//! What a comparison of two captures returns.
 
 use capture3::{Error, Place};
 

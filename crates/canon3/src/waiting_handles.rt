@@ -1,4 +1,4 @@
-// File handles that wait to be looked up together.
+//! File handles that wait to be looked up together.
 
 ghost use Rattle.std.specs.Prelude.{◌≡◌, ◌≢◌, ◌≤◌, ◌∷◌, List, [], bytes_eq, length, min, IfOk, OnErr, OnOk};
 ghost use Rattle.xdr3.specs.Item.{Handle as HandleKind, Item, Opaque};
@@ -17,9 +17,9 @@ use xdr3::{PlainField, Visit};
 /// How many handles wait at most.
 const MOST_WAITING: usize = 32;
 
-/// A visitor that gathers the distinct file handles that are not empty, as a `HandleTable` does. They wait
-/// until there are `MOST_WAITING`, and are then looked up one right after the other, so that the processor
-/// waits for several cache misses at once.
+/// A visitor that collects the distinct file handles that are not empty, as a `HandleTable` does.
+/// They wait until there are `MOST_WAITING`, and are then looked up one right after the other, so
+/// that the processor waits for several cache misses at once.
 #[derive(Drop)]
 pub(crate) struct WaitingHandles<S: BuildHasher + Drop> {
     numbers: Numbers<Handle, S>,
@@ -29,7 +29,7 @@ pub(crate) struct WaitingHandles<S: BuildHasher + Drop> {
 }
 
 impl<S: BuildHasher + Drop> WaitingHandles<S> {
-    /// Returns a visitor without handles. It takes no memory yet.
+    /// Returns a visitor without handles. It has not allocated yet.
     pub(crate) fn new(alloc: Global, hasher: S) -> WaitingHandles<S>
         ensures { GathersAll result [] }
     {

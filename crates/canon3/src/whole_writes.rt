@@ -1,4 +1,4 @@
-// Bytes that a sink is to take whole.
+//! Bytes that a sink takes whole.
 
 ghost use Rattle.std.specs.Prelude.{◌≡◌, ◌≤◌, ◌+◌, ◌^◌, ◌++◌, length, OnErr, OnOk};
 ghost use Rattle.std.specs.Io.KnownBytes.{Appends};
@@ -12,8 +12,8 @@ use crate::sink::Sink;
 use capture3::{DeviceFailed, pack_chunk};
 use record_mark::{BODY_LIMIT, header};
 
-/// Writes all of the bytes, in as many pieces as the sink takes them. After an error a front of them was
-/// written.
+/// Writes all of the bytes, in as many pieces as the sink takes them. After an error a prefix of
+/// them was written.
 pub fn write_all<W: Sink>(sink: &mut W, bytes: &[u8]) -> Result<(), DeviceFailed>
     ensures ok { OnOk result (Appends (W.written sink.old) (W.written sink.new) bytes.now) }
     ensures err { OnErr result (AppendsFront (W.written sink.old) (W.written sink.new) bytes.now) }
@@ -27,8 +27,8 @@ pub fn write_all<W: Sink>(sink: &mut W, bytes: &[u8]) -> Result<(), DeviceFailed
     Ok(())
 }
 
-/// Writes a record's body as one chunk that is one last fragment. At most 16,777,216 bytes in it. After an
-/// error a front of the chunk was written.
+/// Writes a record's body of at most 16,777,216 bytes as one chunk that is one last fragment. After
+/// an error a prefix of the chunk was written.
 pub(crate) fn write_record<W: Sink>(sink: &mut W, body: &[u8]) -> Result<(), DeviceFailed>
     requires { length body.now ≤ max_body }
     ensures ok { OnOk result (Appends (W.written sink.old) (W.written sink.new)
@@ -41,7 +41,7 @@ pub(crate) fn write_record<W: Sink>(sink: &mut W, body: &[u8]) -> Result<(), Dev
     write_all(sink, body)
 }
 
-/// The length of the chunk of a body of `len` bytes, and the body's header.
+/// Returns the length of the chunk of a body of `len` bytes, and the body's header.
 fn front(len: u32) -> [u8; 8]
     requires { len ≤ BODY_LIMIT }
     ensures { result ≡ word_bytes (4 + len) ++ word_bytes (2 ^ 31 + len) }

@@ -1,4 +1,4 @@
-// The container: connections of two streams, each cut into chunks, whose records are joined.
+//! The container: connections of two streams, each cut into chunks, whose records are joined.
 
 pub(crate) mod kept_streams;
 pub(crate) mod packing;
@@ -20,7 +20,7 @@ use record_mark::{JoinError, Joiner, Step};
 use std::alloc::Global;
 use xdr3::Reason;
 
-/// Where the judging stands in kept streams: at which side's, and how many of its bytes were taken.
+/// How far the kept streams are checked: which side's stream, and how many of its bytes were taken.
 #[derive(Clone, Copy)]
 pub(crate) struct Cursor {
     side: Side,
@@ -32,9 +32,9 @@ pub(crate) struct Cursor {
 pub(crate) struct Container {
     pub(crate) position: Position,
     pub(crate) joiner: Joiner,
-    /// Empty but in a connection of version 2.
+    /// The kept streams of the open connection. Empty outside a connection of version 2.
     pub(crate) streams: Streams,
-    /// Where the records of kept streams are judged. The position is already after their side word 0.
+    /// How far kept streams are checked. The position is after their side word 0 already.
     pub(crate) cursor: Option<Cursor>,
 }
 
@@ -55,7 +55,7 @@ impl Container {
         }
     }
 
-    /// The body of the record that is whole.
+    /// Returns the body of the record that is whole.
     pub(crate) fn body(&self) -> &[u8]
         requires { IsWhole self.now.joiner }
         ensures body { result.now ≡ body_of self.now.joiner }
@@ -64,7 +64,7 @@ impl Container {
         self.joiner.body()
     }
 
-    /// Makes room for the next record where one is whole.
+    /// If a record is whole, makes room for the next one.
     pub(crate) fn release(&mut self)
         ensures joiner { self.new.joiner ≡ released self.old.joiner }
         ensures position { self.new.position ≡ self.old.position }
@@ -74,7 +74,7 @@ impl Container {
         self.joiner.release();
     }
 
-    /// A fault of the record that is whole.
+    /// Returns a fault of the record that is whole.
     pub(crate) fn record_fault(&self, side: Side, byte: u32, reason: Reason) -> Error
         ensures { result ≡ Error.Refused
             (record {
@@ -86,8 +86,8 @@ impl Container {
         self.position.record_fault(side, byte, reason)
     }
 
-    /// What is whole next: a thing of kept streams, for which no byte is taken, or what bytes of `piece`
-    /// make whole. It says how many were taken: all of them where nothing is whole.
+    /// Returns what is whole next, and how many bytes of `piece` were taken for it: none if it is
+    /// of kept streams, and all of them if nothing is whole.
     #[inline(always)]
     pub(crate) fn next(&mut self, piece: &[u8]) -> Result<(usize, Option<Event>), Error>
         requires sound { IsSoundPosition self.old.position }
@@ -160,7 +160,7 @@ impl Container {
         Some((count, side))
     }
 
-    /// What is whole first in the streams, which are whole.
+    /// Returns what is whole first in the streams, which are whole.
     #[inline(never)]
     fn first_recalled(&mut self) -> Result<Event, Error>
         requires sound { IsSoundPosition self.old.position }
@@ -182,7 +182,8 @@ impl Container {
         self.recall(cursor)
     }
 
-    /// Takes bytes of `piece` until something is whole or the piece is used up, and says how many.
+    /// Takes bytes of `piece` until something is whole or the piece is used up, and returns how
+    /// many.
     #[inline(never)]
     fn advance(&mut self, piece: &[u8]) -> Result<(usize, Option<Event>), Error>
         requires sound { IsSoundPosition self.old.position }
@@ -215,7 +216,7 @@ impl Container {
         Ok((taken, None))
     }
 
-    /// Tests that the file may end here, after so many bytes.
+    /// Tests that the file may end here, after this many bytes.
     pub(crate) fn end(&self, size: u64) -> Result<(), Error>
         ensures ok { OnOk result (IsEndSpot self.now.position.spot) }
         ensures err { IfErr result (λ error. (IsEndSpot self.now.position.spot → ⊥)
@@ -294,7 +295,7 @@ impl Container {
         Ok(self.position.take_side_chunk(side, left, count as u32))
     }
 
-    /// Starts judging the streams, which are whole: from the client's first byte.
+    /// Starts to check the streams, which are whole, from the client's first byte.
     fn open_streams(&mut self) -> Cursor
         ensures result { result ≡ first_cursor }
         ensures cursor { self.new.cursor ≡ Some result }
@@ -313,8 +314,8 @@ impl Container {
         cursor
     }
 
-    /// What is whole next in the streams after the cursor: a record, or a stream's end. With the
-    /// server's the streams are let go.
+    /// Returns what is whole next in the streams after the cursor: a record, or a stream's end.
+    /// With the server's end the streams are let go.
     #[inline(never)]
     fn recall(&mut self, cursor: Cursor) -> Result<Event, Error>
         requires sound { IsSoundPosition self.old.position }
@@ -353,7 +354,7 @@ impl Container {
         }
     }
 
-    /// The end of this side's stream, which is cut where a record is open.
+    /// Ends this side's stream, which is cut if a record is open.
     fn recall_end(&mut self, side: Side) -> Result<Event, Error>
         requires sound { IsSoundPosition self.old.position }
         requires running { IsRunning self.old.joiner }
@@ -393,7 +394,7 @@ impl Container {
         }
     }
 
-    /// How many bytes of the body have come of a record that is open.
+    /// Returns how many bytes of the body have come if a record is open.
     fn open_body(&self) -> Option<u32>
         requires { IsRunning self.now.joiner }
         ensures { IsOpenBody result (joining_of self.now.joiner) }

@@ -1,10 +1,10 @@
-// What a device's call that failed answers.
+//! What a failed call of a device returns.
 
 pub(crate) mod mem_source;
 pub(crate) mod plan;
 pub(crate) mod source;
 pub(crate) mod trail;
 
-/// A device's read, write or flush failed.
+/// A read, a write or a flush failed.
 #[derive(Clone, Copy, Debug, PartialEq, Eq)]
 pub struct DeviceFailed;

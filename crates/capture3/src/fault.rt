@@ -1,4 +1,4 @@
-// Where a capture is refused, and what reading one may answer in place of its entries.
+//! Where a capture is refused, and why reading one fails.
 
 use std::alloc::{AllocError, AllocFailed};
 use xdr3::Reason;
@@ -6,14 +6,14 @@ use xdr3::Reason;
 /// One of the two streams of a connection.
 #[derive(Clone, Copy, Debug, PartialEq, Eq)]
 pub enum Side {
-    /// The client's stream, of calls.
+    /// The client's stream, with its calls.
     Client,
-    /// The server's stream, of replies.
+    /// The server's stream, with its replies.
     Server,
 }
 
-/// A place in a capture. Connections, and the records of each stream, are numbered from 1; bytes of a
-/// file and of a record's body from 0.
+/// A position in a capture. Connections, and the records of each stream, are counted from 1; bytes
+/// of the file and of a record's body from 0.
 #[derive(Clone, Copy, Debug, PartialEq, Eq)]
 pub enum Place {
     /// A byte of the file, or its length.
@@ -29,7 +29,7 @@ pub enum Place {
     },
 }
 
-/// The first fault of a capture.
+/// The first fault of a capture: its position and its reason.
 #[derive(Clone, Copy, Debug, PartialEq, Eq)]
 pub struct Fault {
     pub place: Place,
@@ -45,7 +45,7 @@ pub enum Error {
     Read,
     /// A write or a flush failed.
     Write,
-    /// Memory ran out.
+    /// An allocation failed.
     Memory,
 }
 

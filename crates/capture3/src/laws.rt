@@ -23,24 +23,25 @@ ghost use Rattle.capture3.specs.Examples.{bad_mtype, bad_mtype_cut, magic_1, nul
 ghost use Rattle.capture3.specs.Examples.{bad_mtype_mixed, bad_mtype_mixed_cut, call_answered_by_call, client_chunk, magic_2, null_mixed, null_mixed_swapped, server_chunk, word_3};
 ghost use Rattle.capture3.specs.Sides.{file_fault};
 
-/// For each file exactly one holds: one list of entries, or one first fault.
+/// Each file is well formed with exactly one list of entries, or has exactly one first fault, and
+/// never both.
 pub fn one_verdict()
     ensures { (file : List ℕ) → AreBytes file → HasOneVerdict file }
 {}
 
-/// The first fault of a file stands where its reason says: at a byte of the file, at its
-/// length, or in a record.
+/// The first fault of a file is at a position of the kind that its reason has: at a byte of the
+/// file, at its length, or in a record.
 pub fn in_its_place()
     ensures { (file : List ℕ) (fault : Fault) → FirstFault file fault
         → HasItsPlace file fault.reason fault.place }
 {}
 
-/// Every proper prefix of a well-formed file is cut at its own length.
+/// Every proper prefix of a well-formed file has the first fault `CaptureCut`, at its own length.
 pub fn cut_short()
     ensures { (file : List ℕ) → AreBytes file → IsCutShort file }
 {}
 
-/// Files of the same streams have the same entries: whatever version each has, and however it cuts
+/// Files with the same streams have the same entries, whatever their versions, and however they cut
 /// the streams into chunks.
 pub fn across_versions()
     ensures { (version other : Version) (file again : List ℕ) (connections : List Streams)
@@ -48,8 +49,8 @@ pub fn across_versions()
         → HaveSameEntries file again }
 {}
 
-/// A body of the client stream is one call, or has one first fault, after any calls before it; and so
-/// is a body of the server stream one reply, or has one first fault.
+/// A record of the client's stream is one call, or has one first fault, after any calls before it.
+/// A record of the server's stream is one reply, or has one first fault.
 pub fn judged_once()
     ensures calls { (before : List (List Item)) (body : List ℕ) → AreBytes body
         → IsJudgedOnce calls_in_turn before body }
@@ -57,15 +58,16 @@ pub fn judged_once()
         → AreBytes body → IsJudgedOnce (replies_to calls) before body }
 {}
 
-/// Judging body by body says the same of a connection as that its bodies are calls and replies, that
-/// calls with one xid have one procedure, and that each reply has the xid and the procedure of a call.
+/// Checking records one after another gives the same as the definition of a whole connection: its
+/// records are calls and replies, calls with one xid have one procedure, and each reply has the xid
+/// and the procedure of a call.
 pub fn judged_in_turn()
     ensures { (streams : Streams) (calls : List (List Item)) (replies : List ReplyItems)
         → IsJudgedInTurn streams calls replies }
 {}
 
 /// The entries of a well-formed file, and those that any bytes reach, begin at most 65,535
-/// connections, and the zero spellings of their messages have together at most 1,073,741,824 bytes.
+/// connections. The encodings of their messages have at most 1,073,741,824 bytes together.
 pub fn within_limits()
     ensures typed { (file : List ℕ) (entries : List Entry) → Typed file entries
         → AreWithinLimits entries }
@@ -73,7 +75,7 @@ pub fn within_limits()
         → AreWithinLimits entries }
 {}
 
-/// A capture has at most 5,369,495,552 bytes in version 1 and 9,664,200,708 in version 2, and bytes
+/// A capture has at most 5,369,495,552 bytes in version 1 and 9,664,200,708 in version 2. Bytes
 /// that show no fault are no longer than a capture of their version may be.
 pub fn longest()
     ensures captures { (version : Version) (file : List ℕ) (connections : List Streams)
@@ -81,8 +83,8 @@ pub fn longest()
     ensures clean { (bytes : List ℕ) → AreBytes bytes → IsClean bytes → IsWithinVersion bytes }
 {}
 
-/// The machine answers the entries or the first fault, and each only where it holds; and what it emits
-/// is what the bytes reach.
+/// The state machine returns the entries or the first fault, each if and only if it holds; and what
+/// it emits is what the bytes reach.
 pub fn machine()
     ensures entries { (file : List ℕ) (entries : List Entry) → AreBytes file
         → Typed file entries ↔ (verdict file ≡ Ok entries) }
@@ -92,13 +94,13 @@ pub fn machine()
         → Reached bytes entries ↔ (entries ≡ reached bytes) }
 {}
 
-/// The pieces in which the bytes come play no part.
+/// The pieces in which the bytes come do not matter.
 pub fn pieces()
     ensures { (front back : List ℕ) → parsed (front ++ back) ≡ after file_next (parsed front) back }
 {}
 
-/// What small captures are: one call of NULL and its reply, the smallest file, and some with faults; and
-/// the same in version 2, with the chunks of both sides in either order.
+/// What small captures are: one NULL call and its reply, the smallest file, and some with faults;
+/// and the same in version 2, with the chunks of both sides in either order.
 pub fn examples()
     ensures null { Typed null_capture null_entries }
     ensures smallest { Typed (magic_1 ++ word_0) (End ∷ []) }

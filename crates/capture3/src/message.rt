@@ -1,4 +1,4 @@
-// Refusals of messages.
+//! Refusals of messages.
 
 pub(crate) mod calls;
 pub(crate) mod scan;

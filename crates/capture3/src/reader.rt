@@ -1,4 +1,4 @@
-// What reads a capture: its entries one by one, or all at once.
+//! Readers of captures: their entries one by one, or all at once.
 
 pub(crate) mod entries;
 pub(crate) mod entry;

@@ -1,4 +1,4 @@
-// Readers of captures, and what they hand out, lend and keep.
+//! Readers of captures, and what they hand out, lend and keep.
 
 use crate::sample::NULL;
 use capture3::{

@@ -1,4 +1,4 @@
-// A worked capture.
+//! A worked capture.
 
 /// A call of the NULL procedure of NFS version 3 and its reply, in one chunk and one fragment each.
 pub(crate) const NULL: [u8; 104] = [

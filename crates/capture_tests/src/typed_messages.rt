@@ -1,5 +1,5 @@
-// Messages spelled by hand from RFC 1813, sections 3.3 and 5.2, and RFC 5531, section 9: the values that are read
-// of them, what is written of these again, and where and why they are refused.
+//! Messages spelled by hand from RFC 1813, sections 3.3 and 5.2, and RFC 5531, section 9: the values that are read
+//! of them, what is written of these again, and where and why they are refused.
 
 ghost use Rattle.std.specs.Prelude.{◌≤◌, length};
 

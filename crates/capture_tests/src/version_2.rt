@@ -1,4 +1,4 @@
-// Captures of version 2: the chunks of both sides in one list, and nothing of a connection is judged before its side word 0.
+//! Captures of version 2: the chunks of both sides in one list, and nothing of a connection is judged before its side word 0.
 
 use crate::captures::{NAMES, file_fault, hasher, message_is_told, name, name_of, read_names};
 use crate::sample::{CLIENT_FIRST, NULL, SERVER_FIRST};

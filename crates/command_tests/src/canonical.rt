@@ -1,4 +1,4 @@
-// Numbers, sinks and canonical forms.
+//! Numbers, sinks and canonical forms.
 
 use crate::samples::{commits, hashers};
 use canon3::{MemSink, Numbers, Sink, Summary, ToWrite, canon, write_all};

@@ -1,4 +1,4 @@
-// Comparisons of captures in memory.
+//! Comparisons of captures in memory.
 
 use crate::samples::{commit, hashers};
 use canon3::{SameError, Verdict, Which, same};

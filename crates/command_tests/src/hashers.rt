@@ -1,4 +1,4 @@
-// Hashers of several kinds: what the commands answer and write does not depend on them.
+//! Hashers of several kinds: what the commands answer and write does not depend on them.
 
 use canon3::{MemSink, SameError, Summary, Verdict, canon, check, same};
 use capture3::{Error, Fault, Hashers, MemSource, Place, Side};

@@ -1,4 +1,4 @@
-// Command lines, and what is made of them.
+//! Command lines, and what is made of them.
 
 use line3::{Job, LineFault, job};
 use std::alloc::Global;

@@ -1,4 +1,4 @@
-// Listings of captures in memory.
+//! Listings of captures in memory.
 
 use crate::samples::hashers;
 use canon3::{MemSink, Summary};

@@ -1,4 +1,4 @@
-// A capture in memory, masked in several ways.
+//! A capture in memory, masked in several ways.
 
 use canon3::{MemSink, Summary};
 use capture3::{Error, MemSource};

@@ -1,4 +1,4 @@
-// Streams packed to captures in memory.
+//! Streams packed to captures in memory.
 
 ghost use Rattle.std.specs.Prelude.{◌<◌, false, None};
 

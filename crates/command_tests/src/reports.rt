@@ -1,4 +1,4 @@
-// What is printed of each outcome, and its exit status.
+//! What is printed of each outcome, and its exit status.
 
 use canon3::{SameError, Summary, Verdict, Which};
 use capture3::{Error, Fault, Place, Side};

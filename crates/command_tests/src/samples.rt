@@ -1,4 +1,4 @@
-// Captures in memory, and hashers without a key: the answers do not depend on it.
+//! Captures in memory, and hashers without a key: the answers do not depend on it.
 
 use capture3::Hashers;
 use std::alloc::{AllocError, Global};

@@ -1,4 +1,4 @@
-// Sinks over writers of which a call fails.
+//! Sinks over writers of which a call fails.
 
 use crate::samples::{commits, hashers};
 use canon3::{Sink, Summary, ToWrite, canon};

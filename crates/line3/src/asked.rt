@@ -1,4 +1,4 @@
-// What a command line asks for, and why it is refused.
+//! What a command line asks for, and why it is refused.
 
 use thiserror::Error;
 

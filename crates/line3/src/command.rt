@@ -1,4 +1,4 @@
-// The command line.
+//! The command line.
 
 ghost use Rattle.std.specs.Prelude.{◌≡◌, ◌≤◌, ◌∷◌, ℕ, List, [], IfErr, IfOk, codes, length, map, string_bytes};
 ghost use Rattle.clap.specs.Words.{kind_of};

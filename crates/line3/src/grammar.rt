@@ -1,4 +1,4 @@
-// The grammar of a command line, which clap reads, and the help.
+//! The grammar of a command line, which clap reads, and the help.
 
 ghost use Rattle.std.specs.Prelude.{◌≡◌, IfOk, codes, false};
 ghost use Rattle.clap.specs.Words.{app_of, rule_of};

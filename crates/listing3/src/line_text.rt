@@ -1,4 +1,4 @@
-// The text of a line, as it grows.
+//! The text of a line, as it grows.
 
 ghost use Rattle.std.specs.Prelude.{◌≡◌, ◌≤◌, ◌+◌, ◌*◌, ◌++◌, ◌∷◌, [], codes, length, take, decimal, OnOk, OnErr};
 ghost use Rattle.hex.specs.Hex.{encode_lower};
@@ -11,8 +11,8 @@ use std::marker::Model;
 use xdr3::Visit;
 use xdr3::room::{make_room, put_bytes};
 
-/// The text of a line or of a part of it: what was appended since `new` or `forget`. A call that fails
-/// appends nothing. As a visitor it appends ` name=value` for each item.
+/// The text of a line or of a part of it: what was appended since `new` or `forget`. A call that
+/// fails appends nothing. As a visitor it appends ` name=value` for each item.
 #[derive(Drop)]
 pub(crate) struct LineText {
     // It begins with the text, and what stands after the text means nothing.
@@ -46,14 +46,14 @@ impl LineText {
         &self.room[..self.end]
     }
 
-    /// Forgets the text and keeps its memory.
+    /// Drops the text and keeps its memory.
     pub(crate) fn forget(&mut self)
         ensures { self.new ≡ [] }
     {
         self.end = 0;
     }
 
-    /// Forgets the text after its first `before` bytes where something else failed.
+    /// If something else failed, drops the text after its first `before` bytes.
     pub(crate) fn settle(
         &mut self,
         before: usize,

@@ -1,4 +1,4 @@
-// The lines of messages, one after another.
+//! The lines of messages, one after another.
 
 ghost use Rattle.std.specs.Prelude.{◌≡◌, ◌≤◌, ◌<◌, ◌+◌, ◌*◌, ◌^◌, ◌++◌, ◌∷◌, ℕ, List, [], codes, decimal, length, take, IfErr, OnErr, OnOk};
 ghost use Rattle.std.specs.Io.KnownBytes.{Appends};
@@ -27,8 +27,8 @@ use std::alloc::{AllocError, Global};
 use std::hash::BuildHasher;
 use xdr3::Visit;
 
-/// A writer of one line for each message. It gathers the handles of the messages, and holds the text of
-/// one.
+/// Writes one line for each message. It collects the file handles of all messages, and buffers the
+/// text of the current one.
 #[derive(Drop)]
 pub(crate) struct LineWriter<S: BuildHasher + Drop> {
     pub(crate) handles: HandleTable<S>,
@@ -39,7 +39,7 @@ pub(crate) struct LineWriter<S: BuildHasher + Drop> {
     head: LineText,
 }
 
-/// The procedure's name, and `RAW` where it has none.
+/// Returns the procedure's name, or `RAW` if it has none.
 fn name_of_procedure(id: ProcId) -> &'static str
     ensures { result.now ≡ procedure_name id }
 {
@@ -62,7 +62,7 @@ fn write_two<W: Sink>(sink: &mut W, first: &[u8], second: &[u8]) -> Result<(), D
 }
 
 impl<S: BuildHasher + Drop> LineWriter<S> {
-    /// Before a capture.
+    /// Returns a writer before a capture.
     pub(crate) fn new(alloc: Global, hasher: S) -> LineWriter<S>
         ensures { LineStands result (after_front [] []) }
     {
@@ -83,7 +83,7 @@ impl<S: BuildHasher + Drop> LineWriter<S> {
         self.items.forget();
     }
 
-    /// Adds the text of a handle, and then the handle.
+    /// Appends the text of a handle, and then collects the handle.
     fn add_handle(&mut self, name: &'static str, bytes: &[u8]) -> Result<(), AllocError>
         requires { length bytes.now ≤ 64 }
         ensures ok { OnOk result
@@ -96,7 +96,7 @@ impl<S: BuildHasher + Drop> LineWriter<S> {
         self.items.settle(before, gathered)
     }
 
-    /// Composes the line of the message whose items were told.
+    /// Composes the line of the message whose items were visited.
     fn compose(
         &mut self,
         passed: &Passed,
@@ -119,7 +119,7 @@ impl<S: BuildHasher + Drop> LineWriter<S> {
         self.items.end_line()
     }
 
-    /// Hands the composed line to a sink.
+    /// Writes the composed line to a sink.
     fn hand_over<W: Sink>(&self, sink: &mut W) -> Result<(), Error>
         ensures ok { OnOk result
             (Appends (W.written sink.old) (W.written sink.new)
@@ -136,7 +136,7 @@ impl<S: BuildHasher + Drop> LineWriter<S> {
         }
     }
 
-    /// Writes the line of the message whose items were told. Each message has an xid.
+    /// Writes the line of the message whose items were visited. Each message has an xid.
     fn write_line<W: Sink>(
         &mut self,
         passed: &Passed,
@@ -170,7 +170,7 @@ impl<S: BuildHasher + Drop> LineWriter<S> {
         }
     }
 
-    /// Writes the line of an entry that is a message, and whose items were told.
+    /// Writes the line of an entry that is a message, and whose items were visited.
     fn write_entry<W: Sink>(
         &mut self,
         passed: &Passed,

@@ -1,4 +1,4 @@
-// The listing of a capture, from a source to a sink.
+//! The listing of a capture, from a source to a sink.
 
 ghost use Rattle.std.specs.Prelude.{ℕ, List, OnOk};
 ghost use Rattle.capture3.specs.Entries.{CountsReading};
@@ -14,18 +14,25 @@ use capture3::{Error, Hashers, Source};
 use std::alloc::Global;
 use std::hash::BuildHasher;
 
-/// Reads a capture to its end, writes one line for each message as it comes, and flushes the sink. A line
-/// is the connection's number, `client` or `server`, the record's number in its stream, ` xid=` and the
-/// xid, the procedure's name or `RAW`, and then ` name=value` for each other item: numbers in decimal,
-/// bytes in hexadecimal, strings in quotation marks with `\x` escapes. Xids, file handles and write
-/// verifiers are those that were recorded. It holds one block of the source's bytes, one record, the calls
-/// of the open connection, the distinct file handles, and one line.
+/// Reads a capture to its end, writes one line for each message as it comes, and flushes the sink.
+///
+/// A line is the connection's number, `client` or `server`, the record's number in its stream, `
+/// xid=` and the xid, the procedure's name or `RAW`, and then ` name=value` for each other item:
+/// numbers in decimal, bytes in hexadecimal, strings in quotation marks with `\x` escapes. Xids,
+/// file handles and write verifiers are those that were recorded.
+///
+/// It keeps one block of the source's bytes, one record, the calls of the open connection, the
+/// distinct file handles, and one line.
 ///
 /// # Errors
 ///
-/// `Refused` with the first fault of a capture that is not well formed, and `Read` where a read failed:
-/// the lines of the messages before it are written whole. `Write` where a write or the flush failed, and
-/// `Memory` where it ran out: a front of the listing is written. After an error nothing is flushed.
+/// - `Refused` with the first fault if the capture is not well formed. The lines of the messages
+///   before it are written whole.
+/// - `Read` if a read failed. The lines of the messages before it are written whole.
+/// - `Write` if a write or the flush failed, and `Memory` if an allocation failed. A prefix of the
+///   listing is written.
+///
+/// After an error nothing is flushed.
 pub fn show<R: Source, W: Sink, S: BuildHasher + Drop>(
     alloc: Global,
     hashers: Hashers<S>,

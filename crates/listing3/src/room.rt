@@ -1,5 +1,5 @@
-// Text of values, written into room that was taken before. A place is a count of bytes from the room's
-// start, and each function answers the place after what it wrote.
+//! Text of values, written into a buffer that is long enough. A position is a count of bytes from
+//! the buffer's start, and each function returns the position after what it wrote.
 
 ghost use Rattle.std.specs.Prelude.{◌≡◌, ◌<◌, ◌≤◌, ◌+◌, ◌*◌, ◌++◌, ◌∷◌, [], length, take, decimal, slice_index, vec_len, IfOk};
 ghost use Rattle.std.specs.List.{flat_map};
@@ -14,7 +14,7 @@ use xdr3::room::{make_room, put_bytes};
 /// How many digits a number has at most.
 pub(crate) const DIGITS: usize = 20;
 
-/// How many bytes of a string are written after one test of the room.
+/// How many bytes of a string are written after one test of the buffer.
 const PIECE: usize = 256;
 
 /// Writes a space, the name and `=`.
@@ -31,7 +31,7 @@ pub(crate) fn put_name(room: &mut [u8], at: usize, name: &'static str) -> usize
     end + 1
 }
 
-/// Writes a number in decimal. Most numbers of a capture have one digit, which costs no call.
+/// Writes a number in decimal. Most numbers of a capture have one digit, which needs no call.
 #[inline(always)]
 #[tactic(auto, using(crate::proofs::Rooms::one_digit))]
 pub(crate) fn put_decimal(room: &mut [u8], at: usize, n: u64) -> usize
@@ -60,7 +60,7 @@ fn put_digits(room: &mut [u8], at: usize, n: u64) -> usize
     end
 }
 
-/// How many digits a number of more than one digit has.
+/// Returns how many digits a number of more than one digit has.
 #[tactic(auto, using(crate::proofs::Rooms::decimal_of_length))]
 fn count_digits(n: u64) -> usize
     requires { 10 ≤ n }
@@ -106,8 +106,8 @@ fn hex_digit(n: u8) -> u8
     if n < 10 { b'0' + n } else { b'a' - 10 + n }
 }
 
-/// Writes text between quotation marks, with each byte that is not plain as `\x` and two digits, and makes
-/// the room longer as it goes. What stood before the place is kept.
+/// Writes text between quotation marks, with each byte that is not plain as `\x` and two digits,
+/// and makes the buffer longer as it goes. What was before the position is kept.
 pub(crate) fn put_quoted(room: &mut Vec<u8>, at: usize, bytes: &[u8]) -> Result<usize, AllocError>
     requires { at ≤ vec_len room.old }
     ensures within { IfOk result (λ end. end ≤ vec_len room.new) }
@@ -126,7 +126,7 @@ pub(crate) fn put_quoted(room: &mut Vec<u8>, at: usize, bytes: &[u8]) -> Result<
     Ok(put_bytes(room, end, b"\""))
 }
 
-/// Writes what stands for the bytes between quotation marks.
+/// Writes the text of the bytes between quotation marks.
 fn put_inside(room: &mut [u8], at: usize, bytes: &[u8]) -> usize
     requires { at + 4 * length bytes.now ≤ length room.old }
     ensures within { (at ≤ result) × (result ≤ at + 4 * length bytes.now) }

@@ -1,4 +1,4 @@
-// What a command line asks for.
+//! What a command line asks for.
 
 use masking3::{Class, Way, Ways};
 

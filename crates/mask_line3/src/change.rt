@@ -1,4 +1,4 @@
-// The words of a line that change a mask, and the words that tell one.
+//! The words of a line that change a mask, and the words that tell one.
 
 ghost use Rattle.std.specs.Prelude.{◌≡◌, ◌≢◌, ◌++◌, IfErr, IfOk, List, MatchOption, OnOk, map, string_bytes};
 ghost use Rattle.masking3.specs.Ways.{usual};

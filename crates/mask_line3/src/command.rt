@@ -1,4 +1,4 @@
-// The command line.
+//! The command line.
 
 ghost use Rattle.std.specs.Prelude.{◌≡◌, ◌∷◌, ℕ, IfErr, IfOk, List, map, string_bytes};
 ghost use Rattle.line3.specs.Asked.{IsUsage};

@@ -1,4 +1,4 @@
-// The names of classes and ways.
+//! The names of classes and ways.
 
 ghost use Rattle.std.specs.Prelude.{◌≡◌, ◌≢◌, MatchOption};
 ghost use Rattle.mask_line3.specs.Names.{class_name, way_name};

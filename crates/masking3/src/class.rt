@@ -1,4 +1,4 @@
-// The classes of values that two runs of one script never share, and the items that belong to them.
+//! The classes of values that two runs of one script never share, and the items that belong to them.
 
 ghost use Rattle.std.specs.Prelude.{◌≡◌};
 ghost use Rattle.masking3.specs.Classes.{class_of_fixed, class_of_hyper, class_of_word, position, zero_stays};

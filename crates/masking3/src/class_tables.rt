@@ -1,4 +1,4 @@
-// The numbers of the values of each class.
+//! The numbers of the values of each class.
 
 ghost use Rattle.std.specs.Prelude.{◌≡◌, ◌≢◌, ◌++◌, ◌∷◌, ℕ, List, [], Some, get_or, min, nat_eq, slice_set, IfOk, OnOk};
 ghost use Rattle.xdr3.specs.Item.{Item};

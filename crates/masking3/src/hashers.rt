@@ -1,4 +1,4 @@
-// The hashers of a masked form's tables.
+//! The hashers of a masked form's tables.
 
 use std::hash::BuildHasher;
 

@@ -1,4 +1,4 @@
-// The masked form of a capture, from a source to a sink.
+//! The masked form of a capture, from a source to a sink.
 
 ghost use Rattle.std.specs.Prelude.{◌≡◌, IfErr, OnErr, OnOk};
 ghost use Rattle.std.specs.Io.KnownBytes.{Appends};

@@ -1,4 +1,4 @@
-// The writer of the masked form, one message at a time.
+//! The writer of the masked form, one message at a time.
 
 ghost use Rattle.std.specs.Prelude.{◌≡◌, ◌≤◌, ◌++◌, ◌∷◌, List, [], length, true, IfErr, OnErr, OnOk};
 ghost use Rattle.std.specs.Io.KnownBytes.{Appends};

@@ -1,4 +1,4 @@
-// What becomes of the values of each class.
+//! What becomes of the values of each class.
 
 ghost use Rattle.std.specs.Prelude.{◌≡◌};
 ghost use Rattle.masking3.specs.Ways.{usual, way_of};

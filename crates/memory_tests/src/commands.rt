@@ -1,4 +1,4 @@
-// The commands' calls. At most one growth is refused in a test, so of two runs one has its whole answer.
+//! The commands' calls. At most one growth is refused in a test, so of two runs one has its whole answer.
 
 use crate::samples::{COMMIT, MIXED, hashers};
 use canon3::{MemSink, Sink, Summary, Verdict, canon, check, same};

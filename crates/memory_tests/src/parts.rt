@@ -1,4 +1,4 @@
-// A record's body, the numbers of values, and the bytes of a message.
+//! A record's body, the numbers of values, and the bytes of a message.
 
 use canon3::{MemSink, Numbers, Sink};
 use record_mark::{JoinError, Joiner, Step};

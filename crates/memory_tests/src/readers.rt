@@ -1,4 +1,4 @@
-// Readers of a capture, and of messages as values.
+//! Readers of a capture, and of messages as values.
 
 use crate::samples::{COMMIT, MIXED, hashers};
 use capture3::{Entries, Entry, Error, MemSource, Silent, new_block, parse};

@@ -1,4 +1,4 @@
-// A worked capture, its canonical form, its listing and its streams.
+//! A worked capture, its canonical form, its listing and its streams.
 
 use capture3::Hashers;
 use std::hash::{BuildHasherDefault, FoldHasher};

@@ -1,4 +1,4 @@
-// Worked bodies: what is read of them, where they are refused, and what is written again.
+//! Worked bodies: what is read of them, where they are refused, and what is written again.
 
 ghost use Rattle.std.specs.Prelude.{◌≤◌, IfOk, length};
 ghost use Rattle.xdr3.specs.Visit.{AreWithinLimit, body_limit};

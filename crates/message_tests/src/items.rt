@@ -1,4 +1,4 @@
-// Items of XDR: what is read of bodies, told to a visitor, and written.
+//! Items of XDR: what is read of bodies, told to a visitor, and written.
 
 ghost use Rattle.std.specs.Prelude.{◌∷◌, [], codes};
 ghost use Rattle.xdr3.specs.Item.{Hyper, Opaque, Text, Word};

@@ -1,4 +1,4 @@
-// Parts spelled by hand from RFC 1813: what is read of them, what is written again, and what is refused.
+//! Parts spelled by hand from RFC 1813: what is read of them, what is written again, and what is refused.
 
 ghost use Rattle.std.specs.Prelude.{◌≤◌, length};
 ghost use Rattle.xdr3.specs.Visit.{body_limit};

@@ -1,5 +1,5 @@
-// Arguments and results spelled by hand from RFC 1813, sections 3.3 and 5.2: what a visitor is told of them,
-// and where and why they are refused.
+//! Arguments and results spelled by hand from RFC 1813, sections 3.3 and 5.2: what a visitor is told of them,
+//! and where and why they are refused.
 
 ghost use Rattle.std.specs.Prelude.{◌≤◌, length};
 

@@ -1,4 +1,4 @@
-// Where files are opened by their names, and what is said of them.
+//! Where files are opened by their names, and what is said of them.
 
 ghost use Rattle.std.specs.Prelude.{◌≡◌, ℕ, List, Option, None, Some, Err, IfOk};
 ghost use Rattle.capture3.specs.declared.fault.Error.TheVariants as errors;

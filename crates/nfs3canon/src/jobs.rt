@@ -1,4 +1,4 @@
-// What each job does with its files.
+//! What each job does with its files.
 
 use crate::files;
 use canon3::{SameError, Sink, Summary, ToWrite, Traced, Which, canon};

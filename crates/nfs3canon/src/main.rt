@@ -1,4 +1,4 @@
-// Checks, lists, compares and packs recorded NFS version 3 traffic, and brings it into a canonical form.
+//! Checks, lists, compares and packs recorded NFS version 3 traffic, and brings it into a canonical form.
 #![tactic(auto)]
 
 mod files;

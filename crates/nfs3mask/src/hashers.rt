@@ -1,4 +1,4 @@
-// The hashers of a masked form's tables.
+//! The hashers of a masked form's tables.
 
 use masking3::{ClassHashers, MaskHashers};
 use program3::SecretHasher;

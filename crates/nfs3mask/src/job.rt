@@ -1,4 +1,4 @@
-// What the job does with its files.
+//! What the job does with its files.
 
 use crate::hashers::mask_hashers;
 use canon3::{Summary, ToWrite};

@@ -1,4 +1,4 @@
-// Writes recorded NFS version 3 traffic with masked values, so that two runs of one script can be compared.
+//! Writes recorded NFS version 3 traffic with masked values, so that two runs of one script can be compared.
 #![tactic(auto)]
 
 mod hashers;

@@ -1,4 +1,4 @@
-// A block of a source's bytes.
+//! A block of a source's bytes.
 
 ghost use Rattle.std.specs.Prelude.{◌≡◌, ◌≤◌, ◌<◌, length, take, vec_len, IfOk, OnErr};
 ghost use Rattle.capture3.specs.Told.{Gave, IsSpent};
@@ -8,15 +8,15 @@ ghost use Rattle.packing3.specs.machinery.Streaming.{GaveFewer};
 use capture3::{DeviceFailed, Source};
 use std::alloc::{AllocError, Global};
 
-/// So many zeros.
+/// Returns the given number of zeros.
 pub(crate) fn zeros(alloc: Global, count: usize) -> Result<Vec<u8>, AllocError>
     ensures { IfOk result (λ block. vec_len block ≡ count) }
 {
     vec![in alloc; 0; count]
 }
 
-/// Fills the block by as many reads as it takes, and gives how many bytes were read: fewer than it
-/// holds only where none are left.
+/// Fills the block by as many reads as it takes, and returns how many bytes were read: fewer than
+/// the block has only if none are left.
 pub(crate) fn fill<R: Source>(source: &mut R, block: &mut [u8]) -> Result<usize, DeviceFailed>
     ensures size { length block.new ≡ length block.old }
     ensures within { IfOk result (λ n. n ≤ length block.new) }

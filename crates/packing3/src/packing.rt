@@ -1,4 +1,4 @@
-// A capture made of recorded streams.
+//! A capture made of recorded streams.
 
 ghost use Rattle.std.specs.Prelude.{◌≡◌, ◌≤◌, ◌+◌, ◌*◌, ◌++◌, ◌∷◌, ℕ, List, [], Option, None, Some, Err, vec_len, IfErr, IfOk, IsSome, MatchResult, OnErr, OnOk};
 ghost use Rattle.std.specs.Io.KnownBytes.{Appends};
@@ -19,7 +19,7 @@ use capture3::{Error, MAX_CONNECTIONS, Source, pack_chunk, pack_header};
 use std::alloc::Global;
 use xdr3::Reason;
 
-/// Packs recorded streams into a capture, one connection after another. It holds one chunk.
+/// Packs recorded streams into a capture, one connection after another. It keeps one chunk.
 ///
 /// The records of a stream are not looked at. Each chunk has 65,536 bytes but the last of a stream,
 /// which has what is left, and no chunk is empty. A capture has at most 65,535 connections, and at
@@ -43,12 +43,14 @@ impl<W: Sink> Packing<W> {
     ghost use Rattle.packing3.specs.Packing.{AddsPair, CountsStart, CountsWrites, ending_of, FailsToStart, Finishes, HasAdded, sink_of};
     ghost use Rattle.packing3.specs.machinery.Packing.{FailsToAdd};
 
-    /// Takes the memory of one chunk, and writes the magic.
+    /// Allocates one chunk, and writes the magic.
     ///
     /// # Errors
     ///
-    /// `Memory`, and nothing is written; or `Write`, and a front of the magic is written. The sink
-    /// is given back.
+    /// - `Memory` if the allocation failed; nothing is written.
+    /// - `Write` if a write failed; a prefix of the magic is written.
+    ///
+    /// The sink is given back.
     pub fn start(alloc: Global, mut sink: W) -> Result<Packing<W>, (Error, W)>
         ensures stands { IfOk result (λ packing. HasAdded W.written packing (W.written sink) []) }
         ensures err { IfErr result (λ failed. FailsToStart W.written sink failed.0 failed.1) }
@@ -70,7 +72,7 @@ impl<W: Sink> Packing<W> {
         }
     }
 
-    /// Where the capture is written to.
+    /// Returns the sink to which the capture is written.
     pub fn sink(&self) -> &W
         ensures { result.now ≡ sink_of self.now }
     {
@@ -81,11 +83,16 @@ impl<W: Sink> Packing<W> {
     ///
     /// # Errors
     ///
-    /// `Refused`, at the byte of the file after all that is written: with `TooManyConnections`
-    /// before anything is read, and with `TooManyBytes` where the next chunk would pass the limit,
-    /// whose bytes are read and not written. `Read` and `Write` where the device failed: a front is
-    /// written of the capture of what was read. After an error it is answered again, and after
-    /// `finish` what that answered, and nothing is read or written.
+    /// - `Refused` with `TooManyConnections` before anything is read, if the capture has 65,535
+    ///   connections.
+    /// - `Refused` with `TooManyBytes` if the next chunk would pass the limit. Its bytes are read
+    ///   and not written.
+    /// - `Read` and `Write` if the device failed. A prefix of the capture of what was read is
+    ///   written.
+    ///
+    /// The position of a refusal is the byte of the file after all that is written. After an error
+    /// the same is returned again, and after `finish` what that returned; nothing is read or
+    /// written then.
     pub fn add<C: Source, S: Source>(&mut self, client: &mut C, server: &mut S) -> Result<(), Error>
         ensures adds { (old : Option (List ℕ)) (pairs : List Streams)
             → HasAdded W.written self.old old pairs
@@ -128,8 +135,8 @@ impl<W: Sink> Packing<W> {
     ///
     /// # Errors
     ///
-    /// `Write` where a write or the flush failed. What it answered is answered again, and after an
-    /// error of `add` that error, and nothing is written.
+    /// `Write` if a write or the flush failed. What it returned is returned again, and after an
+    /// error of `add` that error; nothing is written then.
     pub fn finish(&mut self) -> Result<(), Error>
         ensures finishes { (old : Option (List ℕ)) (pairs : List Streams)
             → HasAdded W.written self.old old pairs
@@ -151,7 +158,7 @@ impl<W: Sink> Packing<W> {
         result
     }
 
-    /// Writes one connection, where one more has room.
+    /// Writes one connection, if there may be one more.
     fn write_pair<C: Source, S: Source>(
         &mut self,
         client: &mut C,

@@ -1,4 +1,4 @@
-// A stream in chunks.
+//! A stream in chunks.
 
 ghost use Rattle.std.specs.Prelude.{◌≡◌, ◌<◌, ◌≤◌, ◌+◌, ◌^◌, length, IfErr, IfOk, OnErr, OnOk};
 ghost use Rattle.std.specs.Io.KnownBytes.{Appends};
@@ -28,7 +28,7 @@ pub(crate) struct Extent {
 }
 
 impl Extent {
-    /// The refusal of the word that comes next.
+    /// Returns the refusal of the word that comes next.
     pub(crate) fn refusal(&self, reason: Reason) -> Error
         ensures { result ≡ Error.Refused
             (record { place = Place.File self.now.at; reason = reason }) }
@@ -79,8 +79,9 @@ pub(crate) fn write_connection<C: Source, S: Source, W: Sink>(
 ///
 /// # Errors
 ///
-/// `Refused` with `TooManyBytes` where the next chunk would pass the limit, whose length word and
-/// bytes are not written; `Read` and `Write` where the device failed.
+/// - `Refused` with `TooManyBytes` if the next chunk would pass the limit. Its length word and
+///   bytes are not written.
+/// - `Read` and `Write` if the device failed.
 fn write_stream<R: Source, W: Sink>(
     sink: &mut W,
     block: &mut [u8],
@@ -112,8 +113,8 @@ fn write_stream<R: Source, W: Sink>(
     Ok(())
 }
 
-/// Writes the bytes that fill the block, or that are left, as one chunk, and gives how many they
-/// are; none make no chunk.
+/// Writes the bytes that fill the block, or that are left, as one chunk, and returns how many they
+/// are; no bytes make no chunk.
 fn write_chunk<R: Source, W: Sink>(
     sink: &mut W,
     block: &mut [u8],
@@ -151,7 +152,7 @@ fn write_chunk<R: Source, W: Sink>(
     Ok(count)
 }
 
-/// Writes all of the bytes. After an error a front of them was written.
+/// Writes all of the bytes. After an error a prefix of them was written.
 pub(crate) fn write<W: Sink>(sink: &mut W, bytes: &[u8]) -> Result<(), Error>
     ensures ok { OnOk result (Appends (W.written sink.old) (W.written sink.new) bytes.now) }
     ensures err { OnErr result (AppendsFront (W.written sink.old) (W.written sink.new) bytes.now) }

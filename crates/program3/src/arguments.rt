@@ -1,4 +1,4 @@
-// The words of the command line.
+//! The words of the command line.
 
 use line3::LineFault;
 use std::env;

@@ -1,4 +1,4 @@
-// What the name of an output leads to, before anything is made.
+//! What the name of an output leads to, before anything is made.
 
 use crate::identity::{FileId, if_there};
 use std::fs::Metadata;

@@ -1,4 +1,4 @@
-// The end of a program: its texts are printed, and its status is returned.
+//! The end of a program: its texts are printed, and its status is returned.
 
 use crate::outcome::{Ended, Report};
 use crate::printed::{OUTSIDE, aside, report};

@@ -1,4 +1,4 @@
-// A fast hasher with two secret words. How keys spread is not proved: it changes no result.
+//! A fast hasher with two secret words. How keys spread is not proved: it changes no result.
 
 ghost use Rattle.std.specs.Prelude.{◌≡◌, ◌+◌, ◌≤◌, length};
 ghost use Rattle.program3.specs.Hashing as hashing;

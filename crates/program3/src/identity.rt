@@ -1,4 +1,4 @@
-// Which file a name or an open file leads to.
+//! Which file a name or an open file leads to.
 
 ghost use Rattle.std.specs.Prelude.{◌≡◌, ◌≢◌, IfErr, IfOk, None, Ok, Err, Some};
 ghost use Rattle.std.specs.IoError.{error_kind};

@@ -1,4 +1,4 @@
-// What is told if a file cannot be opened or made.
+//! What is told if a file cannot be opened or made.
 
 ghost use Rattle.std.specs.Prelude.{◌≡◌, Err};
 ghost use Rattle.std.specs.IoError.{error_kind, raw_os_error};

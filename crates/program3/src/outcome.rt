@@ -1,4 +1,4 @@
-// What came of a job, and what the program prints.
+//! What came of a job, and what the program prints.
 
 ghost use Rattle.std.specs.Prelude.{◌≡◌, false};
 

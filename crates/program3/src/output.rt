@@ -1,4 +1,4 @@
-// The file that a command writes.
+//! The file that a command writes.
 
 use crate::destination::Destination;
 use crate::identity::FileId;

@@ -1,4 +1,4 @@
-// A regular file that is written beside its name.
+//! A regular file that is written beside its name.
 
 ghost use Rattle.std.specs.Prelude.{◌≡◌, ◌++◌, IfOk, codes, string_bytes};
 ghost use Rattle.hex.specs.Hex.{encode_lower};

@@ -1,4 +1,4 @@
-// What the program prints of an outcome.
+//! What the program prints of an outcome.
 
 ghost use Rattle.std.specs.Prelude.{◌≡◌, ◌++◌, [], IfOk, OnOk, string_bytes};
 ghost use Rattle.program3.specs.Printed.{Prints, PrintsLineFault, PrintsOutcome, PrintsVerdict, counts_of, differing_at, ended_of, error_line, escaped, escaped_byte, fault_of, mask_line, prefix_of, side_of, status_of, unopened_of};

@@ -1,4 +1,4 @@
-// The files of a command that reads one capture and writes another.
+//! The files of a command that reads one capture and writes another.
 
 use crate::destination::Destination;
 use crate::identity::{FileId, standard_output};

@@ -1,4 +1,4 @@
-// The end of what is written through a buffer.
+//! The end of what is written through a buffer.
 
 ghost use Rattle.std.specs.Prelude.{◌≡◌, ◌≢◌, Err};
 ghost use Rattle.std.specs.Io.Buffered.{writer_contents, writer_inner};

@@ -1,4 +1,4 @@
-// The streams of a connection whose chunks come mixed.
+//! The streams of a connection whose chunks come mixed.
 
 ghost use Rattle.std.specs.Prelude.{◌≡◌, [], OnOk};
 ghost use Rattle.capture3.specs.machinery.Container.{stream_of};
@@ -8,8 +8,8 @@ use crate::fault::Side;
 use std::alloc::{AllocError, Global};
 use std::marker::Model;
 
-/// The streams of a connection of version 2, as far as their chunks have come. They are kept since no
-/// record is judged before both are whole.
+/// The streams of a connection of version 2, as far as their chunks have come. They are kept
+/// because no record is checked before both are whole.
 #[derive(Drop)]
 pub(crate) struct Streams {
     client: Vec<u8>,
@@ -37,7 +37,7 @@ impl Streams {
         }
     }
 
-    /// Adds bytes to a side's stream.
+    /// Appends bytes to a side's stream.
     pub(crate) fn add(&mut self, side: Side, bytes: &[u8]) -> Result<(), AllocError>
         ensures { OnOk result (self.new ≡ with_more self.old side bytes.now) }
     {
@@ -57,7 +57,7 @@ impl Streams {
         }
     }
 
-    /// Lets the bytes go. Their memory is kept for the next connection.
+    /// Drops the bytes, and keeps their memory for the next connection.
     pub(crate) fn clear(&mut self)
         ensures { self.new ≡ gathered [] }
     {

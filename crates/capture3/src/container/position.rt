@@ -1,4 +1,4 @@
-// Where the bytes of a capture that were taken end, and what the next ones make of it.
+//! How far the bytes of a capture were taken, and what the next ones lead to.
 
 ghost use Rattle.std.specs.Prelude.{◌≡◌, ◌≤◌, ◌<◌, ◌+◌, ◌-◌, ◌^◌, [], length, IfErr, IfOk, None, Some, if◌then◌else◌};
 ghost use Rattle.capture3.specs.Capture.{Two};
@@ -14,7 +14,7 @@ use crate::fault::{Error, Fault, Place, Side};
 use record_mark::{Word, WordPart};
 use xdr3::Reason;
 
-/// The first seven bytes of a capture. The eighth tells the version: `1` or `2`.
+/// The first seven bytes of a capture. The eighth is the version: `1` or `2`.
 pub(crate) const MAGIC: [u8; 7] = *b"NFS3CAP";
 
 /// The most connections of a capture.
@@ -26,46 +26,48 @@ pub const MAX_BYTES: u32 = 1_073_741_824;
 /// What has become whole in a capture.
 #[derive(Clone, Copy, Debug, PartialEq, Eq)]
 pub(crate) enum Event {
-    /// The word 1 of a connection.
+    /// A connection's word 1.
     Begin,
     /// A record of this side.
     Record(Side),
-    /// A connection's client stream. Its server stream comes next.
+    /// The client's stream of a connection is complete; the server's comes next.
     Turn,
-    /// A connection's server stream, and so the connection.
+    /// The server's stream of a connection is complete, and so is the connection.
     Close,
-    /// Version 2: both streams of a connection, of which no record was judged yet.
+    /// Version 2: both streams of a connection are complete, and none of their records was checked
+    /// yet.
     Streams,
 }
 
-/// How a connection's streams stand in a capture.
+/// How the streams of a connection are laid out.
 #[derive(Clone, Copy)]
 pub(crate) enum Version {
-    /// The client stream's chunks and a word 0, and then the same of the server stream.
+    /// The chunks of the client's stream and a word 0, and then those of the server's stream and a
+    /// word 0.
     One,
-    /// Chunks of both streams, each after a side word, in any order, and the side word 0.
+    /// Chunks of both streams in any order, each after a side word, and the side word 0.
     Two,
 }
 
-/// Which part of a capture is open: the one that the next byte belongs to.
+/// Which part of a capture is open: the one to which the next byte belongs.
 #[derive(Clone, Copy)]
 pub(crate) enum Spot {
     /// The magic before its last byte.
     Magic,
-    /// The magic's last byte, which tells the version.
+    /// The magic's last byte, which is the version.
     Digit,
-    /// A connection word: 1 before a connection, 0 after the last. The version tells what comes after
-    /// a word 1.
+    /// A connection word: 1 before a connection, 0 after the last. The version decides what comes
+    /// after a word 1.
     Mark(Version, WordPart),
     /// Version 1: the length word of a chunk, or the word 0 after a stream.
     Length(Side, WordPart),
-    /// Version 1: a chunk with so many bytes to come, at least one.
+    /// Version 1: a chunk of which this many bytes are to come, at least one.
     Chunk(Side, u32),
     /// Version 2: a side word: 1 or 2 before a chunk, 0 after the connection's streams.
     Side(WordPart),
     /// Version 2: the length word of a chunk, after its side word.
     SideLength(Side, WordPart),
-    /// Version 2: a chunk with so many bytes to come, at least one.
+    /// Version 2: a chunk of which this many bytes are to come, at least one.
     SideChunk(Side, u32),
     /// Nothing: the last word 0 has come.
     Ended(Version),
@@ -73,18 +75,18 @@ pub(crate) enum Spot {
 
 #[derive(Clone, Copy)]
 pub(crate) struct Position {
-    /// The file's byte at which the open word begins, or the byte after the open chunk, or in the
-    /// magic and at the end the number of bytes taken.
+    /// The file's byte at which the open word begins, or the byte after the open chunk. In the
+    /// magic and at the end it is the number of bytes taken.
     pub(crate) at: u64,
-    /// The stream bytes of all chunks so far, the open one's included.
+    /// The stream bytes of all chunks so far, with those of the open one.
     pub(crate) total: u32,
     pub(crate) connections: u32,
-    /// The whole records so far of the stream that is judged.
+    /// The whole records so far of the stream that is checked.
     pub(crate) records: u32,
     pub(crate) spot: Spot,
 }
 
-/// How many bytes were taken, where that leads, and what is whole with the last of them.
+/// How many bytes were taken, the position after them, and what is whole with the last of them.
 #[derive(Clone, Copy)]
 pub(crate) struct Taken {
     pub(crate) count: usize,
@@ -93,7 +95,7 @@ pub(crate) struct Taken {
 }
 
 impl Position {
-    /// Before the first byte.
+    /// Returns the position before the first byte.
     pub(crate) fn start() -> Position
         ensures sound { IsSoundPosition result }
         ensures room { room_of result (gathered []) ≡ most_things }
@@ -195,7 +197,7 @@ impl Position {
         }
     }
 
-    /// A connection word has come.
+    /// Returns the position after a connection word.
     fn after_mark(
         self,
         version: Version,
@@ -223,8 +225,8 @@ impl Position {
         }
     }
 
-    /// Takes bytes of a chunk's length word. Of a record that is open so many bytes of the body have
-    /// come.
+    /// Takes bytes of a chunk's length word. `so_far` is how many bytes of the body have come if a
+    /// record is open.
     pub(crate) fn take_length(
         self,
         side: Side,
@@ -250,7 +252,7 @@ impl Position {
         }
     }
 
-    /// A stream's word 0 has come.
+    /// Returns the position after a stream's word 0.
     fn after_stream(
         self,
         side: Side,
@@ -276,7 +278,7 @@ impl Position {
         }
     }
 
-    /// The length word of a chunk has come, and is not 0.
+    /// Returns the position after the length word of a chunk, which is not 0.
     fn after_length(
         self,
         side: Side,
@@ -300,7 +302,7 @@ impl Position {
         self.chunk_opened(count, len, Spot::Chunk(side, len))
     }
 
-    /// Takes so many bytes of a chunk. With the last of them a record may be whole.
+    /// Takes this many bytes of a chunk. With the last of them a record may be whole.
     pub(crate) fn take_chunk(self, side: Side, left: u32, count: u32, is_record: bool) -> Taken
         requires sound { IsSoundPosition self }
         requires here { self.spot ≡ Spot.Chunk side left }
@@ -336,14 +338,14 @@ impl Position {
         }
     }
 
-    /// The same with so many whole records of the stream that is judged.
+    /// Returns the same position with this many whole records of the stream that is checked.
     pub(crate) fn with_records(self, records: u32) -> Position
         ensures { result ≡ record self { records = records } }
     {
         Position { records, ..self }
     }
 
-    /// A fault of the record that became whole last.
+    /// Returns a fault of the record that became whole last.
     pub(crate) fn record_fault(self, side: Side, byte: u32, reason: Reason) -> Error
         ensures { result ≡ Error.Refused
             (record {
@@ -354,7 +356,7 @@ impl Position {
         self.fault_in(side, self.records, byte, reason)
     }
 
-    /// A fault of the record that is open.
+    /// Returns a fault of the record that is open.
     pub(crate) fn next_record_fault(self, side: Side, byte: u32, reason: Reason) -> Error
         requires { IsSoundPosition self }
         ensures { result ≡ Error.Refused
@@ -382,7 +384,7 @@ impl Position {
         })
     }
 
-    /// After so many bytes, with this part open. Nothing is whole.
+    /// Returns the position after this many bytes, with this part open. Nothing is whole.
     pub(crate) fn moved(self, count: usize, at: u64, spot: Spot) -> Taken
         ensures { result ≡ record {
           count = count;
@@ -397,7 +399,7 @@ impl Position {
         }
     }
 
-    /// A connection's word 1 has come.
+    /// Returns the position after a connection's word 1.
     fn begun(self, version: Version, part: WordPart, count: usize) -> Taken
         requires sound { IsSoundPosition self }
         requires here { self.spot ≡ Spot.Mark version part }
@@ -425,7 +427,7 @@ impl Position {
         }
     }
 
-    /// A stream's word 0 has come, and no record is open.
+    /// Returns the position after a stream's word 0, if no record is open.
     fn stream_closed(self, side: Side, part: WordPart, count: usize) -> Taken
         requires sound { IsSoundPosition self }
         requires here { self.spot ≡ Spot.Length side part }
@@ -453,7 +455,7 @@ impl Position {
         }
     }
 
-    /// Before a connection word at this byte.
+    /// Returns the position before a connection word at this byte.
     pub(crate) fn before_mark(self, at: u64, version: Version) -> Position
         ensures at { result.at ≡ at }
         ensures counts { HasCounts self.total self.connections self.records result }
@@ -469,7 +471,7 @@ impl Position {
         }
     }
 
-    /// Version 1: before the first length word of a stream.
+    /// Version 1: returns the position before the first length word of a stream.
     fn before_stream(self, side: Side) -> Position
         requires { self.at < 2 ^ 60 }
         ensures at { result.at ≡ self.at + 4 }
@@ -487,7 +489,8 @@ impl Position {
         }
     }
 
-    /// The length word of a chunk has come: the chunk is open, if the limit leaves room for it.
+    /// Returns the position after the length word of a chunk, which is open if the limit leaves
+    /// room for it.
     #[inline(always)]
     pub(crate) fn chunk_opened(self, count: usize, len: u32, chunk: Spot) -> Result<Taken, Error>
         requires at { self.at < 2 ^ 60 }
@@ -518,7 +521,7 @@ impl Position {
     }
 }
 
-/// A fault at a byte of the file.
+/// Returns a fault at a byte of the file.
 pub(crate) fn file_fault(at: u64, reason: Reason) -> Error
     ensures { result ≡ Error.Refused (record { place = Place.File at; reason = reason }) }
 {

@@ -1,4 +1,4 @@
-// Version 2 of a capture: the side words of a connection, and the chunks after them.
+//! Version 2 of a capture: the side words of a connection, and the chunks after them.
 
 ghost use Rattle.std.specs.Prelude.{◌≡◌, ◌≤◌, ◌<◌, ◌+◌, ◌-◌, ◌^◌, [], length, IfOk, None, Some};
 ghost use Rattle.capture3.specs.Capture.{Two};
@@ -15,7 +15,7 @@ use record_mark::{Word, WordPart};
 use xdr3::Reason;
 
 impl Position {
-    /// Version 2: before a connection's first side word.
+    /// Version 2: returns the position before a connection's first side word.
     pub(crate) fn before_sides(self) -> Position
         requires { self.at < 2 ^ 60 }
         ensures at { result.at ≡ self.at + 4 }
@@ -52,7 +52,7 @@ impl Position {
         }
     }
 
-    /// A side word has come, of a chunk or of the streams' end.
+    /// Returns the position after a side word, which is a chunk's or the one after the streams.
     fn after_side(self, part: WordPart, n: u32, count: usize) -> Result<Taken, Error>
         requires sound { IsSoundPosition self }
         requires here { self.spot ≡ Spot.Side part }
@@ -97,7 +97,7 @@ impl Position {
         }
     }
 
-    /// The length word after a side word has come.
+    /// Returns the position after the length word that follows a side word.
     fn after_side_length(
         self,
         side: Side,
@@ -122,7 +122,7 @@ impl Position {
         self.chunk_opened(count, len, Spot::SideChunk(side, len))
     }
 
-    /// Version 2: takes so many bytes of a chunk. They are kept, so none of them ends a record.
+    /// Version 2: takes this many bytes of a chunk. They are kept, so none of them ends a record.
     pub(crate) fn take_side_chunk(self, side: Side, left: u32, count: u32) -> Taken
         requires sound { IsSoundPosition self }
         requires here { self.spot ≡ Spot.SideChunk side left }
@@ -148,7 +148,7 @@ impl Position {
         self.moved(count as usize, self.at, spot)
     }
 
-    /// The side word before a chunk has come.
+    /// Returns the position after the side word before a chunk.
     fn side_named(self, side: Side, count: usize) -> Taken
         requires { self.at < 2 ^ 60 }
         ensures count { result.count ≡ count }
@@ -171,7 +171,8 @@ impl Position {
         }
     }
 
-    /// The side word 0 has come. What comes next in the file is the next connection's word.
+    /// Returns the position after the side word 0. The next connection's word comes next in the
+    /// file.
     fn streams_gathered(self, count: usize) -> Taken
         requires { self.at < 2 ^ 60 }
         ensures event { result.event ≡ Some Event.Streams }

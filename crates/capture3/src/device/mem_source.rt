@@ -1,4 +1,4 @@
-// A source over bytes in memory.
+//! A source over bytes in memory.
 
 ghost use Rattle.std.specs.Prelude.{◌≡◌, ◌≤◌, ◌<◌, ◌-◌, ◌↔◌, false, length, min, None, Some, IfOk, IsErr};
 ghost use Rattle.capture3.specs.Device.{Counts};
@@ -10,8 +10,8 @@ use crate::device::plan::FaultPlan;
 use crate::device::source::Source;
 use std::marker::Model;
 
-/// A source over bytes in memory, which tells them. It gives at most `block` bytes a call, and one call
-/// alone fails.
+/// A source over bytes in memory, which exposes them to clauses. A call returns at most `block`
+/// bytes, and only one call fails.
 #[derive(Drop)]
 pub struct MemSource<'a> {
     bytes: &'a [u8],
@@ -39,7 +39,7 @@ impl<'a> Model for MemSource<'a> {
 }
 
 impl<'a> MemSource<'a> {
-    /// Call number `fail` fails, none where it is 0.
+    /// Returns a source over these bytes whose call number `fail` fails. If `fail` is 0, none does.
     pub fn new(bytes: &'a [u8], block: usize, fail: u64) -> MemSource<'a>
         requires { 0 < block }
         ensures { result ≡ record {

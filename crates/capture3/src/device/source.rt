@@ -1,4 +1,4 @@
-// What gives bytes and may fail, and a source over a reader.
+//! Sources of bytes whose calls may fail.
 
 ghost use Rattle.std.specs.Prelude.{◌≡◌, ◌≤◌, ◌<◌, ℕ, [], false, length, Some, IfOk};
 ghost use Rattle.capture3.specs.Device.{Counts};
@@ -17,7 +17,8 @@ pub trait Source {
     // How many reads have failed, up to 2^64 - 1.
     ghost failures: { Self → ℕ };
 
-    /// Reads some bytes into the front of `buf`, and gives how many: none only where none are left.
+    /// Reads bytes into a prefix of `buf`, and returns how many. It returns 0 only if no bytes are
+    /// left.
     fn read_some(&mut self, buf: &mut [u8]) -> Result<usize, DeviceFailed>
         requires room { 0 < length buf.old }
         ensures within { IfOk result (λ n. n ≤ length buf.new) }
@@ -26,8 +27,8 @@ pub trait Source {
         ensures count { Counts (failures self.old) (failures self.new) result };
 }
 
-/// A source over any reader. It tells the bytes that its reads gave, and the bytes that are left if the
-/// reader does.
+/// A source over any reader. It exposes to clauses the bytes that its reads gave, and the bytes that are
+/// left if the reader does.
 #[derive(Drop)]
 pub struct FromRead<R> {
     reader: R,
@@ -51,7 +52,7 @@ impl<R> Model for FromRead<R> {
 }
 
 impl<R: Read> FromRead<R> {
-    /// A source over the reader, which gave nothing yet, and of which no read has failed.
+    /// Returns a source over the reader, which gave nothing yet, and of which no read has failed.
     pub fn new(reader: R) -> FromRead<R>
         ensures { result ≡ record {
           device = reader;

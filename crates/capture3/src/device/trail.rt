@@ -1,4 +1,4 @@
-// The bytes that calls of a device moved, which only clauses read.
+//! The bytes that calls of a device moved, which only clauses read.
 
 ghost use Rattle.std.specs.Prelude.{◌≡◌, ℕ, List, [], ◌++◌};
 ghost use Rattle.std.specs.Borrow.{ftrue};
@@ -18,7 +18,7 @@ impl Model for Trail {
 }
 
 impl Trail {
-    /// No byte has been moved yet.
+    /// Returns a trail of no bytes.
     pub fn new() -> Trail
         ensures { result.bytes ≡ [] }
     {
@@ -27,7 +27,7 @@ impl Trail {
         }
     }
 
-    /// These bytes were moved. Nothing is done when it runs.
+    /// Notes that these bytes were moved. Nothing is done when it runs.
     pub fn note(&mut self, _piece: &[u8])
         ensures { self.new.bytes ≡ self.old.bytes ++ _piece.now }
     {}

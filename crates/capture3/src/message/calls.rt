@@ -1,4 +1,4 @@
-// The calls of a connection.
+//! The calls of a connection.
 
 ghost use Rattle.std.specs.Prelude.{◌≡◌, [], IfOk, IfSome, IsTrue, Some};
 ghost use Rattle.capture3.specs.machinery.Calls.{found, numbered_calls, with_numbered_call};
@@ -16,7 +16,7 @@ pub(crate) struct NumberedCall {
     pub(crate) id: ProcId,
 }
 
-/// Calls that are asked for by their xids.
+/// Calls that are looked up by their xids.
 pub(crate) trait KnownCalls {
     ghost use Rattle.std.specs.Prelude.{List};
     ghost use Rattle.capture3.specs.declared.message.calls.NumberedCall.{NumberedCall};
@@ -24,19 +24,19 @@ pub(crate) trait KnownCalls {
     // The xids, each once and with its procedure, in the order of their first appearance.
     ghost calls: { Self → List NumberedCall };
 
-    /// The procedure of the calls with this xid. The calls stay.
+    /// Returns the procedure of the calls with this xid. The calls stay.
     fn procedure_of(&mut self, xid: u32) -> Option<ProcId>
         ensures found { result ≡ found (calls self.old) xid }
         ensures stay { calls self.new ≡ calls self.old };
 }
 
-/// The calls of a connection, as they come.
+/// The calls of a connection, in the order in which they come.
 pub(crate) trait CallTable: KnownCalls {
     fn clear(&mut self)
         ensures { Self.calls self.new ≡ [] };
 
-    /// Adds a call, unless its xid is there. False stands for a call at odds with one that has its xid
-    /// and another procedure, after which the calls are open.
+    /// Adds a call if its xid is new. Returns `false` if an earlier call has the same xid but
+    /// another procedure; the calls are unspecified after that.
     fn admit(&mut self, xid: u32, id: ProcId) -> Result<bool, AllocError>
         ensures agrees { IfOk result (λ is. is ≡ agrees (found (Self.calls self.old) xid) id) }
         ensures added { IfOk result
@@ -44,7 +44,7 @@ pub(crate) trait CallTable: KnownCalls {
             → Self.calls self.new ≡ with_numbered_call (Self.calls self.old) xid id) };
 }
 
-/// Tells that no procedure is there, or this one.
+/// Returns whether there is no procedure, or it is this one.
 fn is_none_or(other: Option<ProcId>, id: ProcId) -> bool
     ensures { result ≡ agrees other id }
 {
@@ -114,7 +114,7 @@ impl CallTable for CallList {
     }
 }
 
-/// The same hashed by their xids. The hasher plays no part in the answers.
+/// The calls, hashed by their xids. The hasher affects no result.
 #[derive(Drop)]
 pub(crate) struct HashedCalls<S: BuildHasher + Drop> {
     calls: IndexMap<u32, ProcId, S>,
@@ -142,7 +142,7 @@ impl<S: BuildHasher + Drop> HashedCalls<S> {
         }
     }
 
-    /// The procedure of the call that is expected next, if it has this xid.
+    /// Returns the procedure of the call that is expected next, if it has this xid.
     fn expected(&self, xid: u32) -> Option<ProcId>
         ensures { IfSome result (λ id. found self.now xid ≡ Some id) }
     {

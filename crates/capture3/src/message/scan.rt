@@ -1,4 +1,4 @@
-// Whole messages that a visitor is told as they are read.
+//! Whole messages that are passed to a visitor as they are read.
 
 ghost use Rattle.std.specs.Prelude.{◌≡◌, ◌≤◌, List, length, IfErr, IfOk, OnOk};
 ghost use Rattle.rpc_head.specs.MessageStart.{start_items};
@@ -16,9 +16,9 @@ use rpc_head::{ProcId, Start, scan_call_head, scan_reply_head, start};
 use std::alloc::AllocError;
 use xdr3::{GetError, Input, Reason, Visit};
 
-/// Reads a body of the client stream, and tells its items to the visitor. It answers the call's xid and
-/// procedure, which may be at odds with the calls of its connection that came before it. After an error
-/// what the visitor holds is open.
+/// Parses a record of the client's stream, and passes its items to the visitor. Returns the call's
+/// xid and procedure, without comparing them with earlier calls of the connection. After an error
+/// the contents of the visitor are unspecified.
 pub(crate) fn scan_call<V: Visit>(body: &[u8], visitor: &mut V) -> Result<NumberedCall, GetError>
     requires { length body.now ≤ body_limit }
     ensures ok { IfOk result
@@ -38,8 +38,9 @@ pub(crate) fn scan_call<V: Visit>(body: &[u8], visitor: &mut V) -> Result<Number
     Ok(NumberedCall { xid: start.xid, id })
 }
 
-/// Reads a body of the server stream, after all calls of its connection, and tells its items to the
-/// visitor. It answers the procedure of its call. After an error what the visitor holds is open.
+/// Parses a record of the server's stream, after all calls of its connection, and passes its items
+/// to the visitor. Returns the procedure of its call. After an error the contents of the visitor
+/// are unspecified.
 pub(crate) fn scan_reply<C: KnownCalls, V: Visit>(
     calls: &mut C,
     body: &[u8],
@@ -67,7 +68,7 @@ pub(crate) fn scan_reply<C: KnownCalls, V: Visit>(
     Ok(id)
 }
 
-/// Tells the xid and the mtype.
+/// Visits the xid and the mtype.
 #[inline]
 #[tactic(auto, using(xdr3::proofs::Walks::adds_joined), unfolding(rpc_head::specs::Names::head_names))]
 fn tell_start<V: Visit>(start: Start, visitor: &mut V) -> Result<(), AllocError>
@@ -77,7 +78,7 @@ fn tell_start<V: Visit>(start: Start, visitor: &mut V) -> Result<(), AllocError>
     visitor.word("mtype", start.is_reply as u32)
 }
 
-/// The results after a reply's head: none but after an accepted success.
+/// Parses the results after a reply's head: none after any but an accepted success.
 #[inline(always)]
 #[tactic(auto, using(xdr3::proofs::ScanLemmas::layouts, xdr3::proofs::ScanLemmas::nothing_scans))]
 fn scan_results_after<V: Visit>(

@@ -1,9 +1,9 @@
-// A visitor that keeps nothing.
+//! A visitor that ignores all items.
 
 use std::alloc::AllocError;
 use xdr3::{PlainField, Visit};
 
-/// A visitor that keeps nothing, with which a message is judged alone.
+/// A visitor that ignores all items, for callers that only want to know whether messages are valid.
 #[derive(Drop)]
 pub struct Silent;
 

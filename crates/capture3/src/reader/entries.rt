@@ -1,4 +1,4 @@
-// The entries of a capture, read one by one.
+//! The entries of a capture, read one by one.
 
 ghost use Rattle.std.specs.Prelude.{◌≡◌, ◌≢◌, ◌≤◌, ◌<◌, ◌+◌, ◌++◌, ◌∷◌, ℕ, List, [], length, vec_len, IsTrue, IsFalse, IsSome, IfErr, IfOk, IfSome, OnErr, OnOk, Err, Ok, None, Some};
 ghost use Rattle.capture3.specs.Told.{IsSpent, ReadGives};
@@ -29,12 +29,13 @@ use xdr3::{Reason, Visit};
 /// How many bytes a read asks for.
 const BLOCK: usize = 65_536;
 
-/// The most bytes that are judged: one more than the longest capture has, since the byte that shows a fault
-/// is judged too. That capture has version 2: its magic, 65,535 connections of a word 1 and a side word 0,
-/// the last word 0, and 1,073,741,824 stream bytes in chunks of one byte after eight of side and length.
+/// The most bytes that are checked: one more than the longest capture has, because the byte that
+/// shows a fault is checked too. That capture has version 2: its magic, 65,535 connections of a
+/// word 1 and a side word 0, the last word 0, and 1,073,741,824 stream bytes in chunks of one byte,
+/// each after eight bytes of side and length.
 const MOST_JUDGED: u64 = 9_664_200_709;
 
-/// What a reader answers from now on.
+/// What a reader returns from now on.
 #[derive(Clone, Copy)]
 enum Stage {
     /// The entries that are left.
@@ -45,9 +46,9 @@ enum Stage {
     Failed(Error),
 }
 
-/// Reads the entries of a capture one by one. It holds one block of the source's bytes, one record, and
-/// the calls of the open connection; of a capture of version 2 also the streams of that connection, up to
-/// its end.
+/// Reads the entries of a capture one by one. It keeps one block of the source's bytes, one record,
+/// and the calls of the open connection; for a capture of version 2 also the streams of that
+/// connection, up to its end.
 #[derive(Drop)]
 pub struct Entries<'r, R, S: BuildHasher + Drop> {
     source: &'r mut R,
@@ -79,8 +80,8 @@ impl<'r, R: Source, S: BuildHasher + Drop> Entries<'r, R, S> {
     ghost use Rattle.capture3.specs.Handing.{HandsOutGiven};
     ghost use Rattle.capture3.specs.machinery.Entries.{entries_left, HandsOutOrGoesOn, HasRead, StandsFor, Turns};
 
-    /// A reader through a block that has room, which reads nothing yet. The hasher is for the calls of a
-    /// connection by their xids, and plays no part in the answers.
+    /// Returns a reader through a block that is not empty. It reads nothing yet. The hasher is for
+    /// the calls of a connection by their xids, and affects no result.
     pub fn through(alloc: Global, hasher: S, source: &'r mut R, block: Vec<u8>) -> Entries<'r, R, S>
         requires { 0 < vec_len block }
         ensures stands { StandsFor R.told result [] [] }
@@ -102,7 +103,7 @@ impl<'r, R: Source, S: BuildHasher + Drop> Entries<'r, R, S> {
         }
     }
 
-    /// The source, as the reads left it.
+    /// Returns the source, as the reads left it.
     pub fn into_source(self) -> &'r mut R
         ensures value { result.now ≡ source_of self.entry }
         ensures same_reference { result.ghost_name ≡ loan_of self.entry }
@@ -111,14 +112,18 @@ impl<'r, R: Source, S: BuildHasher + Drop> Entries<'r, R, S> {
         source
     }
 
-    /// The next entry. A visitor is told the items of a message while it is read: an entry that is no
-    /// message has none. None comes after the end, and again, and nothing is read.
+    /// Reads the next entry and returns its kind, or `None` after the last one. While a message is
+    /// read, each of its items is passed to the visitor; other entries have no items. Once it has
+    /// returned `None` it always does, and reads nothing more.
     ///
     /// # Errors
     ///
-    /// `Refused` with the first fault of a capture that is not well formed, `Read` where a read failed, and
-    /// `Memory` where it ran out, by the visitor too; never `Write`. What the visitor holds is open.
-    /// The same error is answered from then on, and nothing is read.
+    /// - `Refused` with the first fault if the capture is not well formed.
+    /// - `Read` if a read failed.
+    /// - `Memory` if an allocation failed, also in the visitor.
+    ///
+    /// It never returns `Write`. After an error the contents of the visitor are unspecified, the
+    /// same error is returned from then on, and nothing is read.
     pub fn next<V: Visit>(&mut self, visitor: &mut V) -> Result<Option<Kind>, Error>
         ensures answers { (given : List ℕ) (handed : List spec.Entry)
             → StandsFor R.told self.old given handed
@@ -149,8 +154,8 @@ impl<'r, R: Source, S: BuildHasher + Drop> Entries<'r, R, S> {
         }
     }
 
-    /// The entry that `next` handed out last, lent until the next call, and none before the first and after
-    /// an error.
+    /// Borrows the entry that `next` returned last, until the next call. Returns `None` before the
+    /// first entry and after an error.
     pub fn entry(&self) -> Option<EntryRef<'_>>
         ensures kind { kind_lent result ≡ last_of self.now }
         ensures lent { (given : List ℕ) (handed : List spec.Entry) (entry : spec.Entry)
@@ -163,7 +168,7 @@ impl<'r, R: Source, S: BuildHasher + Drop> Entries<'r, R, S> {
         }
     }
 
-    /// The next entry of a capture whose end was not handed out.
+    /// Reads the next entry of a capture whose end was not returned.
     fn read_on<V: Visit>(&mut self, visitor: &mut V) -> Result<Option<Kind>, Error>
         requires reading { self.old.stage ≡ Stage.Reading }
         ensures turns { (given : List ℕ) (handed : List spec.Entry)
@@ -194,8 +199,8 @@ impl<'r, R: Source, S: BuildHasher + Drop> Entries<'r, R, S> {
         Err(error)
     }
 
-    /// One read at most, and one piece judged: the entry that is whole with it, if one is. Where streams that
-    /// were kept are judged, nothing is read.
+    /// Reads at most once, checks one piece, and returns the entry that is whole with it, if one
+    /// is. If kept streams are checked, it reads nothing.
     fn turn<V: Visit>(&mut self, visitor: &mut V) -> Result<Option<Kind>, Error>
         requires reading { self.old.stage ≡ Stage.Reading }
         requires bounded { self.old.judged ≤ most_bytes Two + 1 }
@@ -234,7 +239,7 @@ impl<'r, R: Source, S: BuildHasher + Drop> Entries<'r, R, S> {
         self.judge(visitor)
     }
 
-    /// Tells that all bytes at hand are judged, and no streams that were kept are.
+    /// Returns whether all bytes at hand are checked, and no kept streams are left.
     fn is_used_up(&self) -> bool
         ensures judged { IsTrue result → self.now.start ≡ self.now.end }
         ensures unopened { IsTrue result → self.now.parser.container.cursor ≡ None }
@@ -244,7 +249,7 @@ impl<'r, R: Source, S: BuildHasher + Drop> Entries<'r, R, S> {
         self.start == self.end && !self.parser.is_recalling()
     }
 
-    /// Reads the next block. False stands for the end of the bytes.
+    /// Reads the next block. Returns `false` at the end of the bytes.
     fn refill(&mut self) -> Result<bool, Error>
         requires reading { self.old.stage ≡ Stage.Reading }
         requires bounded { self.old.judged ≤ most_bytes Two + 1 }
@@ -281,7 +286,7 @@ impl<'r, R: Source, S: BuildHasher + Drop> Entries<'r, R, S> {
         }
     }
 
-    /// Judges what is to be judged, up to the next entry: streams that were kept, or the rest of the block.
+    /// Checks what is left up to the next entry: kept streams, or the rest of the block.
     fn judge<V: Visit>(&mut self, visitor: &mut V) -> Result<Option<Kind>, Error>
         requires reading { self.old.stage ≡ Stage.Reading }
         requires bounded { self.old.judged ≤ most_bytes Two + 1 }
@@ -322,7 +327,7 @@ impl<'r, R: Source, S: BuildHasher + Drop> Entries<'r, R, S> {
         }
     }
 
-    /// The capture's end, where no byte is left.
+    /// Ends the capture, of which no byte is left.
     fn finish(&mut self) -> Result<(), Error>
         requires reading { self.old.stage ≡ Stage.Reading }
         requires judged { self.old.start ≡ self.old.end }
@@ -358,7 +363,7 @@ impl<'r, R: Source, S: BuildHasher + Drop> Entries<'r, R, S> {
     }
 }
 
-/// A block of 65,536 bytes to read through.
+/// Returns a block of 65,536 bytes to read through.
 pub fn new_block(alloc: Global) -> Result<Vec<u8>, AllocError>
     ensures size { IfOk result (λ block. vec_len block ≡ BLOCK) }
     ensures room { IfOk result (λ block. 0 < vec_len block) }
@@ -366,7 +371,7 @@ pub fn new_block(alloc: Global) -> Result<Vec<u8>, AllocError>
     vec![in alloc; 0; BLOCK]
 }
 
-/// Reads into the front of a block.
+/// Reads into a prefix of a block.
 fn read_block<R: Source>(source: &mut R, block: &mut [u8]) -> Result<usize, DeviceFailed>
     requires room { 0 < length block.old }
     ensures within { IfOk result (λ n. n ≤ length block.new) }

@@ -1,4 +1,4 @@
-// The entries of a capture.
+//! The entries of a capture.
 
 ghost use Rattle.std.specs.Prelude.{◌≡◌, ◌≤◌, List, length, IfOk, OnOk};
 ghost use Rattle.record_mark.specs.RecordMark.{max_body};
@@ -13,7 +13,7 @@ use rpc_head::{ProcId, start};
 use std::alloc::{AllocError, Global};
 use xdr3::{GetError, Input, Visit};
 
-/// What an entry is, and a message's procedure: of a reply that of its call.
+/// What an entry is. A message has its procedure with it; that of a reply is its call's.
 #[derive(Clone, Copy, Debug, PartialEq, Eq)]
 pub enum Kind {
     Begin,
@@ -24,7 +24,7 @@ pub enum Kind {
     End,
 }
 
-/// A call whose record stands: its procedure, and the body that spells it.
+/// A borrowed call: its procedure, and the body that encodes it.
 #[derive(Clone, Copy)]
 pub struct CallRef<'a> {
     pub id: ProcId,
@@ -33,7 +33,7 @@ pub struct CallRef<'a> {
     pub ghost spells: { ∥ SpellsCall id body.now ∥₁ },
 }
 
-/// A reply whose record stands: the procedure of its call, and the body that spells it.
+/// A borrowed reply: the procedure of its call, and the body that encodes it.
 #[derive(Clone, Copy)]
 pub struct ReplyRef<'a> {
     pub id: ProcId,
@@ -42,7 +42,7 @@ pub struct ReplyRef<'a> {
     pub ghost spells: { ∥ SpellsReply id body.now ∥₁ },
 }
 
-/// An entry that borrows from the record that stands.
+/// An entry that borrows from the current record.
 #[derive(Clone, Copy)]
 pub enum EntryRef<'a> {
     Begin,
@@ -53,7 +53,7 @@ pub enum EntryRef<'a> {
     End,
 }
 
-/// A call that outlives its record: its procedure, and the body that spells it.
+/// An owned call: its procedure, and the body that encodes it.
 #[derive(Drop)]
 pub struct KeptCall {
     pub id: ProcId,
@@ -62,7 +62,7 @@ pub struct KeptCall {
     pub ghost spells: { ∥ SpellsCall id body.items ∥₁ },
 }
 
-/// A reply that outlives its record: the procedure of its call, and the body that spells it.
+/// An owned reply: the procedure of its call, and the body that encodes it.
 #[derive(Drop)]
 pub struct KeptReply {
     pub id: ProcId,
@@ -71,8 +71,8 @@ pub struct KeptReply {
     pub ghost spells: { ∥ SpellsReply id body.items ∥₁ },
 }
 
-/// What a capture consists of: for each connection `Begin`, its calls, `Turn`, its replies and `Close`,
-/// and then `End`.
+/// What a capture consists of: for each connection `Begin`, its calls, `Turn`, its replies and
+/// `Close`, and then `End`.
 #[derive(Drop)]
 pub enum Entry {
     Begin,
@@ -84,7 +84,7 @@ pub enum Entry {
 }
 
 impl<'a> CallRef<'a> {
-    /// The xid (RFC 5531, section 9).
+    /// Returns the xid (RFC 5531, section 9).
     pub fn xid(&self) -> u32
         ensures { (items : List Item) → IsCall self.now.body.now items → result ≡ xid_in items }
     {
@@ -95,7 +95,7 @@ impl<'a> CallRef<'a> {
         start.xid
     }
 
-    /// The call, with a body of its own.
+    /// Returns the call with a body of its own.
     pub fn keep(&self, alloc: Global) -> Result<KeptCall, AllocError>
         ensures id { IfOk result (λ kept. kept.id ≡ self.now.id) }
         ensures body { IfOk result (λ kept. kept.body.items ≡ self.now.body.now) }
@@ -104,8 +104,8 @@ impl<'a> CallRef<'a> {
         Ok(KeptCall { id: self.id, body })
     }
 
-    /// Tells a visitor the items of the call, in one pass over its body. It fails only where memory ran
-    /// out, and then what the visitor holds is open.
+    /// Passes the items of the call to a visitor, in one pass over its body. It fails only if
+    /// memory runs out in the visitor, whose contents are unspecified then.
     pub fn scan<V: Visit>(&self, visitor: &mut V) -> Result<(), AllocError>
         ensures { OnOk result (TellsCall V.stands self.now.body.now visitor.old visitor.new) }
     {
@@ -119,7 +119,7 @@ impl<'a> CallRef<'a> {
 }
 
 impl<'a> ReplyRef<'a> {
-    /// The xid (RFC 5531, section 9).
+    /// Returns the xid (RFC 5531, section 9).
     pub fn xid(&self) -> u32
         ensures { (items : List Item) → IsReply self.now.body.now
             (record { id = self.now.id; items = items }) → result ≡ xid_in items }
@@ -131,7 +131,7 @@ impl<'a> ReplyRef<'a> {
         start.xid
     }
 
-    /// The reply, with a body of its own.
+    /// Returns the reply with a body of its own.
     pub fn keep(&self, alloc: Global) -> Result<KeptReply, AllocError>
         ensures id { IfOk result (λ kept. kept.id ≡ self.now.id) }
         ensures body { IfOk result (λ kept. kept.body.items ≡ self.now.body.now) }
@@ -140,8 +140,8 @@ impl<'a> ReplyRef<'a> {
         Ok(KeptReply { id: self.id, body })
     }
 
-    /// Tells a visitor the items of the reply, in one pass over its body. It fails only where memory ran
-    /// out, and then what the visitor holds is open.
+    /// Passes the items of the reply to a visitor, in one pass over its body. It fails only if
+    /// memory runs out in the visitor, whose contents are unspecified then.
     pub fn scan<V: Visit>(&self, visitor: &mut V) -> Result<(), AllocError>
         ensures { OnOk result
             (TellsReply V.stands self.now.body.now self.now.id visitor.old visitor.new) }
@@ -154,7 +154,7 @@ impl<'a> ReplyRef<'a> {
         }
     }
 
-    /// The call that it answers.
+    /// Returns the call that it answers.
     fn answered(&self) -> NumberedCall
         ensures id { result.id ≡ self.now.id }
         ensures xid { (items : List Item) → IsReply self.now.body.now
@@ -168,7 +168,7 @@ impl<'a> ReplyRef<'a> {
 }
 
 impl KeptCall {
-    /// The call, as one whose record stands.
+    /// Borrows the call.
     pub fn lend(&self) -> CallRef<'_>
         ensures id { result.id ≡ self.now.id }
         ensures body { result.body.now ≡ self.now.body.items }
@@ -181,7 +181,7 @@ impl KeptCall {
 }
 
 impl KeptReply {
-    /// The reply, as one whose record stands.
+    /// Borrows the reply.
     pub fn lend(&self) -> ReplyRef<'_>
         ensures id { result.id ≡ self.now.id }
         ensures body { result.body.now ≡ self.now.body.items }
@@ -197,7 +197,7 @@ impl<'a> EntryRef<'a> {
     ghost use Rattle.capture3.specs.Entry as spec;
     ghost use Rattle.capture3.specs.Kept.{IsCopy, IsKept, IsLent};
 
-    /// The entry, with a body of its own.
+    /// Returns the entry with a body of its own.
     pub fn keep(&self, alloc: Global) -> Result<Entry, AllocError>
         ensures copy { IfOk result (IsCopy self.now) }
         ensures kept { (entry : spec.Entry) → IsLent self.now entry

@@ -1,4 +1,4 @@
-// A capture whose records are judged as they come.
+//! A capture whose records are checked as they come.
 
 ghost use Rattle.std.specs.Prelude.{is_some, ◌≡◌, ◌≢◌, ◌≤◌, ◌<◌, ◌+◌, ◌++◌, ℕ, List, [], length, take, IfErr, IfOk, OnOk, None, Some};
 ghost use Rattle.record_mark.specs.Taking.{IsRunning, IsWhole, body_of, released, unbegun};
@@ -45,9 +45,10 @@ impl<C: CallTable + Drop> EntryParser<C> {
         }
     }
 
-    /// Takes bytes of `piece` up to the next entry, or all of them, and says how many: none where an entry
-    /// of streams that were kept is next. A visitor is told the items of a message, whose record stands
-    /// until the next call. After an error what it holds is open.
+    /// Takes bytes of `piece` up to the next entry, or all of them, and returns how many: none if
+    /// the next entry is of kept streams. The items of a message are passed to the visitor, and its
+    /// record stays until the next call. After an error the contents of the visitor are
+    /// unspecified.
     pub(crate) fn next<V: Visit>(
         &mut self,
         piece: &[u8],
@@ -92,15 +93,14 @@ impl<C: CallTable + Drop> EntryParser<C> {
         }
     }
 
-    /// Tells that `next` answers an entry and takes no byte for it, or a fault: streams that were kept are
-    /// judged.
+    /// Returns whether `next` takes no byte for what it returns, because kept streams are checked.
     pub(crate) fn is_recalling(&self) -> bool
         ensures { result ≡ is_some self.now.container.cursor }
     {
         self.container.cursor.is_some()
     }
 
-    /// The entry of this kind that `next` came to.
+    /// Borrows the entry of this kind that `next` returned last.
     pub(crate) fn lend(&self, kind: Kind) -> EntryRef<'_>
         requires spells { ∥ SpellsKind kind self.now.container.joiner ∥₁ }
         ensures kind { kind_of result ≡ kind }
@@ -123,7 +123,7 @@ impl<C: CallTable + Drop> EntryParser<C> {
         }
     }
 
-    /// Tests that the file may end here, after so many bytes.
+    /// Tests that the file may end here, after this many bytes.
     pub(crate) fn end(&self, size: u64) -> Result<(), Error>
         ensures ok { OnOk result (IsEndSpot self.now.container.position.spot) }
         ensures err { IfErr result (λ error. (IsEndSpot self.now.container.position.spot → ⊥)
@@ -133,7 +133,7 @@ impl<C: CallTable + Drop> EntryParser<C> {
         self.container.end(size)
     }
 
-    /// The entry that is whole.
+    /// Returns the entry that is whole.
     fn entry<V: Visit>(&mut self, event: Event, visitor: &mut V) -> Result<Kind, Error>
         requires leaves { Leaves (Some event) self.old.container.joiner }
         requires opened { event ≢ Event.Streams }
@@ -163,7 +163,7 @@ impl<C: CallTable + Drop> EntryParser<C> {
         }
     }
 
-    /// The message that is whole.
+    /// Returns the message that is whole.
     fn message<V: Visit>(&mut self, side: Side, visitor: &mut V) -> Result<Kind, Error>
         requires { IsWhole self.old.container.joiner }
         ensures container { self.new.container ≡ self.old.container }
@@ -194,7 +194,7 @@ impl<C: CallTable + Drop> EntryParser<C> {
         }
     }
 
-    /// The procedure of the call that is whole, which joins the calls of its connection.
+    /// Returns the procedure of the call that is whole, which joins the calls of its connection.
     fn call<V: Visit>(&mut self, visitor: &mut V) -> Result<ProcId, Error>
         requires { IsWhole self.old.container.joiner }
         ensures container { self.new.container ≡ self.old.container }
@@ -221,7 +221,7 @@ impl<C: CallTable + Drop> EntryParser<C> {
         }
     }
 
-    /// The procedure of the reply that is whole.
+    /// Returns the procedure of the reply that is whole.
     fn reply<V: Visit>(&mut self, visitor: &mut V) -> Result<ProcId, Error>
         requires { IsWhole self.old.container.joiner }
         ensures container { self.new.container ≡ self.old.container }

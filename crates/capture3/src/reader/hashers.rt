@@ -1,9 +1,9 @@
-// How the tables of a run hash their keys.
+//! How the tables of a run hash their keys.
 
 use std::hash::BuildHasher;
 
-/// One hasher for each kind of table: the calls of a connection by their xids, and the numbers of xids,
-/// of file handles and of write verifiers. What is answered does not depend on them.
+/// One hasher for each kind of table: the calls of a connection by their xids, and the numbers of
+/// xids, of file handles and of write verifiers. They affect no result.
 #[derive(Drop)]
 pub struct Hashers<S: BuildHasher + Drop> {
     pub calls: S,

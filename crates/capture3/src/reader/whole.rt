@@ -1,4 +1,4 @@
-// A whole capture in memory.
+//! A whole capture in memory.
 
 ghost use Rattle.std.specs.Prelude.{◌≡◌, ◌≢◌, ◌≤◌, ℕ, List, IfErr, IfOk, vec_len};
 ghost use Rattle.capture3.specs.Capture.{max_connections};
@@ -18,12 +18,14 @@ use crate::reader::entry::Entry;
 use crate::reader::entry_parser::EntryParser;
 use std::alloc::Global;
 
-/// The entries of a capture, or its first fault.
+/// Returns the entries of a capture.
 ///
 /// # Errors
 ///
-/// `Refused` with the first fault of a capture that is not well formed, and `Memory` where none was to be
-/// had; never `Read` or `Write`.
+/// - `Refused` with the first fault if the capture is not well formed.
+/// - `Memory` if an allocation failed.
+///
+/// It never returns `Read` or `Write`.
 pub fn parse(alloc: Global, bytes: &[u8]) -> Result<Vec<Entry>, Error>
     ensures entries { IfOk result
         (λ kept. (entries : List spec.Entry) × Typed bytes.now entries
