@@ -1,2 +1,0 @@
--- Lemmas of what came of files.
-pub mod FilesLemmas
