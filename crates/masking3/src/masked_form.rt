@@ -1,9 +1,10 @@
 //! The masked form of a capture, from a source to a sink.
 
-ghost use Rattle.std.specs.Prelude.{◌≡◌, IfErr, OnErr, OnOk};
+ghost use Rattle.std.specs.Prelude.{◌≡◌, ℕ, List, IfErr, OnErr, OnOk};
 ghost use Rattle.std.specs.Io.KnownBytes.{Appends};
 ghost use Rattle.capture3.specs.Entries.{CountsReading};
-ghost use Rattle.canon3.specs.EntryWriter.{WritesGiven};
+ghost use Rattle.capture3.specs.Told.{GavePrefix};
+ghost use Rattle.canon3.specs.EntryWriter.{WritesAll, WritesGiven};
 ghost use Rattle.canon3.specs.machinery.CanonicalForm.{magic_before};
 ghost use Rattle.canon3.specs.Passed.{connections_in};
 ghost use Rattle.canon3.specs.WriteErrors.{CountsWriting};
@@ -19,17 +20,21 @@ use std::alloc::Global;
 use std::hash::BuildHasher;
 use std::marker::Brand;
 
-/// Reads a capture to its end, writes its masked form as it comes, and flushes the sink: values of each
-/// class stay, are 0, or are their numbers by first appearance in the capture. All else is as it was, but
-/// each record is one chunk and one fragment, and residual bytes are 0. It holds one block of the source's
-/// bytes, one record, the calls of the open connection, the distinct file handles, and the values that have
-/// numbers.
+/// Reads a capture to its end, writes its masked form as it comes, and flushes the sink. Values of
+/// each class stay, become 0, or become their numbers by first appearance in the capture. All else
+/// is as it was, but each record is one chunk and one fragment, and residual bytes are 0. It keeps
+/// one block of the source's bytes, one record, the calls of the open connection, the distinct file
+/// handles, and the values that have numbers.
 ///
 /// # Errors
 ///
-/// `Refused` with the first fault of a capture that is not well formed, and `Read` if a read failed: the
-/// form of the entries before it is written whole. `Write` if a write or the flush failed, and `Memory` if
-/// it ran out: a front of the form is written. After an error nothing is flushed.
+/// - `Refused` with the first fault if the capture is not well formed. The form of the entries
+///   before it is written whole.
+/// - `Read` if a read failed. The form of the entries before it is written whole.
+/// - `Write` if a write or the flush failed, and `Memory` if an allocation failed. A prefix of the
+///   form is written.
+///
+/// After an error nothing is flushed.
 pub fn mask<R: Source, W: Sink, S: BuildHasher + Drop>(
     alloc: Global,
     hashers: MaskHashers<S>,
@@ -39,6 +44,8 @@ pub fn mask<R: Source, W: Sink, S: BuildHasher + Drop>(
 ) -> Result<Summary, Error>
     ensures masks { WritesGiven (masked_bytes ways) (R.told source.old) (R.told source.new)
         (W.written sink.old) (W.written sink.new) result }
+    ensures whole { (bytes : List ℕ) → GavePrefix (R.told source.old) (R.told source.new) bytes
+        → WritesAll (masked_bytes ways) bytes (W.written sink.old) (W.written sink.new) result }
     ensures flushes { OnOk result (IsFlushed (W.written sink.new) (W.flushed sink.new)) }
     ensures read { CountsReading (R.failures source.old) (R.failures source.new) result }
     ensures write { CountsWriting (W.failures sink.old) (W.failures sink.new) result }
@@ -57,6 +64,8 @@ fn mask_by_plan<P: Plan, R: Source, W: Sink, S: BuildHasher + Drop>(
     requires { ways ≡ P.ways }
     ensures masks { WritesGiven (masked_bytes P.ways) (R.told source.old) (R.told source.new)
         (W.written sink.old) (W.written sink.new) result }
+    ensures whole { (bytes : List ℕ) → GavePrefix (R.told source.old) (R.told source.new) bytes
+        → WritesAll (masked_bytes P.ways) bytes (W.written sink.old) (W.written sink.new) result }
     ensures flushes { OnOk result (IsFlushed (W.written sink.new) (W.flushed sink.new)) }
     ensures read { CountsReading (R.failures source.old) (R.failures source.new) result }
     ensures write { CountsWriting (W.failures sink.old) (W.failures sink.new) result }

@@ -1,7 +1,7 @@
 //! What the job does with its files.
 
 use crate::hashers::mask_hashers;
-use canon3::{Summary, ToWrite};
+use canon3::{Summary, ToWrite, Traced};
 use capture3::{Error, FromRead};
 use mask_line3::{MaskJob, ways_told};
 use masking3::{MaskHashers, Ways, mask};
@@ -43,6 +43,7 @@ fn form_written(
     source: File,
     output: &File,
 ) -> Result<Summary, Error> {
+    let output = Traced::new(output);
     let Ok(mut buffer) = BufWriter::with_capacity(rt.alloc(), WRITTEN_AT_ONCE, output) else {
         return Err(Error::Memory);
     };
