@@ -129,8 +129,8 @@ fn close<W: Sink, E: EntryWriter>(
     sink: &mut W,
     writer: &E,
 ) -> Result<Summary, Error>
-    ensures writes { (first told : Told) (old : Option (List ℕ)) (given : List ℕ) (entries : List spec.Entry)
-        → IsEnded first told given entries
+    ensures writes { (first told : Told) (old : Option (List ℕ)) (given : List ℕ)
+        (entries : List spec.Entry) → IsEnded first told given entries
         → HasWritten E.form E.before E.stands E.going writer.now passed.now old
         (W.written sink.old) entries → WritesGiven E.form first told old
         (W.written sink.new) result }

@@ -8,6 +8,8 @@ ghost use Rattle.capture3.specs.Bodies.{ReplyItems};
 ghost use Rattle.capture3.specs.Capture.{IsCapture, Version};
 ghost use Rattle.capture3.specs.SidedChunks.{Streams};
 ghost use Rattle.capture3.specs.Connections.{calls_in_turn, replies_to};
+ghost use Rattle.capture3.specs.Entries.{KeepsLimits};
+ghost use Rattle.capture3.specs.machinery.Entries.{StandsFor};
 ghost use Rattle.capture3.specs.Entry.{Entry};
 ghost use Rattle.capture3.specs.FirstFault.{FirstFault, IsClean};
 ghost use Rattle.capture3.specs.Laws.{AreWithinLimits, HasItsPlace, HasOneVerdict, HaveSameEntries, IsCutShort, IsJudgedInTurn, IsJudgedOnce, IsWithinVersion, most_bytes};
@@ -22,6 +24,10 @@ ghost use Rattle.capture3.specs.Entry.{Begin, Call, Close, End, Turn};
 ghost use Rattle.capture3.specs.Examples.{bad_mtype, bad_mtype_cut, magic_1, null_call_items, null_capture, null_entries, word_0, word_1};
 ghost use Rattle.capture3.specs.Examples.{bad_mtype_mixed, bad_mtype_mixed_cut, call_answered_by_call, client_chunk, magic_2, null_mixed, null_mixed_swapped, server_chunk, word_3};
 ghost use Rattle.capture3.specs.Sides.{file_fault};
+
+use crate::device::source::Source;
+use crate::reader::entries::Entries;
+use std::hash::BuildHasher;
 
 /// Each file is well formed with exactly one list of entries, or has exactly one first fault, and
 /// never both.
@@ -81,6 +87,13 @@ pub fn longest()
     ensures captures { (version : Version) (file : List ℕ) (connections : List Streams)
         → IsCapture version file connections → length file ≤ most_bytes version }
     ensures clean { (bytes : List ℕ) → AreBytes bytes → IsClean bytes → IsWithinVersion bytes }
+{}
+
+/// Whatever a source does, a reader keeps the limits: on the entries that it returns, on the connections
+/// that they begin, and on the bytes that it reads.
+pub fn reader_keeps_limits<R: Source, S: BuildHasher + Drop>(_entries: &Entries<'_, R, S>)
+    ensures { (given : List ℕ) (handed : List Entry) → StandsFor R.told _entries.now given handed
+        → KeepsLimits _entries.now given handed }
 {}
 
 /// The state machine returns the entries or the first fault, each if and only if it holds; and what
