@@ -10,3 +10,4 @@ pub mod MaskedMessages
 pub mod MaskedFiles
 pub mod SameButLemmas
 pub mod FirstEntries
+pub mod MaskingMore

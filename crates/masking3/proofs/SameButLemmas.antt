@@ -33,12 +33,12 @@ alike_class i j words = refl
 alike_class i j hypers = refl
 alike_class i j eights = refl
 
-alike_turned : {i j : Item} → AreAlike i j → AreAlike j i
+pub alike_turned : {i j : Item} → AreAlike i j → AreAlike j i
 alike_turned words = words
 alike_turned hypers = hypers
 alike_turned eights = eights
 
-alike_linked : {i j k : Item} → AreAlike i j → AreAlike j k → AreAlike i k
+pub alike_linked : {i j k : Item} → AreAlike i j → AreAlike j k → AreAlike i k
 alike_linked words words = words
 alike_linked hypers hypers = hypers
 alike_linked eights eights = eights
@@ -48,7 +48,7 @@ alike_with i j m words = refl
 alike_with i j m hypers = refl
 alike_with i j m eights = refl
 
-alike_put : (i : Item) (d : Class) (m : ℕ) → class_of i ≡ Some d → AreAlike i (with_value i (Some m))
+pub alike_put : (i : Item) (d : Class) (m : ℕ) → class_of i ≡ Some d → AreAlike i (with_value i (Some m))
 alike_put (Word name n) d m is = words
 alike_put (Hyper name n) d m is = hypers
 alike_put (Fixed name bytes) d m is = eights
@@ -119,10 +119,10 @@ module _ (ways : Ways) (pairs : Class → Pairs ℕ) where
 -- ---- changes of changes
 
 module _ (ways : Ways) where
-  abbrev Changes : (Class → Pairs ℕ) → List Entry → List Entry → Type 0
+  abbrev pub Changes : (Class → Pairs ℕ) → List Entry → List Entry → Type 0
   Changes pairs a b = Pairwise (ChangesEntry ways pairs) a b
 
-  abbrev AreAgreeing : (Class → Pairs ℕ) → Type 0
+  abbrev pub AreAgreeing : (Class → Pairs ℕ) → Type 0
   AreAgreeing pairs = (d : Class) → Agree nat_eq (IsNumbered d) (pairs d)
 
   -- from what is so of each item
@@ -279,7 +279,7 @@ value_numbered d (Some e) n x m =
     (λ t. let is : x ≡ n = one_member (rw t at m) in subst (IsNumbered d) (sym is) (and_not (position d == position e) (is_zero_that_stays d n) t))
     (λ f. let no : Member x [] = rw f at m in elim no [ ])
 
-values_numbered : (d : Class) (items : List Item) (x : ℕ) → Member x (values items d) → IsNumbered d x
+pub values_numbered : (d : Class) (items : List Item) (x : ℕ) → Member x (values items d) → IsNumbered d x
 values_numbered d [] x m = elim m [ ]
 values_numbered d (i ∷ items) x m = ⊎_elim (value_numbered d (class_of i) (class_value i) x) (values_numbered d items x) (member-append_cases (value_in d i) m)
 
@@ -485,7 +485,7 @@ same_masked ways a b free s = record {
 
 -- ---- both directions
 
-agree_of : (ways : Ways) (pairs : Class → Pairs ℕ) → ((d : Class) → OneToOne (IsNumbered d) (pairs d)) → AreAgreeing ways pairs
+pub agree_of : (ways : Ways) (pairs : Class → Pairs ℕ) → ((d : Class) → OneToOne (IsNumbered d) (pairs d)) → AreAgreeing ways pairs
 agree_of ways pairs one d = agree-from nat_eq Decides-eqb (one d)
 
 pub same_from_same_but : (ways : Ways) (a b : List Entry) → AllByRecursion HasFreeXid a → SameBut ways a b → Same (masked ways a) (masked ways b)
@@ -494,7 +494,7 @@ same_from_same_but ways a b free s =
     (same_masked ways s.changed b (free_too ways s.value_pairs free s.changes) s.same)
 
 -- each pair one time
-from_agreeing : (ways : Ways) (a b changed : List Entry) (pairs : Class → Pairs ℕ) → AreAgreeing ways pairs → Changes ways pairs a changed → Same changed b → SameBut ways a b
+pub from_agreeing : (ways : Ways) (a b changed : List Entry) (pairs : Class → Pairs ℕ) → AreAgreeing ways pairs → Changes ways pairs a changed → Same changed b → SameBut ways a b
 from_agreeing ways a b changed pairs agree changes same = record {
   value_pairs = λ d. kept nat_eq (pairs d);
   values_one_to_one = λ d. one_to_one-kept nat_eq Decides-eqb (pairs d) (agree d);

@@ -1,12 +1,13 @@
 -- What the laws say of the masked form.
-use Rattle.std.specs.Prelude.{◌≡◌, ◌↔◌, ◌<◌, ◌^◌, List, ◌++◌, length}
+use Rattle.std.specs.Prelude.{⊤, ◌≡◌, ◌↔◌, ◌<◌, ◌^◌, List, ◌++◌, length}
 use Rattle.std.specs.List.{flat_map}
 use Rattle.capture3.specs.Entry.{Entry, items_of}
 use Rattle.canon3.specs.Bytes.{bytes_of}
 use Rattle.canon3.specs.Canonical.{canonical}
 use Rattle.canon3.specs.Renaming.{Same}
 use Rattle.masking3.specs.declared.class.Class.{Class}
-use Rattle.masking3.specs.declared.ways.Way.TheVariants.{Keep}
+use Rattle.masking3.specs.declared.ways.Way.{Way}
+use Rattle.masking3.specs.declared.ways.Way.TheVariants.{Keep, Number, Zero}
 use Rattle.masking3.specs.declared.ways.Ways.{Ways}
 use Rattle.masking3.specs.Masked.{masked, values}
 use Rattle.masking3.specs.SameBut.{SameBut}
@@ -24,6 +25,18 @@ StaysMasked ways entries = masked ways (masked ways entries) ≡ masked ways ent
 -- every class stays as it is
 abbrev pub KeepsAll : Ways → Type 0
 KeepsAll ways = (class : Class) → way_of ways class ≡ Keep
+
+-- what the second way leaves of a value is no more than what the first one does
+abbrev pub TellsNoMore : Way → Way → Type 0
+TellsNoMore Keep way = ⊤
+TellsNoMore Number Keep = ⊥
+TellsNoMore Number way = ⊤
+TellsNoMore Zero Zero = ⊤
+TellsNoMore Zero way = ⊥
+
+-- so for each class
+abbrev pub MasksAsMuch : Ways → Ways → Type 0
+MasksAsMuch ways others = (class : Class) → TellsNoMore (way_of ways class) (way_of others class)
 
 -- the form of the first entries is the first entries of the form
 abbrev pub MasksFronts : Ways → List Entry → List Entry → Type 0

@@ -6,7 +6,7 @@ ghost use Rattle.capture3.specs.Entry.{Entry};
 ghost use Rattle.capture3.specs.Typed.{Typed};
 ghost use Rattle.canon3.specs.Laws.{AreFirst, AreOfTheirBytes};
 ghost use Rattle.canon3.specs.Renaming.{Same};
-ghost use Rattle.masking3.specs.Laws.{HasRoomForNumbers, KeepsAll, MaskedBytesDecide, MaskedFormsDecide, MasksFronts, StaysMasked};
+ghost use Rattle.masking3.specs.Laws.{HasRoomForNumbers, KeepsAll, MaskedBytesDecide, MaskedFormsDecide, MasksAsMuch, MasksFronts, StaysMasked};
 ghost use Rattle.masking3.specs.Masked.{masked};
 ghost use Rattle.masking3.specs.SameBut.{SameBut};
 ghost use Rattle.masking3.specs.declared.ways.Ways.{Ways};
@@ -63,4 +63,11 @@ pub fn same_but_is_an_equivalence()
         → SameBut ways a b → SameBut ways b a }
     ensures transitive { (ways : Ways) (a b c : List Entry) → AreFirst a → AreFirst b → AreFirst c
         → SameBut ways a b → SameBut ways b c → SameBut ways a c }
+{}
+
+/// Ways that mask more tell no more captures apart: if captures are the same but for the values that some
+/// ways mask, they are so by ways that mask each class as much or more.
+pub fn masking_more()
+    ensures { (ways others : Ways) (a b : List Entry) → MasksAsMuch ways others
+        → SameBut ways a b → SameBut others a b }
 {}
