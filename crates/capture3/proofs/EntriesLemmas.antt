@@ -29,8 +29,7 @@ use Rattle.capture3.specs.declared.container.Container.{Container}
 use Rattle.capture3.specs.declared.container.Cursor.{Cursor}
 use Rattle.capture3.specs.Capture.{Two, max_connections}
 use Rattle.capture3.specs.machinery.Container.{AreStored, IsReady, IsStored, room_in, unpacking_of}
-use Rattle.capture3.specs.declared.fault.Fault.{Fault}
-use Rattle.capture3.specs.Entries.{AreAllBeforeEnd, IsMetBy, IsShownBy, failure_in, failure_of}
+use Rattle.capture3.specs.Entries.{AreAllBeforeEnd, IsMetBy, failure_in, failure_of}
 use Rattle.capture3.specs.machinery.Entries.{entries_left_in, entries_left, unjudged, IsReading, StandsIn, StandsFor, HoldsLast, HasRead, HandsOutOrGoesOn, Turns}
 use Rattle.capture3.specs.Handing.{HandsOut, HandsOutGiven}
 use Rattle.capture3.specs.Entry.{Entry, End}

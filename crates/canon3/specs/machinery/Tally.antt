@@ -1,5 +1,5 @@
 -- What is tallied of a capture's entries along a reader.
-use Rattle.std.specs.Prelude.{ℕ, Bool, true, false, Option, List, Result, Ok, Err}
+use Rattle.std.specs.Prelude.{ℕ, Bool, true, false, List, Result, Ok, Err}
 use Rattle.capture3.specs.Told.{Gave, IsSpent, Told}
 use Rattle.std.specs.declared.hash.BuildHasher as BuildHasher
 use Rattle.std.specs.declared.hash.Hasher as Hasher

@@ -1,4 +1,4 @@
-use Rattle.std.proofs.Common.{◌≡◌, ◌≤◌, ◌+◌, List, ℕ, None, Option}
+use Rattle.std.proofs.Common.{◌≡◌, ◌≤◌, ◌+◌, None}
 use Rattle.capture3.specs.Told.{Told}
 use Rattle.capture3.specs.Entries.{failure_of, loan_of, source_of}
 use Rattle.capture3.specs.machinery.Entries.{entries_left}
