@@ -1,5 +1,6 @@
 """Where the definitions of crates/*/specs stand: what a public call of any crate believes, and all else in rooms named machinery. Which
-names stand for several of them, which clauses of public calls name a private field, and which clauses have a line over 100 columns."""
+names stand for several of them, which clauses of public calls name a private field, and which clauses
+and definitions have a line over 100 columns."""
 import collections
 import importlib.machinery
 import importlib.util
@@ -125,10 +126,13 @@ def of_private_fields():
 
 
 def long_lines():
-    """The lines of clauses over 100 columns, with their files."""
-    pattern, paths = tool().CLAUSE, sorted(TOP.glob('crates/*/src/**/*.rt'))
-    clauses = ((path, clause[0]) for path in paths for clause in pattern.finditer(path.read_text()))
-    return ['%s: %s' % (path.relative_to(TOP), line) for path, clause in clauses for line in clause.splitlines() if len(line) > 100]
+    """The lines of clauses and of definitions over 100 columns, with their files. Imports do not count."""
+    pattern = tool().CLAUSE
+    sources = ((path, path.read_text()) for path in sorted(TOP.glob('crates/*/src/**/*.rt')))
+    texts = [(path, clause[0]) for path, text in sources for clause in pattern.finditer(text)]
+    texts += [(path, path.read_text()) for path in sorted(TOP.glob('crates/*/specs/**/*.antt'))]
+    return ['%s: %s' % (path.relative_to(TOP), line) for path, text in texts for line in text.splitlines()
+            if len(line) > 100 and not line.startswith(('use ', 'pub use '))]
 
 
 def of_several_meanings():

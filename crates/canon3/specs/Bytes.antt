@@ -1,4 +1,5 @@
--- The bytes of a list of entries: one chunk for each record, one fragment for each record, and residual bytes of zero.
+-- The bytes of a list of entries: one chunk for each record, one fragment for each record, and
+-- residual bytes of zero.
 use Rattle.std.specs.Prelude.{ℕ, ◌+◌, ◌^◌, List, [], ◌∷◌, ◌++◌, length}
 use Rattle.std.specs.List.{flat_map}
 use Rattle.xdr3.specs.Item.{Item, zero_spelling, word_bytes}

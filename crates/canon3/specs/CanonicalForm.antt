@@ -13,5 +13,6 @@ abbrev pub canonical_bytes : List Entry → List ℕ
 canonical_bytes entries = bytes_of (canonical entries)
 
 -- the source gave some bytes, and the canonical form of their entries was written
-abbrev pub RewritesGiven : (before told : Told) (old new : Option (List ℕ)) → Result Summary Error → Type 0
+abbrev pub RewritesGiven : (before told : Told) (old new : Option (List ℕ)) → Result Summary Error
+    → Type 0
 RewritesGiven before told old new result = WritesGiven canonical_bytes before told old new result

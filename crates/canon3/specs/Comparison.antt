@@ -16,7 +16,8 @@ use Rattle.canon3.specs.declared.verdict.Which.TheVariants.{First, Second}
 use Rattle.canon3.specs.Parting.{Parting}
 use Rattle.canon3.specs.Renaming.{Same}
 
--- The fault is the first of the first file, or of the second where the first is well formed. No other error says anything of them.
+-- The fault is the first of the first file, or of the second where the first is well formed. No
+-- other error says anything of them.
 abbrev pub StopsComparing : (file other : List ℕ) → Error → Which → Type 0
 StopsComparing file other (errors.Refused fault) First = FirstFault file fault
 StopsComparing file other (errors.Refused fault) Second = IsWellFormed file × FirstFault other fault
@@ -24,10 +25,13 @@ StopsComparing file other errors.Read which = Unit {0}
 StopsComparing file other errors.Write which = Unit {0}
 StopsComparing file other errors.Memory which = Unit {0}
 
--- Both files are well formed, and their entries are the same up to renaming, or are not and part at the place; or an error came.
+-- Both files are well formed, and their entries are the same up to renaming, or are not and part at
+-- the place; or an error came.
 abbrev pub DecidesSame : (file other : List ℕ) → Result Verdict SameError → Type 0
-DecidesSame file other (Ok verdicts.Same) = (a : List Entry) × (b : List Entry) × Typed file a × Typed other b × Same a b
-DecidesSame file other (Ok (verdicts.Differ place)) = (a : List Entry) × (b : List Entry) × Typed file a × Typed other b × (Same a b → ⊥) × Parting a b place
+DecidesSame file other (Ok verdicts.Same) = (a : List Entry) × (b : List Entry) × Typed file a
+    × Typed other b × Same a b
+DecidesSame file other (Ok (verdicts.Differ place)) = (a : List Entry) × (b : List Entry)
+    × Typed file a × Typed other b × (Same a b → ⊥) × Parting a b place
 DecidesSame file other (Err error) = StopsComparing file other error.error error.which
 
 -- the source gave a capture with these entries, and no byte is left
@@ -46,19 +50,24 @@ pub record GaveFault (old new : Told) (fault : Fault) : Type 0 where
 
 -- two sources, what each told before the call, and what it tells now
 module _ (old new old_other new_other : Told) where
-  -- The fault is shown by what the first gave, or by what the second gave if the first gave a whole capture. No other error says anything.
+  -- The fault is shown by what the first gave, or by what the second gave if the first gave a whole
+  -- capture. No other error says anything.
   abbrev pub StopsGiven : Error → Which → Type 0
   StopsGiven (errors.Refused fault) First = GaveFault old new fault
-  StopsGiven (errors.Refused fault) Second = ((a : List Entry) × GaveAll old new a) × GaveFault old_other new_other fault
+  StopsGiven (errors.Refused fault) Second = ((a : List Entry) × GaveAll old new a)
+      × GaveFault old_other new_other fault
   StopsGiven errors.Read which = Unit {0}
   StopsGiven errors.Write which = Unit {0}
   StopsGiven errors.Memory which = Unit {0}
 
-  -- Both gave whole captures, whose entries are the same up to renaming, or are not and part at the place; or an error came.
+  -- Both gave whole captures, whose entries are the same up to renaming, or are not and part at the
+  -- place; or an error came.
   abbrev pub DecidesGiven : Result Verdict SameError → Type 0
-  DecidesGiven (Ok verdicts.Same) = (a : List Entry) × (b : List Entry) × GaveAll old new a × GaveAll old_other new_other b × Same a b
+  DecidesGiven (Ok verdicts.Same) = (a : List Entry) × (b : List Entry) × GaveAll old new a
+      × GaveAll old_other new_other b × Same a b
   DecidesGiven (Ok (verdicts.Differ place)) =
-      (a : List Entry) × (b : List Entry) × GaveAll old new a × GaveAll old_other new_other b × (Same a b → ⊥) × Parting a b place
+      (a : List Entry) × (b : List Entry) × GaveAll old new a × GaveAll old_other new_other b
+          × (Same a b → ⊥) × Parting a b place
   DecidesGiven (Err error) = StopsGiven error.error error.which
 
 -- a read of this one failed
@@ -71,6 +80,8 @@ abbrev pub has_failed : {X : Type 0} → Which → Result X SameError → Bool
 has_failed which (Ok x) = false
 has_failed which (Err error) = is_read_of which error.which error.error
 
--- A read of this one that failed is the last, and counts once, up to the last value; without one, nothing counts.
+-- A read of this one that failed is the last, and counts once, up to the last value; without one,
+-- nothing counts.
 abbrev pub CountsReadingOf : {X : Type 0} → Which → ℕ → ℕ → Result X SameError → Type 0
-CountsReadingOf which old new result = new ≡ cond (has_failed which result) (min (old + 1) (2 ^ 64 - 1)) old
+CountsReadingOf which old new result =
+    new ≡ cond (has_failed which result) (min (old + 1) (2 ^ 64 - 1)) old

@@ -1,4 +1,5 @@
--- What is written of a capture's entries while it is read. A form says which bytes a list of entries is written as.
+-- What is written of a capture's entries while it is read. A form says which bytes a list of
+-- entries is written as.
 use Rattle.std.specs.Prelude.{◌≡◌, ℕ, ◌<◌, ◌^◌, Option, List, [], ◌∷◌, ◌++◌, length, Result, Ok, Err}
 use Rattle.capture3.specs.Told.{Gave, IsSpent, Told}
 use Rattle.std.specs.Io.KnownBytes.{Appends}
@@ -20,47 +21,70 @@ use Rattle.capture3.specs.Kept.{IsOfKind}
 use Rattle.canon3.specs.SinkWrites.{AppendsFront}
 
 module _ (form : List Entry → List ℕ) where
-  -- What an error says, where the source gave these bytes and tells this, and the sink had the old bytes and has the new ones. The fault is
-  -- the first of all bytes, and the form of the entries that these reach was written; or a read failed, and the form of the entries that the bytes
-  -- given reach before a capture's end; or a write failed or memory ran out, and a front was written of the form of the entries that the bytes
-  -- given reach.
-  abbrev pub IsStoppedBy : Error → (told : Told) (given : List ℕ) (old new : Option (List ℕ)) → Type 0
-  IsStoppedBy (errors.Refused fault) told given old new = (entries : List Entry) × IsMetBy (errors.Refused fault) told given entries × Appends old new (form entries)
-  IsStoppedBy errors.Read told given old new = (entries : List Entry) × IsMetBy errors.Read told given entries × Appends old new (form entries)
-  IsStoppedBy errors.Write told given old new = (entries : List Entry) × Reached given entries × AppendsFront old new (form entries)
-  IsStoppedBy errors.Memory told given old new = (entries : List Entry) × Reached given entries × AppendsFront old new (form entries)
+  -- What an error says, where the source gave these bytes and tells this, and the sink had the old
+  -- bytes and has the new ones. The fault is the first of all bytes, and the form of the entries
+  -- that these reach was written; or a read failed, and the form of the entries that the bytes
+  -- given reach before a capture's end; or a write failed or memory ran out, and a front was
+  -- written of the form of the entries that the bytes given reach.
+  abbrev pub IsStoppedBy : Error → (told : Told) (given : List ℕ) (old new : Option (List ℕ))
+      → Type 0
+  IsStoppedBy (errors.Refused fault) told given old new = (entries : List Entry)
+      × IsMetBy (errors.Refused fault) told given entries × Appends old new (form entries)
+  IsStoppedBy errors.Read told given old new = (entries : List Entry)
+      × IsMetBy errors.Read told given entries × Appends old new (form entries)
+  IsStoppedBy errors.Write told given old new = (entries : List Entry) × Reached given entries
+      × AppendsFront old new (form entries)
+  IsStoppedBy errors.Memory told given old new = (entries : List Entry) × Reached given entries
+      × AppendsFront old new (form entries)
 
-  -- all bytes were a capture's, this is its summary, and the form of its entries was written; or an error came
-  abbrev pub Writes : (told : Told) (given : List ℕ) (old new : Option (List ℕ)) → Result Summary Error → Type 0
-  Writes told given old new (Ok summary) = (entries : List Entry) × IsSpent told × Typed given entries × IsSummary given summary × Appends old new (form entries)
+  -- all bytes were a capture's, this is its summary, and the form of its entries was written; or an
+  -- error came
+  abbrev pub Writes : (told : Told) (given : List ℕ) (old new : Option (List ℕ))
+      → Result Summary Error → Type 0
+  Writes told given old new (Ok summary) = (entries : List Entry) × IsSpent told
+      × Typed given entries × IsSummary given summary × Appends old new (form entries)
   Writes told given old new (Err error) = IsStoppedBy error told given old new
 
   -- the source gave some bytes, and the form of their entries was written
-  abbrev pub WritesGiven : (before told : Told) (old new : Option (List ℕ)) → Result Summary Error → Type 0
-  WritesGiven before told old new result = (given : List ℕ) × Gave before told given × Writes told given old new result
+  abbrev pub WritesGiven : (before told : Told) (old new : Option (List ℕ)) → Result Summary Error
+      → Type 0
+  WritesGiven before told old new result = (given : List ℕ) × Gave before told given
+      × Writes told given old new result
 
-  -- What is written of all bytes of a capture, of which the source gave a prefix. They are well formed, this is their summary, and the form of
-  -- their entries was written; or this is their first fault, and the form of the entries that they reach was written. What was written before
+  -- What is written of all bytes of a capture, of which the source gave a prefix. They are well
+  -- formed, this is their summary, and the form of their entries was written; or this is their
+  -- first fault, and the form of the entries that they reach was written. What was written before
   -- another error, `Writes` says of the bytes given.
-  abbrev pub WritesAll : (bytes : List ℕ) (old new : Option (List ℕ)) → Result Summary Error → Type 0
-  WritesAll bytes old new (Ok summary) = (entries : List Entry) × Typed bytes entries × IsSummary bytes summary × Appends old new (form entries)
-  WritesAll bytes old new (Err (errors.Refused fault)) = (entries : List Entry) × FirstFault bytes fault × Reached bytes entries × Appends old new (form entries)
+  abbrev pub WritesAll : (bytes : List ℕ) (old new : Option (List ℕ)) → Result Summary Error
+      → Type 0
+  WritesAll bytes old new (Ok summary) = (entries : List Entry) × Typed bytes entries
+      × IsSummary bytes summary × Appends old new (form entries)
+  WritesAll bytes old new (Err (errors.Refused fault)) = (entries : List Entry)
+      × FirstFault bytes fault × Reached bytes entries × Appends old new (form entries)
   WritesAll bytes old new (Err _) = Unit {0}
 
 -- the form of the first entries is a prefix of the form of all
 abbrev pub KeepsPrefixes : (List Entry → List ℕ) → Type 0
-KeepsPrefixes form = (entries more : List Entry) → AreFirst (entries ++ more) → (rest : List ℕ) × (form (entries ++ more) ≡ form entries ++ rest)
+KeepsPrefixes form = (entries more : List Entry) → AreFirst (entries ++ more)
+    → (rest : List ℕ) × (form (entries ++ more) ≡ form entries ++ rest)
 
 -- a writer of a form, the items that stand for the entries that it wrote, and whether it can go on
-module _ {T : Type 0} (form : List Entry → List ℕ) (before : List Entry → List Item) (stands : T → List Item → Type 0) (going : T → Type 0) where
+module _ {T : Type 0} (form : List Entry → List ℕ) (before : List Entry → List Item)
+    (stands : T → List Item → Type 0) (going : T → Type 0) where
   -- the writer stands for these entries, and their form was written; or a front of it was
-  abbrev pub HasWrittenOrCut : {X : Type 0} → T → (old new : Option (List ℕ)) → List Entry → Result X Error → Type 0
-  HasWrittenOrCut writer old new entries (Ok x) = going writer × stands writer (before entries) × Appends old new (form entries)
+  abbrev pub HasWrittenOrCut : {X : Type 0} → T → (old new : Option (List ℕ)) → List Entry
+      → Result X Error → Type 0
+  HasWrittenOrCut writer old new entries (Ok x) = going writer × stands writer (before entries)
+      × Appends old new (form entries)
   HasWrittenOrCut writer old new entries (Err error) = AppendsFront old new (form entries)
 
-  -- One entry more of a well-formed capture is written, or cut, whose items the writer was told after those of the entries before. The sink had
-  -- some bytes, and has others now.
-  abbrev pub WritesOne : (was now : T) → Passed → Kind → (between new : Option (List ℕ)) → {X : Type 0} → Result X Error → Type 0
+  -- One entry more of a well-formed capture is written, or cut, whose items the writer was told
+  -- after those of the entries before. The sink had some bytes, and has others now.
+  abbrev pub WritesOne : (was now : T) → Passed → Kind → (between new : Option (List ℕ))
+      → {X : Type 0} → Result X Error → Type 0
   WritesOne was now passed kind between new result =
-      (old : Option (List ℕ)) (entries : List Entry) (one : Entry) → IsOfKind kind one → AreFirst (entries ++ one ∷ []) → length (entries ++ one ∷ []) < 2 ^ 32 → ArePassed passed entries
-      → stands was (before entries ++ items_of one) → Appends old between (form entries) → HasWrittenOrCut now old new (entries ++ one ∷ []) result
+      (old : Option (List ℕ)) (entries : List Entry) (one : Entry) → IsOfKind kind one
+          → AreFirst (entries ++ one ∷ []) → length (entries ++ one ∷ []) < 2 ^ 32
+          → ArePassed passed entries
+      → stands was (before entries ++ items_of one) → Appends old between (form entries)
+      → HasWrittenOrCut now old new (entries ++ one ∷ []) result

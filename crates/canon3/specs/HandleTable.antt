@@ -12,7 +12,8 @@ same_handle a b = bytes_eq (handle_bytes a) (handle_bytes b)
 
 -- the table holds the distinct ones of the handles with these bytes
 abbrev pub HoldsHandles : List Handle → List (List ℕ) → Type 0
-HoldsHandles table hs = (given : List Handle) × HoldsDistinct same_handle table given × (map handle_bytes given ≡ hs)
+HoldsHandles table hs = (given : List Handle) × HoldsDistinct same_handle table given
+    × (map handle_bytes given ≡ hs)
 
 -- the same of the handles of items that are not empty
 abbrev pub Gathers : List Handle → List Item → Type 0

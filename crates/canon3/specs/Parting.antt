@@ -39,8 +39,10 @@ next_connection before = places.Record (1 + connections before) Client 0 0
 
 -- where two entries differ, or where one list has none, after these entries
 pub data IsPlaceOf (before : List Entry) : Option Entry → Option Entry → Place → Type 0 where
-  first_message : {e f : Option Entry} (side : Side) → IsMessageOf side e → IsPlaceOf before e f (next_record side before)
-  second_message : {e f : Option Entry} (side : Side) → IsMessageOf side f → IsPlaceOf before e f (next_record side before)
+  first_message : {e f : Option Entry} (side : Side) → IsMessageOf side e
+      → IsPlaceOf before e f (next_record side before)
+  second_message : {e f : Option Entry} (side : Side) → IsMessageOf side f
+      → IsPlaceOf before e f (next_record side before)
   first_ends : IsPlaceOf before (Some End) (Some Begin) (next_connection before)
   second_ends : IsPlaceOf before (Some Begin) (Some End) (next_connection before)
 
@@ -51,4 +53,5 @@ pub record PartsAt (a b : List Entry) (i : ℕ) : Type 0 where
 
 -- the place of the first entry with which two captures are not the same
 abbrev pub Parting : List Entry → List Entry → Place → Type 0
-Parting a b place = (i : ℕ) × PartsAt a b i × IsPlaceOf (take i a) (slice_get a i) (slice_get b i) place
+Parting a b place = (i : ℕ) × PartsAt a b i
+    × IsPlaceOf (take i a) (slice_get a i) (slice_get b i) place

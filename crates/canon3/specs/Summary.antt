@@ -22,7 +22,8 @@ abbrev pub is_reply : Entry → Bool
 is_reply (Reply id items) = true
 is_reply _ = false
 
--- The bytes are a well-formed capture, and have so many connections, calls, replies and distinct handles that are not empty.
+-- The bytes are a well-formed capture, and have so many connections, calls, replies and distinct
+-- handles that are not empty.
 pub record IsSummary (bytes : List ℕ) (summary : Summary) : Type 0 where
   pub entries : List Entry
   pub typed : Typed bytes entries
@@ -31,17 +32,19 @@ pub record IsSummary (bytes : List ℕ) (summary : Summary) : Type 0 where
   pub replies : summary.replies ≡ count_by is_reply entries
   pub handles : summary.handles ≡ length (distinct bytes_eq (handles entries))
 
--- What is concluded of the bytes that the source gave, where it tells this: all were a capture's, and this is its summary; or they met the
--- error, after just these entries.
+-- What is concluded of the bytes that the source gave, where it tells this: all were a capture's,
+-- and this is its summary; or they met the error, after just these entries.
 abbrev pub Concludes : (told : Told) (given : List ℕ) → Result Summary Error → Type 0
 Concludes told given (Ok summary) = IsSpent told × IsSummary given summary
 Concludes told given (Err error) = (entries : List Entry) × IsMetBy error told given entries
 
 -- the source gave some bytes, and this is concluded of them
 abbrev pub ConcludesGiven : (before told : Told) → Result Summary Error → Type 0
-ConcludesGiven before told result = (given : List ℕ) × Gave before told given × Concludes told given result
+ConcludesGiven before told result = (given : List ℕ) × Gave before told given
+    × Concludes told given result
 
--- What is concluded of all bytes of a capture, of which the source gave a prefix: they are well formed, and this is their summary; or this is their
--- first fault. No other error says anything of them.
+-- What is concluded of all bytes of a capture, of which the source gave a prefix: they are well
+-- formed, and this is their summary; or this is their first fault. No other error says anything of
+-- them.
 abbrev pub ConcludesAll : List ℕ → Result Summary Error → Type 0
 ConcludesAll bytes result = IfOk result (IsSummary bytes) × OnRefused result (FirstFault bytes)

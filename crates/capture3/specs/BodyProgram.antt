@@ -28,10 +28,14 @@ agrees None id = true
 agrees (Some other) id = is_same other id
 
 abbrev pub agreed : List (List Item) → List Item → Result (List Item) Stop
-agreed before items = if agrees (procedure_of before (xid_in items)) (procedure_in items) then Ok items else refused 0 XidConflict
+agreed before items =
+    if agrees (procedure_of before (xid_in items)) (procedure_in items) then Ok items else refused 0
+    XidConflict
 
 abbrev pub call_after : List (List Item) → List ℕ → List Item × ℕ → Result (List Item) Stop
-call_after before body start = if word_in start.0 1 == 0 then (read_whole (call_layout arguments_of) body >>= agreed before) else refused 4 WrongSide
+call_after before body start =
+    if word_in start.0 1 == 0 then (read_whole (call_layout arguments_of) body >>= agreed before)
+    else refused 4 WrongSide
 
 -- a body of the client stream, after the calls before it
 unfoldable pub judge_call : List (List Item) → List ℕ → Result (List Item) Stop
@@ -39,10 +43,14 @@ judge_call before body = reading message_start body 0 >>= call_after before body
 
 abbrev pub answering : List ℕ → Option ProcId → Result ReplyItems Stop
 answering body None = refused 0 NoCall
-answering body (Some id) = read_whole (reply_layout (results_of id)) body >>= λ items. Ok (record { id = id; items = items })
+answering body (Some id) =
+    read_whole (reply_layout (results_of id)) body >>= λ items. Ok (record { id = id; items =
+    items })
 
 abbrev pub reply_after : List (List Item) → List ℕ → List Item × ℕ → Result ReplyItems Stop
-reply_after calls body start = if word_in start.0 1 == 0 then refused 4 WrongSide else answering body (procedure_of calls (word_in start.0 0))
+reply_after calls body start =
+    if word_in start.0 1 == 0 then refused 4 WrongSide else answering body
+    (procedure_of calls (word_in start.0 0))
 
 -- a body of the server stream, after all calls of its connection
 unfoldable pub judge_reply : List (List Item) → List ℕ → Result ReplyItems Stop

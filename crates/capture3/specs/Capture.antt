@@ -4,7 +4,8 @@ use Rattle.record_mark.specs.Word.{IsWord, Joins}
 use Rattle.capture3.specs.Chunks.{max_bytes, IsStream}
 use Rattle.capture3.specs.SidedChunks.{Streams, size, AreMixed}
 
--- of a file: 1, with the streams of a connection one after the other, or 2, with the chunks of both in any order
+-- of a file: 1, with the streams of a connection one after the other, or 2, with the chunks of both
+-- in any order
 pub data Version : Type 0 where
   One : Version
   Two : Version

@@ -28,7 +28,8 @@ pub record IsStream (bytes stream : List ℕ) : Type 0 where
   pub chunks : AreChunks front stream
   pub closes : IsWord last 0
 
--- whole chunks within the limit, after so many stream bytes before, and a part of a length word that is not whole
+-- whole chunks within the limit, after so many stream bytes before, and a part of a length word
+-- that is not whole
 pub record BetweenChunks (before : ℕ) (bytes stream : List ℕ) : Type 0 where
   pub front : List ℕ
   pub part : List ℕ
@@ -52,4 +53,5 @@ pub record WithinChunk (before : ℕ) (bytes stream : List ℕ) : Type 0 where
 
 -- a stream that is not whole, and its bytes so far
 abbrev pub BeginsStream : ℕ → List ℕ → List ℕ → Type 0
-BeginsStream before bytes stream = BetweenChunks before bytes stream ⊎ WithinChunk before bytes stream
+BeginsStream before bytes stream = BetweenChunks before bytes stream
+    ⊎ WithinChunk before bytes stream

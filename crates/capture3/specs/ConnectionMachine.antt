@@ -34,27 +34,36 @@ turning (SideRefuses fault) = Ends (Refuses (refusal fault))
 
 -- the server side is whole
 abbrev pub ending : List (List Item) → SideEnd ReplyItems → Next Opening Closing
-ending calls (SideCloses at total replies) = Ends (Closes at total (connection_entries calls replies))
+ending calls (SideCloses at total replies) =
+    Ends (Closes at total (connection_entries calls replies))
 ending calls (SideRefuses fault) = Ends (Refuses (refusal fault))
 
 -- in version 2: the server stream has been judged, after these calls
 abbrev pub server_said : ℕ → ℕ → ℕ → List (List Item) → StreamEnd ReplyItems → Next Opening Closing
-server_said number at total calls (Held replies) = Ends (Closes at total (connection_entries calls replies))
-server_said number at total calls (Faulty replies fault) = Ends (Refuses (server_refusal number calls replies fault))
+server_said number at total calls (Held replies) =
+    Ends (Closes at total (connection_entries calls replies))
+server_said number at total calls (Faulty replies fault) =
+    Ends (Refuses (server_refusal number calls replies fault))
 
 -- the client stream has been judged
 abbrev pub client_said : ℕ → ℕ → ℕ → List ℕ → StreamEnd (List Item) → Next Opening Closing
-client_said number at total server (Held calls) = server_said number at total calls (stream_end (judge_replies calls) server)
-client_said number at total server (Faulty calls fault) = Ends (Refuses (client_refusal number calls fault))
+client_said number at total server (Held calls) =
+    server_said number at total calls (stream_end (judge_replies calls) server)
+client_said number at total server (Faulty calls fault) =
+    Ends (Refuses (client_refusal number calls fault))
 
 -- the side word 0 has come, or a fault of the chunks
 abbrev pub conversing : ℕ → MixedEnd → Next Opening Closing
-conversing number (MixedCloses at total streams) = client_said number at total streams.server (stream_end judge_call streams.client)
+conversing number (MixedCloses at total streams) =
+    client_said number at total streams.server (stream_end judge_call streams.client)
 conversing number (MixedRefuses fault) = Ends (Refuses (refusal fault))
 
 abbrev pub opening_next : ℕ → Opening → ℕ → Next Opening Closing
-opening_next number (InClient s) byte = within InClient turning (side_next judge_call (place_at number Client) s byte)
-opening_next number (InServer calls s) byte = within (InServer calls) (ending calls) (side_next (judge_replies calls) (place_at number Server) s byte)
+opening_next number (InClient s) byte =
+    within InClient turning (side_next judge_call (place_at number Client) s byte)
+opening_next number (InServer calls s) byte =
+    within (InServer calls) (ending calls)
+    (side_next (judge_replies calls) (place_at number Server) s byte)
 opening_next number (InMixed s) byte = within InMixed (conversing number) (mixed_next s byte)
 
 abbrev pub opened : Version → ℕ → ℕ → Opening
@@ -64,5 +73,6 @@ opened Two start before = InMixed (mixing_from start before)
 -- the entries of a connection that are whole
 abbrev pub opening_entries : Opening → List Entry
 opening_entries (InClient s) = Begin ∷ map Call s.reading.messages
-opening_entries (InServer calls s) = (Begin ∷ map Call calls) ++ (Turn ∷ map reply_entry s.reading.messages)
+opening_entries (InServer calls s) =
+    (Begin ∷ map Call calls) ++ (Turn ∷ map reply_entry s.reading.messages)
 opening_entries (InMixed s) = Begin ∷ []

@@ -1,4 +1,5 @@
--- A reader of entries: what it answers for good, and what an error says of what it read and handed out.
+-- A reader of entries: what it answers for good, and what an error says of what it read and handed
+-- out.
 use Rattle.std.specs.Prelude.{◌≡◌, ◌⊎◌, ℕ, ◌+◌, ◌-◌, ◌≤◌, ◌^◌, min, Option, Some, None, Result, Err, List, [], ◌∷◌, ◌++◌, length, vec_len}
 use Rattle.std.specs.Borrow.{GName}
 use Rattle.capture3.specs.Told.{Told, IsSpent}
@@ -18,7 +19,8 @@ use Rattle.capture3.specs.Laws.{begins, most_bytes, most_entries}
 use Rattle.capture3.specs.Reached.{AreFirstReached, Reached}
 use Rattle.capture3.specs.Typed.{Typed, IsWellFormed}
 
--- A read that failed is the last, and counts once, up to the last value; without one, nothing counts.
+-- A read that failed is the last, and counts once, up to the last value; without one, nothing
+-- counts.
 abbrev pub CountsReading : {X : Type 0} → ℕ → ℕ → Result X Error → Type 0
 CountsReading old new (Err errors.Read) = new ≡ min (old + 1) (2 ^ 64 - 1)
 CountsReading old new _ = new ≡ old
@@ -30,16 +32,20 @@ OnRefused _ Says = Unit {0}
 
 -- all entries that the bytes reach, without the capture's end
 abbrev pub AreAllBeforeEnd : List ℕ → List Entry → Type 0
-AreAllBeforeEnd bytes entries = Typed bytes (entries ++ End ∷ []) ⊎ ((IsWellFormed bytes → ⊥) × Reached bytes entries)
+AreAllBeforeEnd bytes entries = Typed bytes (entries ++ End ∷ [])
+    ⊎ ((IsWellFormed bytes → ⊥) × Reached bytes entries)
 
--- After the bytes given, where the source tells this: whatever follows them, the fault is the first, and these entries are reached before it; or
--- nothing follows them, and the same holds of them alone.
+-- After the bytes given, where the source tells this: whatever follows them, the fault is the
+-- first, and these entries are reached before it; or nothing follows them, and the same holds of
+-- them alone.
 abbrev pub IsShownBy : (told : Told) (given : List ℕ) (handed : List Entry) → Fault → Type 0
 IsShownBy told given handed fault =
-    ((rest : List ℕ) → FirstFault (given ++ rest) fault × Reached (given ++ rest) handed) ⊎ (IsSpent told × FirstFault given fault × Reached given handed)
+    ((rest : List ℕ) → FirstFault (given ++ rest) fault × Reached (given ++ rest) handed)
+        ⊎ (IsSpent told × FirstFault given fault × Reached given handed)
 
--- What an error says, after the bytes given and the entries handed out, where the source tells this: the bytes given show the fault, and just these
--- entries are reached; or a read failed, and what the bytes given reach was handed out; or memory ran out.
+-- What an error says, after the bytes given and the entries handed out, where the source tells
+-- this: the bytes given show the fault, and just these entries are reached; or a read failed, and
+-- what the bytes given reach was handed out; or memory ran out.
 abbrev pub IsMetBy : Error → Told → List ℕ → List Entry → Type 0
 IsMetBy (errors.Refused fault) told given handed = IsShownBy told given handed fault
 IsMetBy errors.Read told given handed = AreAllBeforeEnd given handed
@@ -65,16 +71,20 @@ module _ {R S H : Type 0} {builds : BuildHasher.Ghosts S H} {hashes : Hasher.Gho
   loan_of entries = entries.source.ghost_name
 
   -- the failed reads of the source, between two states of its reader
-  abbrev pub CountsReads : {X : Type 0} → (R → ℕ) → (old new : Entries R S H builds hashes) → Result X Error → Type 0
-  CountsReads failures old new result = CountsReading (failures (source_of old)) (failures (source_of new)) result
+  abbrev pub CountsReads : {X : Type 0} → (R → ℕ) → (old new : Entries R S H builds hashes)
+      → Result X Error → Type 0
+  CountsReads failures old new result =
+      CountsReading (failures (source_of old)) (failures (source_of new)) result
 
   -- how many bytes a read asks for
   abbrev pub block_size : Entries R S H builds hashes → ℕ
   block_size entries = vec_len entries.block
 
-  -- The entries that were handed out and the connections that they begin are at most as many as a capture has. The bytes given are at most one
-  -- block more than the longest capture has, also if the source never ends.
-  pub record KeepsLimits (entries : Entries R S H builds hashes) (given : List ℕ) (handed : List Entry) : Type 0 where
+  -- The entries that were handed out and the connections that they begin are at most as many as a
+  -- capture has. The bytes given are at most one block more than the longest capture has, also if
+  -- the source never ends.
+  pub record KeepsLimits (entries : Entries R S H builds hashes) (given : List ℕ)
+      (handed : List Entry) : Type 0 where
     pub few : length handed ≤ most_entries
     pub connections : begins handed ≤ max_connections
     pub most : length given ≤ most_bytes Two + block_size entries

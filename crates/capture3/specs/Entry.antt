@@ -3,8 +3,9 @@ use Rattle.std.specs.Prelude.{List, []}
 use Rattle.rpc_head.specs.declared.call.ProcId.{ProcId}
 use Rattle.xdr3.specs.Item.{Item}
 
--- For each connection its begin, its calls, a turn, its replies and its close, and then the capture's end. A message is the
--- list of its items (RFC 5531, section 9), which begins with its xid; a reply has the procedure of its call.
+-- For each connection its begin, its calls, a turn, its replies and its close, and then the
+-- capture's end. A message is the list of its items (RFC 5531, section 9), which begins with its
+-- xid; a reply has the procedure of its call.
 pub data Entry : Type 0 where
   Begin : Entry
   Call : (items : List Item) → Entry

@@ -19,7 +19,8 @@ word_2 = 0 ∷ 0 ∷ 0 ∷ 2 ∷ []
 
 -- a call of NFSPROC3_NULL (RFC 1813, section 3.3.0) with the xid deadbeef, AUTH_NONE twice
 abbrev pub null_call : List ℕ
-null_call = (222 ∷ 173 ∷ 190 ∷ 239 ∷ []) ++ word_0 ++ word_2 ++ (0 ∷ 1 ∷ 134 ∷ 163 ∷ []) ++ (0 ∷ 0 ∷ 0 ∷ 3 ∷ []) ++ word_0 ++ word_0 ++ word_0 ++ word_0 ++ word_0
+null_call = (222 ∷ 173 ∷ 190 ∷ 239 ∷ []) ++ word_0 ++ word_2 ++ (0 ∷ 1 ∷ 134 ∷ 163 ∷ [])
+    ++ (0 ∷ 0 ∷ 0 ∷ 3 ∷ []) ++ word_0 ++ word_0 ++ word_0 ++ word_0 ++ word_0
 
 -- its accepted success
 abbrev pub null_reply : List ℕ
@@ -28,25 +29,33 @@ null_reply = (222 ∷ 173 ∷ 190 ∷ 239 ∷ []) ++ word_1 ++ word_0 ++ word_0 
 -- the call and the reply, in one chunk and one fragment each
 abbrev pub null_capture : List ℕ
 null_capture =
-    magic_1 ++ word_1 ++ (0 ∷ 0 ∷ 0 ∷ 44 ∷ []) ++ (128 ∷ 0 ∷ 0 ∷ 40 ∷ []) ++ null_call ++ word_0 ++ (0 ∷ 0 ∷ 0 ∷ 28 ∷ []) ++ (128 ∷ 0 ∷ 0 ∷ 24 ∷ []) ++ null_reply ++ word_0 ++ word_0
+    magic_1 ++ word_1 ++ (0 ∷ 0 ∷ 0 ∷ 44 ∷ []) ++ (128 ∷ 0 ∷ 0 ∷ 40 ∷ []) ++ null_call ++ word_0
+        ++ (0 ∷ 0 ∷ 0 ∷ 28 ∷ []) ++ (128 ∷ 0 ∷ 0 ∷ 24 ∷ []) ++ null_reply ++ word_0 ++ word_0
 
 abbrev pub null_procedure : ProcId
 null_procedure = record { prog = 100003; vers = 3; proc_no = 0 }
 
 abbrev pub null_call_items : List Item
 null_call_items =
-    Word head_names.xid 3735928559 ∷ Word head_names.mtype 0 ∷ Word head_names.rpcvers 2 ∷ Word head_names.prog 100003 ∷ Word head_names.vers 3 ∷ Word head_names.proc 0 ∷ Word head_names.cred_flavor 0 ∷ Opaque Var head_names.cred_body []
+    Word head_names.xid 3735928559 ∷ Word head_names.mtype 0 ∷ Word head_names.rpcvers 2
+        ∷ Word head_names.prog 100003 ∷ Word head_names.vers 3 ∷ Word head_names.proc 0
+        ∷ Word head_names.cred_flavor 0 ∷ Opaque Var head_names.cred_body []
     ∷ Word head_names.verf_flavor 0 ∷ Opaque Var head_names.verf_body [] ∷ []
 
 abbrev pub null_reply_items : List Item
-null_reply_items = Word head_names.xid 3735928559 ∷ Word head_names.mtype 1 ∷ Word head_names.reply_stat 0 ∷ Word head_names.verf_flavor 0 ∷ Opaque Var head_names.verf_body [] ∷ Word head_names.accept_stat 0 ∷ []
+null_reply_items =
+    Word head_names.xid 3735928559 ∷ Word head_names.mtype 1 ∷ Word head_names.reply_stat 0
+    ∷ Word head_names.verf_flavor 0 ∷ Opaque Var head_names.verf_body []
+    ∷ Word head_names.accept_stat 0 ∷ []
 
 abbrev pub null_entries : List Entry
-null_entries = Begin ∷ Call null_call_items ∷ Turn ∷ Reply null_procedure null_reply_items ∷ Close ∷ End ∷ []
+null_entries =
+    Begin ∷ Call null_call_items ∷ Turn ∷ Reply null_procedure null_reply_items ∷ Close ∷ End ∷ []
 
 -- a record whose mtype is 2, and the same without its last byte
 abbrev pub bad_mtype_cut : List ℕ
-bad_mtype_cut = magic_1 ++ word_1 ++ (0 ∷ 0 ∷ 0 ∷ 12 ∷ []) ++ (128 ∷ 0 ∷ 0 ∷ 8 ∷ []) ++ word_1 ++ 0 ∷ 0 ∷ 0 ∷ []
+bad_mtype_cut =
+    magic_1 ++ word_1 ++ (0 ∷ 0 ∷ 0 ∷ 12 ∷ []) ++ (128 ∷ 0 ∷ 0 ∷ 8 ∷ []) ++ word_1 ++ 0 ∷ 0 ∷ 0 ∷ []
 
 abbrev pub bad_mtype : List ℕ
 bad_mtype = bad_mtype_cut ++ 2 ∷ []
@@ -73,13 +82,18 @@ null_mixed = magic_2 ++ word_1 ++ client_chunk ++ server_chunk ++ word_0 ++ word
 abbrev pub null_mixed_swapped : List ℕ
 null_mixed_swapped = magic_2 ++ word_1 ++ server_chunk ++ client_chunk ++ word_0 ++ word_0
 
--- a client record whose mtype is 2 up to all but the last byte of the side word 0, and with that byte
+-- a client record whose mtype is 2 up to all but the last byte of the side word 0, and with that
+-- byte
 abbrev pub bad_mtype_mixed_cut : List ℕ
-bad_mtype_mixed_cut = magic_2 ++ word_1 ++ word_1 ++ (0 ∷ 0 ∷ 0 ∷ 12 ∷ []) ++ (128 ∷ 0 ∷ 0 ∷ 8 ∷ []) ++ word_1 ++ word_2 ++ 0 ∷ 0 ∷ 0 ∷ []
+bad_mtype_mixed_cut =
+    magic_2 ++ word_1 ++ word_1 ++ (0 ∷ 0 ∷ 0 ∷ 12 ∷ []) ++ (128 ∷ 0 ∷ 0 ∷ 8 ∷ []) ++ word_1
+    ++ word_2 ++ 0 ∷ 0 ∷ 0 ∷ []
 
 abbrev pub bad_mtype_mixed : List ℕ
 bad_mtype_mixed = bad_mtype_mixed_cut ++ 0 ∷ []
 
 -- the call in both streams
 abbrev pub call_answered_by_call : List ℕ
-call_answered_by_call = magic_2 ++ word_1 ++ client_chunk ++ word_2 ++ (0 ∷ 0 ∷ 0 ∷ 44 ∷ []) ++ (128 ∷ 0 ∷ 0 ∷ 40 ∷ []) ++ null_call ++ word_0
+call_answered_by_call =
+    magic_2 ++ word_1 ++ client_chunk ++ word_2 ++ (0 ∷ 0 ∷ 0 ∷ 44 ∷ []) ++ (128 ∷ 0 ∷ 0 ∷ 40 ∷ [])
+    ++ null_call ++ word_0

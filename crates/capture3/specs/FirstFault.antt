@@ -9,7 +9,8 @@ use Rattle.capture3.specs.Connections.{ShownFault, refusal, ConnectionShows}
 use Rattle.capture3.specs.Sides.{file_fault}
 use Rattle.capture3.specs.Typed.{IsWellFormed}
 
--- a byte among the first 8, after the front of a magic, which differs from the next byte of each magic with that front
+-- a byte among the first 8, after the front of a magic, which differs from the next byte of each
+-- magic with that front
 pub record DiffersFromMagic (bytes : List ℕ) (fault : Fault) : Type 0 where
   pub front : List ℕ
   pub byte : ℕ
@@ -18,7 +19,8 @@ pub record DiffersFromMagic (bytes : List ℕ) (fault : Fault) : Type 0 where
   pub due : ℕ
   pub more : List ℕ
   pub begins : magic version ≡ front ++ due ∷ more
-  pub differs : (other : Version) (expected : ℕ) (rest : List ℕ) → magic other ≡ front ++ expected ∷ rest → byte ≢ expected
+  pub differs : (other : Version) (expected : ℕ) (rest : List ℕ)
+      → magic other ≡ front ++ expected ∷ rest → byte ≢ expected
   pub is : fault ≡ file_fault (length front) BadMagic
 
 -- the magic, whole connections, a connection word, and what comes after it
@@ -40,26 +42,35 @@ pub data Rule (bytes : List ℕ) (shown : ShownFault) : Type 0 where
   -- a byte among the first 8 differs from that of both magics
   MagicDiffers : DiffersFromMagic bytes shown.fault → shown ≡ refusal shown.fault → Rule bytes shown
   -- a whole connection word is not 0 or 1
-  MarkIsBad : (b : AfterConnections bytes) → b.rest ≡ [] → 1 < b.mark → shown ≡ refusal (file_fault (length b.front) BadMark) → Rule bytes shown
+  MarkIsBad : (b : AfterConnections bytes) → b.rest ≡ [] → 1 < b.mark
+      → shown ≡ refusal (file_fault (length b.front) BadMark) → Rule bytes shown
   -- it is 1 after 65,535 connections
-  ConnectionIsTooMany : (b : AfterConnections bytes) → b.rest ≡ [] → b.mark ≡ 1 → length b.connections ≡ max_connections → shown ≡ refusal (file_fault (length b.front) TooManyConnections) → Rule bytes shown
+  ConnectionIsTooMany : (b : AfterConnections bytes) → b.rest ≡ [] → b.mark ≡ 1
+      → length b.connections ≡ max_connections
+      → shown ≡ refusal (file_fault (length b.front) TooManyConnections) → Rule bytes shown
   -- in a connection
   WithinConnection : (b : AfterConnections bytes) → b.mark ≡ 1
-      → ConnectionShows b.version (record { number = suc (length b.connections); start = length b.front + 4; before = total_size b.connections }) b.rest shown → Rule bytes shown
+      → ConnectionShows b.version (record { number = suc (length b.connections); start =
+      length b.front + 4; before = total_size b.connections }) b.rest shown → Rule bytes shown
   -- a byte after the last word 0
-  ByteAfterEnd : (b : AfterConnections bytes) → b.mark ≡ 0 → length b.rest ≡ 1 → shown ≡ refusal (file_fault (length b.front + 4) AfterEnd) → Rule bytes shown
+  ByteAfterEnd : (b : AfterConnections bytes) → b.mark ≡ 0 → length b.rest ≡ 1
+      → shown ≡ refusal (file_fault (length b.front + 4) AfterEnd) → Rule bytes shown
 
 -- A rule holds of the bytes, and none of any shorter prefix.
 pub record Shows (bytes : List ℕ) (shown : ShownFault) : Type 0 where
   pub rule : Rule bytes shown
-  pub first : (front more : List ℕ) (byte : ℕ) (other : ShownFault) → bytes ≡ front ++ byte ∷ more → Rule front other → ⊥
+  pub first : (front more : List ℕ) (byte : ℕ) (other : ShownFault) → bytes ≡ front ++ byte ∷ more
+      → Rule front other → ⊥
 
 -- no prefix shows a fault
 abbrev pub IsClean : List ℕ → Type 0
-IsClean bytes = (front rest : List ℕ) (shown : ShownFault) → bytes ≡ front ++ rest → Shows front shown → ⊥
+IsClean bytes = (front rest : List ℕ) (shown : ShownFault) → bytes ≡ front ++ rest
+    → Shows front shown → ⊥
 
--- A prefix of the file shows the fault; or the file is clean and not well formed, and is cut at its length.
+-- A prefix of the file shows the fault; or the file is clean and not well formed, and is cut at its
+-- length.
 abbrev pub FirstFault : List ℕ → Fault → Type 0
 FirstFault file fault =
-    ((front : List ℕ) × (rest : List ℕ) × (shown : ShownFault) × (file ≡ front ++ rest) × Shows front shown × (fault ≡ shown.fault))
+    ((front : List ℕ) × (rest : List ℕ) × (shown : ShownFault) × (file ≡ front ++ rest)
+        × Shows front shown × (fault ≡ shown.fault))
     ⊎ (IsClean file × (IsWellFormed file → ⊥) × (fault ≡ file_fault (length file) CaptureCut))

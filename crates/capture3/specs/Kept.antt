@@ -14,7 +14,8 @@ use Rattle.capture3.specs.Entry.{Entry, Begin, Call, Turn, Reply, Close, End}
 -- An entry is of this kind, and for this procedure where it is a message.
 abbrev pub IsOfKind : Kind → Entry → Type 0
 IsOfKind kinds.Begin entry = entry ≡ Begin
-IsOfKind (kinds.Call id) entry = (items : List Item) × (id ≡ procedure_in items) × (entry ≡ Call items)
+IsOfKind (kinds.Call id) entry = (items : List Item) × (id ≡ procedure_in items)
+    × (entry ≡ Call items)
 IsOfKind kinds.Turn entry = entry ≡ Turn
 IsOfKind (kinds.Reply id) entry = (items : List Item) × (entry ≡ Reply id items)
 IsOfKind kinds.Close entry = entry ≡ Close
@@ -36,32 +37,41 @@ kind_lent (Some entry) = Some (kind_of entry)
 -- A lent message's body spells the entry's items, for its procedure (RFC 5531, section 9).
 abbrev pub IsLent : EntryRef → Entry → Type 0
 IsLent lent.Begin entry = entry ≡ Begin
-IsLent (lent.Call call) entry = (items : List Item) × IsCall call.body.now items × (call.id ≡ procedure_in items) × (entry ≡ Call items)
+IsLent (lent.Call call) entry = (items : List Item) × IsCall call.body.now items
+    × (call.id ≡ procedure_in items) × (entry ≡ Call items)
 IsLent lent.Turn entry = entry ≡ Turn
-IsLent (lent.Reply reply) entry = (items : List Item) × IsReply reply.body.now (record { id = reply.id; items = items }) × (entry ≡ Reply reply.id items)
+IsLent (lent.Reply reply) entry = (items : List Item)
+    × IsReply reply.body.now (record { id = reply.id; items = items })
+    × (entry ≡ Reply reply.id items)
 IsLent lent.Close entry = entry ≡ Close
 IsLent lent.End entry = entry ≡ End
 
 -- A kept message's body spells the entry's items, for its procedure (RFC 5531, section 9).
 abbrev pub IsKept : kept.Entry → Entry → Type 0
 IsKept variants.Begin entry = entry ≡ Begin
-IsKept (variants.Call call) entry = (items : List Item) × IsCall call.body.items items × (call.id ≡ procedure_in items) × (entry ≡ Call items)
+IsKept (variants.Call call) entry = (items : List Item) × IsCall call.body.items items
+    × (call.id ≡ procedure_in items) × (entry ≡ Call items)
 IsKept variants.Turn entry = entry ≡ Turn
-IsKept (variants.Reply reply) entry = (items : List Item) × IsReply reply.body.items (record { id = reply.id; items = items }) × (entry ≡ Reply reply.id items)
+IsKept (variants.Reply reply) entry = (items : List Item)
+    × IsReply reply.body.items (record { id = reply.id; items = items })
+    × (entry ≡ Reply reply.id items)
 IsKept variants.Close entry = entry ≡ Close
 IsKept variants.End entry = entry ≡ End
 
 -- the same one by one
 abbrev pub AreKept : List kept.Entry → List Entry → Type 0
 AreKept [] entries = entries ≡ []
-AreKept (one ∷ more) entries = (entry : Entry) × (rest : List Entry) × (entries ≡ entry ∷ rest) × IsKept one entry × AreKept more rest
+AreKept (one ∷ more) entries = (entry : Entry) × (rest : List Entry) × (entries ≡ entry ∷ rest)
+    × IsKept one entry × AreKept more rest
 
 -- a kept entry has the kind of a lent one, and of a message the same procedure and the same bytes
 abbrev pub IsCopy : EntryRef → kept.Entry → Type 0
 IsCopy lent.Begin variants.Begin = Unit {0}
-IsCopy (lent.Call call) (variants.Call copy) = (copy.id ≡ call.id) × (copy.body.items ≡ call.body.now)
+IsCopy (lent.Call call) (variants.Call copy) = (copy.id ≡ call.id)
+    × (copy.body.items ≡ call.body.now)
 IsCopy lent.Turn variants.Turn = Unit {0}
-IsCopy (lent.Reply reply) (variants.Reply copy) = (copy.id ≡ reply.id) × (copy.body.items ≡ reply.body.now)
+IsCopy (lent.Reply reply) (variants.Reply copy) = (copy.id ≡ reply.id)
+    × (copy.body.items ≡ reply.body.now)
 IsCopy lent.Close variants.Close = Unit {0}
 IsCopy lent.End variants.End = Unit {0}
 IsCopy _ _ = ⊥

@@ -39,22 +39,28 @@ HasOneVerdict file = HasEntries file ⊎ HasFault file
 
 -- each shorter prefix of a well-formed file is cut at its own length
 abbrev pub IsCutShort : List ℕ → Type 0
-IsCutShort file = (entries : List Entry) (front more : List ℕ) (byte : ℕ) → Typed file entries → file ≡ front ++ byte ∷ more → FirstFault front (file_fault (length front) CaptureCut)
+IsCutShort file = (entries : List Entry) (front more : List ℕ) (byte : ℕ) → Typed file entries
+    → file ≡ front ++ byte ∷ more → FirstFault front (file_fault (length front) CaptureCut)
 
 -- the two files have the same entries, or neither is well formed
 abbrev pub HaveSameEntries : List ℕ → List ℕ → Type 0
 HaveSameEntries file other = (entries : List Entry) → Typed file entries ↔ Typed other entries
 
 -- a body is accepted as one message, or refused with one fault, and not both
-pub record IsJudgedOnce {M : Type 0} (judge : Judgement M) (before : List M) (body : List ℕ) : Type 0 where
-  pub one : ((m : M) × judge.accepts before body m) ⊎ ((stop : Stop) × judge.refuses before body stop)
-  pub not_both : (m : M) (stop : Stop) → judge.accepts before body m → judge.refuses before body stop → ⊥
+pub record IsJudgedOnce {M : Type 0} (judge : Judgement M) (before : List M)
+    (body : List ℕ) : Type 0 where
+  pub one : ((m : M) × judge.accepts before body m)
+      ⊎ ((stop : Stop) × judge.refuses before body stop)
+  pub not_both : (m : M) (stop : Stop) → judge.accepts before body m
+      → judge.refuses before body stop → ⊥
   pub same_message : (m n : M) → judge.accepts before body m → judge.accepts before body n → m ≡ n
-  pub same_fault : (stop other : Stop) → judge.refuses before body stop → judge.refuses before body other → stop ≡ other
+  pub same_fault : (stop other : Stop) → judge.refuses before body stop
+      → judge.refuses before body other → stop ≡ other
 
 -- judging body by body says the same of a connection as what its messages are together
 abbrev pub IsJudgedInTurn : Streams → List (List Item) → List ReplyItems → Type 0
-IsJudgedInTurn streams calls replies = Converses streams calls replies ↔ (Holds calls_in_turn streams.client calls × Holds (replies_to calls) streams.server replies)
+IsJudgedInTurn streams calls replies = Converses streams calls replies
+    ↔ (Holds calls_in_turn streams.client calls × Holds (replies_to calls) streams.server replies)
 
 -- how many connections entries begin
 abbrev pub begins : List Entry → ℕ
@@ -81,22 +87,27 @@ pub record AreWithinLimits (entries : List Entry) : Type 0 where
   pub few : begins entries ≤ max_connections
   pub small : spelled entries ≤ max_bytes
 
--- The most bytes of a capture, by its version: with 65,535 connections, and with 1,073,741,824 stream bytes in chunks of one byte each. Beside its chunks a
--- connection has three words in version 1 and two in version 2, and beside its bytes a chunk has one word in version 1 and two in version 2.
+-- The most bytes of a capture, by its version: with 65,535 connections, and with 1,073,741,824
+-- stream bytes in chunks of one byte each. Beside its chunks a connection has three words in
+-- version 1 and two in version 2, and beside its bytes a chunk has one word in version 1 and two in
+-- version 2.
 abbrev pub most_bytes : Version → ℕ
 most_bytes One = 5369495552
 most_bytes Two = 9664200708
 
 -- the bytes are a front of the version's magic, or begin with it
 abbrev pub IsOfVersion : Version → List ℕ → Type 0
-IsOfVersion version bytes = ((more : List ℕ) × (magic version ≡ bytes ++ more)) ⊎ ((more : List ℕ) × (bytes ≡ magic version ++ more))
+IsOfVersion version bytes = ((more : List ℕ) × (magic version ≡ bytes ++ more))
+    ⊎ ((more : List ℕ) × (bytes ≡ magic version ++ more))
 
 -- bytes of a version that are no longer than a capture of it may be
 abbrev pub IsWithinVersion : List ℕ → Type 0
-IsWithinVersion bytes = (version : Version) × IsOfVersion version bytes × (length bytes ≤ most_bytes version)
+IsWithinVersion bytes = (version : Version) × IsOfVersion version bytes
+    × (length bytes ≤ most_bytes version)
 
--- Where a fault stands, by its reason: at a byte that the file has, at its length, or in a record. A record's body has its xid at byte 0, its mtype at
--- byte 4, and in a call its rpcvers at byte 8 (RFC 5531, section 9).
+-- Where a fault stands, by its reason: at a byte that the file has, at its length, or in a record.
+-- A record's body has its xid at byte 0, its mtype at byte 4, and in a call its rpcvers at byte 8
+-- (RFC 5531, section 9).
 abbrev pub HasItsPlace : List ℕ → Reason → Place → Type 0
 HasItsPlace file BadMagic (File at) = (at < 8) × (at < length file)
 HasItsPlace file CaptureCut (File at) = at ≡ length file

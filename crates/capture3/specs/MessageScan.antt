@@ -9,6 +9,8 @@ use Rattle.capture3.specs.Bodies.{IsCall, IsReply}
 abbrev pub TellsCall : {V : Type 0} → (V → List Item → Type 0) → List ℕ → V → V → Type 0
 TellsCall stands body old new = (items : List Item) × IsCall body items × Adds stands old new items
 
--- a visitor was told the items of the reply that the body spells, with the results of this procedure
+-- a visitor was told the items of the reply that the body spells, with the results of this
+-- procedure
 abbrev pub TellsReply : {V : Type 0} → (V → List Item → Type 0) → List ℕ → ProcId → V → V → Type 0
-TellsReply stands body id old new = (items : List Item) × IsReply body (record { id = id; items = items }) × Adds stands old new items
+TellsReply stands body id old new = (items : List Item)
+    × IsReply body (record { id = id; items = items }) × Adds stands old new items

@@ -13,7 +13,8 @@ use Rattle.capture3.specs.Records.{Holds, HoldsSoFar}
 use Rattle.capture3.specs.Typed.{reply_entry, HaveEntries, Typed, IsWellFormed}
 
 -- the magic and whole connections, with these entries
-pub record Opens (version : Version) (bytes : List ℕ) (connections : List Streams) (entries : List Entry) : Type 0 where
+pub record Opens (version : Version) (bytes : List ℕ) (connections : List Streams)
+    (entries : List Entry) : Type 0 where
   pub rest : List ℕ
   pub split : bytes ≡ magic version ++ rest
   pub joined : Joins (IsConnection version) rest connections
@@ -45,34 +46,48 @@ pub record ReachesReplies (before : ℕ) (bytes : List ℕ) (entries : List Entr
   pub answers : HoldsSoFar (replies_to calls) server replies
   pub entries_are : entries ≡ (Begin ∷ map Call calls) ++ (Turn ∷ map reply_entry replies)
 
--- What is whole of a connection that is not, after its word 1: in version 2 its begin alone, since its messages are whole with the side word 0.
+-- What is whole of a connection that is not, after its word 1: in version 2 its begin alone, since
+-- its messages are whole with the side word 0.
 abbrev pub ReachesInside : Version → ℕ → List ℕ → List Entry → Type 0
-ReachesInside One before bytes entries = ReachesCalls before bytes entries ⊎ ReachesReplies before bytes entries
+ReachesInside One before bytes entries = ReachesCalls before bytes entries
+    ⊎ ReachesReplies before bytes entries
 ReachesInside Two before bytes entries = BeginsMixed before bytes × (entries ≡ Begin ∷ [])
 
 -- what is whole in bytes that show no fault
 pub data AreWhole (bytes : List ℕ) (entries : List Entry) : Type 0 where
   -- a part of a magic
-  InMagic : (version : Version) (more : List ℕ) → magic version ≡ bytes ++ more → entries ≡ [] → AreWhole bytes entries
+  InMagic : (version : Version) (more : List ℕ) → magic version ≡ bytes ++ more → entries ≡ []
+      → AreWhole bytes entries
   -- whole connections, and a part of a connection word, or the last word 0
-  BetweenConnections : (version : Version) (front part : List ℕ) (connections : List Streams) → bytes ≡ front ++ part → Opens version front connections entries → (length part < 4) ⊎ IsWord part 0 → AreWhole bytes entries
+  BetweenConnections : (version : Version) (front part : List ℕ) (connections : List Streams)
+      → bytes ≡ front ++ part → Opens version front connections entries
+      → (length part < 4) ⊎ IsWord part 0 → AreWhole bytes entries
   -- whole connections, the word 1, and a connection that is not whole
-  InConnection : (version : Version) (front mark rest : List ℕ) (connections : List Streams) (before more : List Entry) → bytes ≡ front ++ mark ++ rest → Opens version front connections before → IsWord mark 1 → length connections < max_connections
-      → ReachesInside version (total_size connections) rest more → entries ≡ before ++ more → AreWhole bytes entries
+  InConnection : (version : Version) (front mark rest : List ℕ) (connections : List Streams)
+      (before more : List Entry) → bytes ≡ front ++ mark ++ rest
+      → Opens version front connections before → IsWord mark 1
+      → length connections < max_connections
+      → ReachesInside version (total_size connections) rest more → entries ≡ before ++ more
+      → AreWhole bytes entries
 
--- The longest clean prefix of the bytes. Where a byte comes after it, that byte shows a fault, and still reaches these entries.
+-- The longest clean prefix of the bytes. Where a byte comes after it, that byte shows a fault, and
+-- still reaches these entries.
 pub record IsLongestClean (bytes front : List ℕ) (more : List Entry) : Type 0 where
   pub rest : List ℕ
   pub split : bytes ≡ front ++ rest
   pub clean : IsClean front
-  pub longest : ((rest ≡ []) × (more ≡ [])) ⊎ ((byte : ℕ) × (back : List ℕ) × (shown : ShownFault) × (rest ≡ byte ∷ back) × Shows (front ++ byte ∷ []) shown × (more ≡ shown.more))
+  pub longest : ((rest ≡ []) × (more ≡ []))
+      ⊎ ((byte : ℕ) × (back : List ℕ) × (shown : ShownFault) × (rest ≡ byte ∷ back)
+      × Shows (front ++ byte ∷ []) shown × (more ≡ shown.more))
 
--- The entries that are whole in the longest clean prefix, and those that the byte after it still reaches: in version 2, where the side word 0 shows a record's fault,
--- the connection's entries before that record. The capture's end is one of them only where the bytes are well formed.
+-- The entries that are whole in the longest clean prefix, and those that the byte after it still
+-- reaches: in version 2, where the side word 0 shows a record's fault, the connection's entries
+-- before that record. The capture's end is one of them only where the bytes are well formed.
 abbrev pub Reached : List ℕ → List Entry → Type 0
 Reached bytes entries =
     Typed bytes entries
-    ⊎ ((IsWellFormed bytes → ⊥) × (front : List ℕ) × (whole : List Entry) × (more : List Entry) × IsLongestClean bytes front more × AreWhole front whole × (entries ≡ whole ++ more))
+    ⊎ ((IsWellFormed bytes → ⊥) × (front : List ℕ) × (whole : List Entry) × (more : List Entry)
+    × IsLongestClean bytes front more × AreWhole front whole × (entries ≡ whole ++ more))
 
 -- some of the entries that the bytes reach, from the first on, or all
 abbrev pub AreFirstReached : List ℕ → List Entry → Type 0

@@ -1,4 +1,5 @@
--- The machine for one side of a connection: the chunks of its stream, whose records are judged as they come.
+-- The machine for one side of a connection: the chunks of its stream, whose records are judged as
+-- they come.
 use Rattle.std.specs.Prelude.{ℕ, zero, suc, ◌+◌, List, [], length, nat_lt, cond}
 use Rattle.xdr3.specs.declared.reason.Reason.TheVariants.{RecordCut, TooManyBytes}
 use Rattle.record_mark.specs.Machine.{Next, Goes, Ends, within}
@@ -15,7 +16,8 @@ pub data Point : Type 0 where
   Length : (part : List ℕ) → Point
   Chunk : (left : ℕ) → Point
 
--- where the open word begins or the next chunk would begin, the capture's stream bytes with the open chunk, the records, and the point in the chunks
+-- where the open word begins or the next chunk would begin, the capture's stream bytes with the
+-- open chunk, the records, and the point in the chunks
 pub record Siding (M : Type 0) : Type 0 where
   pub at : ℕ
   pub total : ℕ
@@ -34,24 +36,34 @@ awaiting (suc left) = Chunk left
 -- the stream's word 0 has come
 abbrev pub closing : {M : Type 0} → (RecordFault → Fault) → ℕ → ℕ → List M → Joining → SideEnd M
 closing place at total messages Between = SideCloses (at + 4) total messages
-closing place at total messages (Header body part) = SideRefuses (place (fault_at messages (length body) RecordCut))
-closing place at total messages (Bytes body last left) = SideRefuses (place (fault_at messages (length body) RecordCut))
+closing place at total messages (Header body part) =
+    SideRefuses (place (fault_at messages (length body) RecordCut))
+closing place at total messages (Bytes body last left) =
+    SideRefuses (place (fault_at messages (length body) RecordCut))
 
 -- a length word has come
-abbrev pub counted : {M : Type 0} → (RecordFault → Fault) → ℕ → ℕ → Reading M → ℕ → Next (Siding M) (SideEnd M)
+abbrev pub counted : {M : Type 0} → (RecordFault → Fault) → ℕ → ℕ → Reading M → ℕ
+    → Next (Siding M) (SideEnd M)
 counted place at total reading zero = Ends (closing place at total reading.messages reading.joining)
 counted place at total reading (suc left) =
     cond (nat_lt max_bytes (total + suc left)) (Ends (SideRefuses (file_fault at TooManyBytes)))
-    (Goes (record { at = at + 4 + suc left; total = total + suc left; reading = reading; point = Chunk left }))
+    (Goes (record { at = at + 4 + suc left; total = total + suc left; reading = reading; point =
+        Chunk left }))
 
-abbrev pub side_step : {M : Type 0} → Judge M → (RecordFault → Fault) → ℕ → ℕ → Reading M → Point → ℕ → Next (Siding M) (SideEnd M)
+abbrev pub side_step : {M : Type 0} → Judge M → (RecordFault → Fault) → ℕ → ℕ → Reading M → Point
+    → ℕ → Next (Siding M) (SideEnd M)
 side_step judge place at total reading (Length part) byte =
-    within (λ p. record { at = at; total = total; reading = reading; point = Length p }) (counted place at total reading) (word_next part byte)
+    within (λ p. record { at = at; total = total; reading = reading; point =
+        Length p }) (counted place at total reading) (word_next part byte)
 side_step judge place at total reading (Chunk left) byte =
-    within (λ r. record { at = at; total = total; reading = r; point = awaiting left }) (λ shown. Ends (SideRefuses (place shown))) (stream_next judge reading byte)
+    within (λ r. record { at = at; total = total; reading = r; point =
+        awaiting left }) (λ shown. Ends (SideRefuses (place shown)))
+        (stream_next judge reading byte)
 
-abbrev pub side_next : {M : Type 0} → Judge M → (RecordFault → Fault) → Siding M → ℕ → Next (Siding M) (SideEnd M)
+abbrev pub side_next : {M : Type 0} → Judge M → (RecordFault → Fault) → Siding M → ℕ
+    → Next (Siding M) (SideEnd M)
 side_next judge place s byte = side_step judge place s.at s.total s.reading s.point byte
 
 abbrev pub siding_from : {M : Type 0} → ℕ → ℕ → Siding M
-siding_from start before = record { at = start; total = before; reading = unread; point = Length [] }
+siding_from start before =
+    record { at = start; total = before; reading = unread; point = Length [] }

@@ -1,4 +1,5 @@
--- The streams of a connection in version 2 of a capture file: chunks of both sides in any order, and then the side word 0.
+-- The streams of a connection in version 2 of a capture file: chunks of both sides in any order,
+-- and then the side word 0.
 use Rattle.std.specs.Prelude.{◌≡◌, ◌⊎◌, ℕ, suc, ◌+◌, ◌<◌, ◌≤◌, List, [], ◌∷◌, ◌++◌, length}
 use Rattle.record_mark.specs.Word.{IsWord, Joins}
 use Rattle.capture3.specs.declared.fault.Side.{Side}
@@ -40,7 +41,9 @@ of_side Server Client bytes = []
 
 -- the streams with a chunk's bytes at the end of its side's
 abbrev pub with_more : Streams → Side → List ℕ → Streams
-with_more streams side bytes = record { client = streams.client ++ of_side Client side bytes; server = streams.server ++ of_side Server side bytes }
+with_more streams side bytes =
+    record { client = streams.client ++ of_side Client side bytes; server =
+    streams.server ++ of_side Server side bytes }
 
 -- the stream of one side: its chunks' bytes joined, in order
 abbrev pub carried_by : Side → List SidedChunk → List ℕ
@@ -86,7 +89,8 @@ pub record AfterSide (before : ℕ) (bytes : List ℕ) : Type 0 where
   pub short : length part < 4
   pub fits : before + size (gathered chunks) ≤ max_bytes
 
--- whole chunks, a side word, and a length word within the limit with fewer bytes after it than it says
+-- whole chunks, a side word, and a length word within the limit with fewer bytes after it than it
+-- says
 pub record WithinSided (before : ℕ) (bytes : List ℕ) : Type 0 where
   pub chunks : List SidedChunk
   pub side : Side
@@ -103,4 +107,5 @@ pub record WithinSided (before : ℕ) (bytes : List ℕ) : Type 0 where
 
 -- a connection that is not whole, after its word 1
 abbrev pub BeginsMixed : ℕ → List ℕ → Type 0
-BeginsMixed before bytes = BetweenSides before bytes ⊎ AfterSide before bytes ⊎ WithinSided before bytes
+BeginsMixed before bytes = BetweenSides before bytes ⊎ AfterSide before bytes
+    ⊎ WithinSided before bytes

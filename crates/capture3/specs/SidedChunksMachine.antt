@@ -16,14 +16,16 @@ pub data MixedPoint : Type 0 where
   SideLength : (side : Side) → (part : List ℕ) → MixedPoint
   SideChunk : (side : Side) → (left : ℕ) → MixedPoint
 
--- where the open word begins or the next chunk would begin, the capture's stream bytes with the open chunk, the streams so far, and the point in the chunks
+-- where the open word begins or the next chunk would begin, the capture's stream bytes with the
+-- open chunk, the streams so far, and the point in the chunks
 pub record Mixing : Type 0 where
   pub at : ℕ
   pub total : ℕ
   pub streams : Streams
   pub point : MixedPoint
 
--- the side word 0 has come: where the next part of the file begins, the capture's stream bytes, and the streams; or a fault is shown
+-- the side word 0 has come: where the next part of the file begins, the capture's stream bytes, and
+-- the streams; or a fault is shown
 pub data MixedEnd : Type 0 where
   MixedCloses : (at total : ℕ) → Streams → MixedEnd
   MixedRefuses : Fault → MixedEnd
@@ -36,8 +38,10 @@ awaiting_side side (suc left) = SideChunk side left
 -- a side word has come
 abbrev pub sided : ℕ → ℕ → Streams → ℕ → Next Mixing MixedEnd
 sided at total streams zero = Ends (MixedCloses (at + 4) total streams)
-sided at total streams (suc zero) = Goes (record { at = at + 4; total = total; streams = streams; point = SideLength Client [] })
-sided at total streams (suc (suc zero)) = Goes (record { at = at + 4; total = total; streams = streams; point = SideLength Server [] })
+sided at total streams (suc zero) =
+    Goes (record { at = at + 4; total = total; streams = streams; point = SideLength Client [] })
+sided at total streams (suc (suc zero)) =
+    Goes (record { at = at + 4; total = total; streams = streams; point = SideLength Server [] })
 sided at total streams (suc (suc (suc other))) = Ends (MixedRefuses (file_fault at BadMark))
 
 -- a length word has come
@@ -45,15 +49,20 @@ abbrev pub measured : ℕ → ℕ → Streams → Side → ℕ → Next Mixing M
 measured at total streams side zero = Ends (MixedRefuses (file_fault at BadMark))
 measured at total streams side (suc left) =
     cond (nat_lt max_bytes (total + suc left)) (Ends (MixedRefuses (file_fault at TooManyBytes)))
-    (Goes (record { at = at + 4 + suc left; total = total + suc left; streams = streams; point = SideChunk side left }))
+    (Goes (record { at = at + 4 + suc left; total = total + suc left; streams = streams; point =
+        SideChunk side left }))
 
 -- one byte more
 abbrev pub mixed_step : ℕ → ℕ → Streams → MixedPoint → ℕ → Next Mixing MixedEnd
 mixed_step at total streams (SideWord part) byte =
-    within (λ p. record { at = at; total = total; streams = streams; point = SideWord p }) (sided at total streams) (word_next part byte)
+    within (λ p. record { at = at; total = total; streams = streams; point =
+        SideWord p }) (sided at total streams) (word_next part byte)
 mixed_step at total streams (SideLength side part) byte =
-    within (λ p. record { at = at; total = total; streams = streams; point = SideLength side p }) (measured at total streams side) (word_next part byte)
-mixed_step at total streams (SideChunk side left) byte = Goes (record { at = at; total = total; streams = with_more streams side (byte ∷ []); point = awaiting_side side left })
+    within (λ p. record { at = at; total = total; streams = streams; point =
+        SideLength side p }) (measured at total streams side) (word_next part byte)
+mixed_step at total streams (SideChunk side left) byte =
+    Goes (record { at = at; total = total; streams = with_more streams side (byte ∷ []); point =
+    awaiting_side side left })
 
 -- the same by where the machine stands
 abbrev pub mixed_next : Mixing → ℕ → Next Mixing MixedEnd
@@ -61,4 +70,5 @@ mixed_next s byte = mixed_step s.at s.total s.streams s.point byte
 
 -- at a connection's first side word
 abbrev pub mixing_from : ℕ → ℕ → Mixing
-mixing_from start before = record { at = start; total = before; streams = gathered []; point = SideWord [] }
+mixing_from start before =
+    record { at = start; total = before; streams = gathered []; point = SideWord [] }

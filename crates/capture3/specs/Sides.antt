@@ -9,7 +9,8 @@ use Rattle.capture3.specs.declared.fault.Side.{Side}
 use Rattle.capture3.specs.Chunks.{max_bytes, AreChunks, IsStream}
 use Rattle.capture3.specs.Records.{Judgement, RecordFault, StreamShows, IsCut}
 
--- where a stream stands: its connection, counted from 1, its side, the file's byte at which it begins, and the capture's stream bytes before it
+-- where a stream stands: its connection, counted from 1, its side, the file's byte at which it
+-- begins, and the capture's stream bytes before it
 pub record Position : Type 0 where
   pub connection : ℕ
   pub side : Side
@@ -22,7 +23,8 @@ file_fault at reason = record { place = File at; reason = reason }
 
 -- a fault of a record of this connection and side
 abbrev pub place_at : ℕ → Side → RecordFault → Fault
-place_at connection side fault = record { place = Record connection side fault.number fault.byte; reason = fault.reason }
+place_at connection side fault =
+    record { place = Record connection side fault.number fault.byte; reason = fault.reason }
 
 abbrev pub place_in : Position → RecordFault → Fault
 place_in position = place_at position.connection position.side
@@ -49,7 +51,8 @@ pub record CutsRecord (position : Position) (bytes : List ℕ) (fault : Fault) :
   pub is : fault ≡ place_in position shown
 
 -- a chunk's byte that shows a fault of its record
-pub record ShowsRecord {M : Type 0} (judge : Judgement M) (position : Position) (bytes : List ℕ) (fault : Fault) : Type 0 where
+pub record ShowsRecord {M : Type 0} (judge : Judgement M) (position : Position) (bytes : List ℕ)
+    (fault : Fault) : Type 0 where
   pub front : List ℕ
   pub header : List ℕ
   pub got : List ℕ
@@ -65,4 +68,5 @@ pub record ShowsRecord {M : Type 0} (judge : Judgement M) (position : Position) 
 
 -- the last byte of a stream's bytes in the file shows this fault
 abbrev pub SideShows : {M : Type 0} → Judgement M → Position → List ℕ → Fault → Type 0
-SideShows judge position bytes fault = PassesBytes position bytes fault ⊎ CutsRecord position bytes fault ⊎ ShowsRecord judge position bytes fault
+SideShows judge position bytes fault = PassesBytes position bytes fault
+    ⊎ CutsRecord position bytes fault ⊎ ShowsRecord judge position bytes fault

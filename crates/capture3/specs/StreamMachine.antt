@@ -23,7 +23,9 @@ recorded judge messages (Whole body) = judged messages (judge messages body)
 recorded judge messages (TooLong at) = Ends (fault_at messages at RecordTooLong)
 
 abbrev pub stream_next : {M : Type 0} → Judge M → Reading M → ℕ → Next (Reading M) RecordFault
-stream_next judge s byte = within (λ j. record { messages = s.messages; joining = j }) (recorded judge s.messages) (join_next s.joining byte)
+stream_next judge s byte =
+    within (λ j. record { messages = s.messages; joining =
+    j }) (recorded judge s.messages) (join_next s.joining byte)
 
 abbrev pub unread : {M : Type 0} → Reading M
 unread = record { messages = []; joining = Between }
@@ -37,7 +39,8 @@ pub data StreamEnd (M : Type 0) : Type 0 where
 abbrev pub left_in : {M : Type 0} → List M → Joining → StreamEnd M
 left_in messages Between = Held messages
 left_in messages (Header body part) = Faulty messages (fault_at messages (length body) RecordCut)
-left_in messages (Bytes body last left) = Faulty messages (fault_at messages (length body) RecordCut)
+left_in messages (Bytes body last left) =
+    Faulty messages (fault_at messages (length body) RecordCut)
 
 abbrev pub end_of : {M : Type 0} → List M → Run (Reading M) RecordFault → StreamEnd M
 end_of messages (Runs s) = left_in s.messages s.joining
@@ -46,7 +49,9 @@ end_of messages (Stopped fault) = Faulty messages fault
 
 -- what it says at a stream's end, from where it stands before the rest of the stream
 abbrev pub rest_end : {M : Type 0} → Judge M → Reading M → List ℕ → StreamEnd M
-rest_end judge s rest = end_of (last_running (stream_next judge) s rest).messages (after (stream_next judge) (Runs s) rest)
+rest_end judge s rest =
+    end_of (last_running (stream_next judge) s rest).messages
+    (after (stream_next judge) (Runs s) rest)
 
 -- what it says of a whole stream
 abbrev pub stream_end : {M : Type 0} → Judge M → List ℕ → StreamEnd M

@@ -2,8 +2,8 @@
 use Rattle.std.specs.Prelude.{◌≡◌, ℕ, ◌<◌, Bool, true, Option, Some, Result, MatchResult, List, [], ◌++◌, length, take}
 use Rattle.std.specs.Io.KnownBytes.{Appends, Consumes, IsAtEnd}
 
--- The bytes that reads will give from here on, if they are known; the bytes that reads gave, if that is kept; and whether the last read that did not
--- fail gave none.
+-- The bytes that reads will give from here on, if they are known; the bytes that reads gave, if
+-- that is kept; and whether the last read that did not fail gave none.
 pub record Told : Type 0 where
   pub left : Option (List ℕ)
   pub given : Option (List ℕ)
@@ -17,16 +17,20 @@ Gave old new bytes = Consumes old.left new.left bytes × Appends old.given new.g
 abbrev pub IsSpent : Told → Type 0
 IsSpent told = (told.is_spent ≡ true) × IsAtEnd told.left
 
--- `read_some(buf)` gave the n bytes that it put at the front at `Ok(n)`, none only at the end or with no room, and none at `Err`
+-- `read_some(buf)` gave the n bytes that it put at the front at `Ok(n)`, none only at the end or
+-- with no room, and none at `Err`
 abbrev pub ReadGives : {E : Type 0} → (old new : Told) → Result ℕ E → List ℕ → Type 0
-ReadGives old new result buf = MatchResult result (λ n. Gave old new (take n buf) × (n ≡ 0 → 0 < length buf → IsSpent new)) (λ _. Gave old new [])
+ReadGives old new result buf =
+    MatchResult result (λ n. Gave old new (take n buf)
+    × (n ≡ 0 → 0 < length buf → IsSpent new)) (λ _. Gave old new [])
 
 -- whether the last read that did not fail gave none
 abbrev pub TellsSpent : {E : Type 0} → (old new : Told) → Result ℕ E → Type 0
-TellsSpent old new result = MatchResult result (λ n. new.is_spent ≡ true → n ≡ 0) (λ _. new.is_spent ≡ old.is_spent)
+TellsSpent old new result =
+    MatchResult result (λ n. new.is_spent ≡ true → n ≡ 0) (λ _. new.is_spent ≡ old.is_spent)
 
--- The source keeps which bytes its reads gave. From the one state to the other they gave a prefix of these bytes, and all of them if the last
--- read gave none.
+-- The source keeps which bytes its reads gave. From the one state to the other they gave a prefix
+-- of these bytes, and all of them if the last read gave none.
 pub record GavePrefix (old new : Told) (bytes : List ℕ) : Type 0 where
   pub start : List ℕ
   pub given : List ℕ

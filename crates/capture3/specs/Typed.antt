@@ -11,7 +11,8 @@ use Rattle.capture3.specs.Entry.{Entry, Begin, Call, Turn, Reply, Close, End}
 -- each body is one of the things, in order
 abbrev pub AreEach : {X : Type 0} → (List ℕ → X → Type 0) → List (List ℕ) → List X → Type 0
 AreEach Is [] xs = xs ≡ []
-AreEach {X} Is (body ∷ bodies) xs = (x : X) × (rest : List X) × (xs ≡ x ∷ rest) × Is body x × AreEach Is bodies rest
+AreEach {X} Is (body ∷ bodies) xs = (x : X) × (rest : List X) × (xs ≡ x ∷ rest) × Is body x
+    × AreEach Is bodies rest
 
 -- it is one of the list
 abbrev pub IsIn : {X : Type 0} → X → List X → Type 0
@@ -19,14 +20,19 @@ IsIn {X} x xs = (front : List X) × (back : List X) × (xs ≡ front ++ x ∷ ba
 
 -- calls with one xid have one procedure
 abbrev pub HaveOneProcedure : List (List Item) → Type 0
-HaveOneProcedure calls = (a b : List Item) → IsIn a calls → IsIn b calls → xid_in a ≡ xid_in b → procedure_in a ≡ procedure_in b
+HaveOneProcedure calls = (a b : List Item) → IsIn a calls → IsIn b calls → xid_in a ≡ xid_in b
+    → procedure_in a ≡ procedure_in b
 
 -- each reply has the xid and the procedure of a call
 abbrev pub AnswerCalls : List (List Item) → List ReplyItems → Type 0
-AnswerCalls calls replies = (reply : ReplyItems) → IsIn reply replies → (call : List Item) × IsIn call calls × (xid_in call ≡ xid_in reply.items) × (procedure_in call ≡ reply.id)
+AnswerCalls calls replies = (reply : ReplyItems) → IsIn reply replies
+    → (call : List Item) × IsIn call calls × (xid_in call ≡ xid_in reply.items)
+    × (procedure_in call ≡ reply.id)
 
--- The streams are records (RFC 5531, section 11), and their bodies are these calls and replies. Within the connection an xid has one procedure.
-pub record Converses (streams : Streams) (calls : List (List Item)) (replies : List ReplyItems) : Type 0 where
+-- The streams are records (RFC 5531, section 11), and their bodies are these calls and replies.
+-- Within the connection an xid has one procedure.
+pub record Converses (streams : Streams) (calls : List (List Item))
+    (replies : List ReplyItems) : Type 0 where
   pub client_bodies : List (List ℕ)
   pub server_bodies : List (List ℕ)
   pub client : Marks streams.client client_bodies
@@ -41,13 +47,16 @@ reply_entry reply = Reply reply.id reply.items
 
 -- the entries of a connection
 abbrev pub connection_entries : List (List Item) → List ReplyItems → List Entry
-connection_entries calls replies = (Begin ∷ map Call calls) ++ (Turn ∷ map reply_entry replies) ++ Close ∷ []
+connection_entries calls replies =
+    (Begin ∷ map Call calls) ++ (Turn ∷ map reply_entry replies) ++ Close ∷ []
 
 -- the entries of connections, one after another
 abbrev pub HaveEntries : List Streams → List Entry → Type 0
 HaveEntries [] entries = entries ≡ []
 HaveEntries (streams ∷ connections) entries =
-    (calls : List (List Item)) × (replies : List ReplyItems) × (rest : List Entry) × (entries ≡ connection_entries calls replies ++ rest) × Converses streams calls replies × HaveEntries connections rest
+    (calls : List (List Item)) × (replies : List ReplyItems) × (rest : List Entry)
+        × (entries ≡ connection_entries calls replies ++ rest) × Converses streams calls replies
+        × HaveEntries connections rest
 
 -- The file is well formed, with these entries.
 pub record Typed (file : List ℕ) (entries : List Entry) : Type 0 where

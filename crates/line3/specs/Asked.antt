@@ -38,9 +38,12 @@ pub record IsPacking (output : List ℕ) (streams : List (List ℕ)) : Type 0 wh
 abbrev pub Asks : List (List ℕ) → Job → Type 0
 Asks words (jobs.Check file) = IsLine words (codes "check" ∷ file.now ∷ [])
 Asks words (jobs.Show file) = IsLine words (codes "show" ∷ file.now ∷ [])
-Asks words (jobs.Canon input output) = IsLine words (codes "canon" ∷ input.now ∷ output.now ∷ []) × (input.now ≢ output.now)
+Asks words (jobs.Canon input output) = IsLine words (codes "canon" ∷ input.now ∷ output.now ∷ [])
+    × (input.now ≢ output.now)
 Asks words (jobs.Same first second) = IsLine words (codes "same" ∷ first.now ∷ second.now ∷ [])
-Asks words (jobs.Pack output streams) = IsLine words (codes "pack" ∷ output.now ∷ map string_bytes streams.now) × IsPacking output.now (map string_bytes streams.now)
+Asks words (jobs.Pack output streams) =
+    IsLine words (codes "pack" ∷ output.now ∷ map string_bytes streams.now)
+    × IsPacking output.now (map string_bytes streams.now)
 
 -- the output of a canonical form is its input
 pub record RewritesItself (words : List (List ℕ)) : Type 0 where
@@ -74,9 +77,11 @@ AreFileWords (Check file) = IsFileWord file
 AreFileWords (Show file) = IsFileWord file
 AreFileWords (Canon input output) = IsFileWord input × IsFileWord output
 AreFileWords (Same first second) = IsFileWord first × IsFileWord second
-AreFileWords (Pack output stream streams) = IsFileWord output × IsFileWord stream × All IsFileWord streams
+AreFileWords (Pack output stream streams) = IsFileWord output × IsFileWord stream
+    × All IsFileWord streams
 
--- where the fault is the usage, the line has none of the forms, or a file's name that is empty or begins with a hyphen
+-- where the fault is the usage, the line has none of the forms, or a file's name that is empty or
+-- begins with a hyphen
 abbrev pub AreRefused : List (List ℕ) → LineFault → Type 0
 AreRefused words (Usage _) = (form : Form) → IsLine words (words_of form) → AreFileWords form → ⊥
 AreRefused words Odd = HasOddStream words

@@ -9,7 +9,9 @@ file_rule id = record (new_rule id) { required = true }
 
 -- one or more of them
 abbrev pub streams_rule : Rule
-streams_rule = record (file_rule (codes "STREAMS")) { range = Some (record { start_inclusive = 1; end_inclusive = usize_max }) }
+streams_rule =
+    record (file_rule (codes "STREAMS")) { range =
+    Some (record { start_inclusive = 1; end_inclusive = usize_max }) }
 
 -- a command with the name of a file
 abbrev pub one_file : Text → App
@@ -17,7 +19,8 @@ one_file name = with_rule (new_app name) (file_rule (codes "FILE"))
 
 -- a command with the names of two files
 abbrev pub two_files : Text → Text → Text → App
-two_files name first second = with_rule (with_rule (new_app name) (file_rule first)) (file_rule second)
+two_files name first second =
+    with_rule (with_rule (new_app name) (file_rule first)) (file_rule second)
 
 -- a command with an output and its streams
 abbrev pub packing_form : App
@@ -25,9 +28,15 @@ packing_form = with_rule (with_rule (new_app (codes "pack")) (file_rule (codes "
 
 -- the program's name; a command has to follow
 abbrev pub bare : App
-bare = record (new_app (codes "nfs3canon")) { top = record (new_app (codes "nfs3canon")).top { subcommand_required = true } }
+bare = record (new_app (codes "nfs3canon")) { top =
+    record (new_app (codes "nfs3canon")).top { subcommand_required = true } }
 
 -- the five commands
 abbrev pub app : App
 app =
-    with_subcommand (with_subcommand (with_subcommand (with_subcommand (with_subcommand bare (one_file (codes "check")).top) (one_file (codes "show")).top) (two_files (codes "canon") (codes "IN") (codes "OUT")).top) (two_files (codes "same") (codes "A") (codes "B")).top) packing_form.top
+    with_subcommand
+        (with_subcommand
+        (with_subcommand
+        (with_subcommand (with_subcommand bare (one_file (codes "check")).top)
+        (one_file (codes "show")).top) (two_files (codes "canon") (codes "IN") (codes "OUT")).top)
+        (two_files (codes "same") (codes "A") (codes "B")).top) packing_form.top

@@ -25,8 +25,8 @@ pub record MasksItself (words : List (List ℕ)) : Type 0 where
   pub changes : List Change
   pub line : IsLine words (mask_words name name changes)
 
--- where the fault is the usage, the line has not this form, or a file's name that is empty or begins
--- with a hyphen
+-- where the fault is the usage, the line has not this form, or a file's name that is empty or
+-- begins with a hyphen
 abbrev pub AreMaskWordsRefused : List (List ℕ) → LineFault → Type 0
 AreMaskWordsRefused words (Usage _) = (input output : List ℕ) (changes : List Change)
     → IsLine words (mask_words input output changes) → IsFileWord input → IsFileWord output → ⊥

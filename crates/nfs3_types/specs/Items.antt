@@ -30,10 +30,13 @@ handle_items h = Opaque Handle names.fh (handle_bytes h) ∷ []
 
 abbrev pub attributes_items : Fattr → List Item
 attributes_items f =
-    Word names.type (file_kind_number f.kind) ∷ Word names.mode f.mode ∷ Word names.nlink f.nlink ∷ Word names.uid f.uid ∷ Word names.gid f.gid
-    ∷ Hyper names.size f.size ∷ Hyper names.used f.used ∷ Word names.rdev1 f.rdev1 ∷ Word names.rdev2 f.rdev2
+    Word names.type (file_kind_number f.kind) ∷ Word names.mode f.mode ∷ Word names.nlink f.nlink
+        ∷ Word names.uid f.uid ∷ Word names.gid f.gid
+    ∷ Hyper names.size f.size ∷ Hyper names.used f.used ∷ Word names.rdev1 f.rdev1
+    ∷ Word names.rdev2 f.rdev2
     ∷ Hyper names.fsid f.fsid ∷ Hyper names.fileid f.fileid
-    ∷ Word names.atime_sec f.atime.sec ∷ Word names.atime_nsec f.atime.nsec ∷ Word names.mtime_sec f.mtime.sec ∷ Word names.mtime_nsec f.mtime.nsec
+    ∷ Word names.atime_sec f.atime.sec ∷ Word names.atime_nsec f.atime.nsec
+    ∷ Word names.mtime_sec f.mtime.sec ∷ Word names.mtime_nsec f.mtime.nsec
     ∷ Word names.ctime_sec f.ctime.sec ∷ Word names.ctime_nsec f.ctime.nsec ∷ []
 
 abbrev pub post_op_attr_items : PostOpAttr → List Item
@@ -45,7 +48,8 @@ wcc_attr_items w =
     ∷ Word names.ctime_sec w.ctime.sec ∷ Word names.ctime_nsec w.ctime.nsec ∷ []
 
 abbrev pub wcc_items : Wcc → List Item
-wcc_items w = followed_by (optional_items names.before wcc_attr_items w.before) (post_op_attr_items w.after)
+wcc_items w =
+    followed_by (optional_items names.before wcc_attr_items w.before) (post_op_attr_items w.after)
 
 abbrev pub post_op_fh_items : PostOpFh → List Item
 post_op_fh_items p = optional_items names.handle handle_items p.handle
@@ -70,4 +74,5 @@ abbrev pub guard_items : Guard → List Item
 guard_items g = optional_items names.check (time_items names.ctime_sec names.ctime_nsec) g.check
 
 abbrev pub dir_op_items : DirOp → List Item
-dir_op_items d = Opaque Handle names.fh (handle_bytes d.dir) ∷ Opaque Text names.name d.name.now ∷ []
+dir_op_items d =
+    Opaque Handle names.fh (handle_bytes d.dir) ∷ Opaque Text names.name d.name.now ∷ []

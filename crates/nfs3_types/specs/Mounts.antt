@@ -21,10 +21,12 @@ abbrev pub flavor_items : Flavor → List Item
 flavor_items f = Word names.flavor f.number ∷ []
 
 abbrev pub mount_ok_items : MountOk → List Item
-mount_ok_items m = followed_by (handle_items m.handle) (counted_items names.flavors flavor_items m.flavors.items)
+mount_ok_items m =
+    followed_by (handle_items m.handle) (counted_items names.flavors flavor_items m.flavors.items)
 
 abbrev pub mounted_items : Mounted → List Item
-mounted_items m = Opaque Text names.hostname m.hostname.now ∷ Opaque Text names.directory m.directory.now ∷ []
+mounted_items m =
+    Opaque Text names.hostname m.hostname.now ∷ Opaque Text names.directory m.directory.now ∷ []
 
 abbrev pub mount_list_items : MountList → List Item
 mount_list_items l = linked_items names.entry mounted_items l.entries.items
@@ -33,7 +35,9 @@ abbrev pub export_group_items : Group → List Item
 export_group_items g = Opaque Text names.name g.name.now ∷ []
 
 abbrev pub export_items : Export → List Item
-export_items e = followed_by (Opaque Text names.directory e.directory.now ∷ []) (linked_items names.group export_group_items e.groups.items)
+export_items e =
+    followed_by (Opaque Text names.directory e.directory.now
+    ∷ []) (linked_items names.group export_group_items e.groups.items)
 
 abbrev pub exports_items : Exports → List Item
 exports_items e = linked_items names.entry export_items e.entries.items

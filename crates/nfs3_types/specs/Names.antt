@@ -1,4 +1,5 @@
--- The names of items: those of the fields of RFC 1813. They stay folded in proofs, save where a walk says them.
+-- The names of items: those of the fields of RFC 1813. They stay folded in proofs, save where a
+-- walk says them.
 use Rattle.std.specs.Prelude.{ℕ, List, codes}
 
 pub record Names : Type 0 where

@@ -6,6 +6,9 @@ use Rattle.nfs3_types.specs.declared.status.Res.TheVariants.{Done, Failed}
 use Rattle.nfs3_types.specs.Names.{names}
 use Rattle.nfs3_types.specs.Status.{failure_number}
 
-abbrev pub items_by_status : {T F : Type 0} → (T → List Item) → (F → List Item) → Res T F → List Item
-items_by_status done_items failed_items (Done x) = followed_by (Word names.status 0 ∷ []) (done_items x)
-items_by_status done_items failed_items (Failed failure x) = followed_by (Word names.status (failure_number failure) ∷ []) (failed_items x)
+abbrev pub items_by_status : {T F : Type 0} → (T → List Item) → (F → List Item) → Res T F
+    → List Item
+items_by_status done_items failed_items (Done x) =
+    followed_by (Word names.status 0 ∷ []) (done_items x)
+items_by_status done_items failed_items (Failed failure x) =
+    followed_by (Word names.status (failure_number failure) ∷ []) (failed_items x)

@@ -8,7 +8,8 @@ use Rattle.nfs3_types.specs.MountStatus.{mount_status_words}
 use Rattle.nfs3_types.specs.Names.{names}
 use Rattle.nfs3_types.specs.Status.{status_words}
 
--- the longest opaque data, string or array that has no maximum of its own (RFC 4506, sections 4.10, 4.11 and 4.13)
+-- the longest opaque data, string or array that has no maximum of its own (RFC 4506, sections 4.10,
+-- 4.11 and 4.13)
 abbrev pub no_maximum : ℕ
 no_maximum = 4294967295
 
@@ -32,13 +33,15 @@ time sec nsec = word sec then word nsec
 
 -- the times of a fattr3 (RFC 1813, section 2.5)
 unfoldable pub times : Shape
-times = time names.atime_sec names.atime_nsec then time names.mtime_sec names.mtime_nsec then time names.ctime_sec names.ctime_nsec
+times = time names.atime_sec names.atime_nsec then time names.mtime_sec names.mtime_nsec then time
+    names.ctime_sec names.ctime_nsec
 
 -- fattr3 (RFC 1813, section 2.5)
 unfoldable pub attributes : Shape
 attributes =
     file_kind then word names.mode then word names.nlink then word names.uid then word names.gid
-    then hyper names.size then hyper names.used then word names.rdev1 then word names.rdev2 then hyper names.fsid then hyper names.fileid
+    then hyper names.size then hyper names.used then word names.rdev1 then word names.rdev2 then
+        hyper names.fsid then hyper names.fileid
     then times
 
 -- post_op_attr (RFC 1813, section 2.6)
@@ -47,7 +50,8 @@ post_op_attr = optional names.attr attributes
 
 -- wcc_attr (RFC 1813, section 2.6)
 unfoldable pub wcc_attr : Shape
-wcc_attr = hyper names.size then time names.mtime_sec names.mtime_nsec then time names.ctime_sec names.ctime_nsec
+wcc_attr = hyper names.size then time names.mtime_sec names.mtime_nsec then time names.ctime_sec
+    names.ctime_nsec
 
 -- wcc_data (RFC 1813, section 2.6)
 unfoldable pub wcc : Shape
@@ -57,13 +61,16 @@ wcc = optional names.before wcc_attr then post_op_attr
 unfoldable pub post_op_fh : Shape
 post_op_fh = optional names.handle handle
 
--- set_atime and set_mtime: DONT_CHANGE (0), SET_TO_SERVER_TIME (1), SET_TO_CLIENT_TIME (2) (RFC 1813, section 2.6)
+-- set_atime and set_mtime: DONT_CHANGE (0), SET_TO_SERVER_TIME (1), SET_TO_CLIENT_TIME (2) (RFC
+-- 1813, section 2.6)
 abbrev pub time_how_words : List ℕ
 time_how_words = 0 ∷ 1 ∷ 2 ∷ []
 
 -- one of these, and on SET_TO_CLIENT_TIME alone a time (RFC 1813, section 2.6)
 unfoldable pub time_how : List ℕ → List ℕ → List ℕ → Shape
-time_how name sec nsec = choose name (is_listed time_how_words) BadEnum (λ how. if how == 2 then time sec nsec else nothing)
+time_how name sec nsec =
+    choose name (is_listed time_how_words) BadEnum
+    (λ how. if how == 2 then time sec nsec else nothing)
 
 -- set_mode3, set_uid3 and set_gid3 (RFC 1813, section 2.6)
 unfoldable pub set_word : List ℕ → List ℕ → Shape
@@ -76,9 +83,11 @@ set_hyper set name = optional set (hyper name)
 -- sattr3 (RFC 1813, section 2.6)
 unfoldable pub settable : Shape
 settable =
-    set_word names.set_mode names.mode then set_word names.set_uid names.uid then set_word names.set_gid names.gid
+    set_word names.set_mode names.mode then set_word names.set_uid names.uid then set_word
+        names.set_gid names.gid
     then set_hyper names.set_size names.size
-    then time_how names.set_atime names.atime_sec names.atime_nsec then time_how names.set_mtime names.mtime_sec names.mtime_nsec
+    then time_how names.set_atime names.atime_sec names.atime_nsec then time_how names.set_mtime
+        names.mtime_sec names.mtime_nsec
 
 -- sattrguard3 (RFC 1813, section 3.3.2)
 unfoldable pub guard : Shape
@@ -90,7 +99,8 @@ dir_op = handle then opaque Text names.name no_maximum
 
 -- a status, and then what was done on 0, else what is told of the failure (RFC 1813, section 3.3)
 unfoldable pub results : Shape → Shape → Shape
-results done failed = choose names.status (is_listed status_words) BadEnum (λ n. if n == 0 then done else failed)
+results done failed =
+    choose names.status (is_listed status_words) BadEnum (λ n. if n == 0 then done else failed)
 
 -- ---- MOUNT version 3
 
@@ -106,7 +116,8 @@ flavor = word names.flavor
 unfoldable pub mount_ok : Shape
 mount_ok = handle then counted names.flavors no_maximum flavor
 
--- a mountbody: a hostname of at most 255 bytes and a directory of at most 1024 (RFC 1813, sections 5.1.2 and 5.2.2)
+-- a mountbody: a hostname of at most 255 bytes and a directory of at most 1024 (RFC 1813, sections
+-- 5.1.2 and 5.2.2)
 unfoldable pub mounted : Shape
 mounted = opaque Text names.hostname 255 then opaque Text names.directory 1024
 
@@ -118,7 +129,8 @@ mount_list = linked names.entry mounted
 unfoldable pub group : Shape
 group = opaque Text names.name 255
 
--- an exportnode: a directory of at most 1024 bytes and its groups (RFC 1813, sections 5.1.2 and 5.2.5)
+-- an exportnode: a directory of at most 1024 bytes and its groups (RFC 1813, sections 5.1.2 and
+-- 5.2.5)
 unfoldable pub export : Shape
 export = opaque Text names.directory 1024 then linked names.group group
 

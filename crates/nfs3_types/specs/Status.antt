@@ -6,7 +6,9 @@ use Rattle.nfs3_types.specs.declared.status.Failure.{Failure}
 use Rattle.nfs3_types.specs.declared.status.Failure.TheVariants.{Perm, NoEnt, Io, Nxio, Acces, Exist, XDev, NoDev, NotDir, IsDir, Inval, FBig, NoSpc, RoFs, MLink, NameTooLong, NotEmpty, DQuot, Stale, Remote, BadHandle, NotSync, BadCookie, NotSupp, TooSmall, ServerFault, BadType, Jukebox}
 
 abbrev pub status_words : List ℕ
-status_words = 0 ∷ 1 ∷ 2 ∷ 5 ∷ 6 ∷ 13 ∷ 17 ∷ 18 ∷ 19 ∷ 20 ∷ 21 ∷ 22 ∷ 27 ∷ 28 ∷ 30 ∷ 31 ∷ 63 ∷ 66 ∷ 69 ∷ 70 ∷ 71 ∷ 10001 ∷ 10002 ∷ 10003 ∷ 10004 ∷ 10005 ∷ 10006 ∷ 10007 ∷ 10008 ∷ []
+status_words =
+    0 ∷ 1 ∷ 2 ∷ 5 ∷ 6 ∷ 13 ∷ 17 ∷ 18 ∷ 19 ∷ 20 ∷ 21 ∷ 22 ∷ 27 ∷ 28 ∷ 30 ∷ 31 ∷ 63 ∷ 66 ∷ 69 ∷ 70
+    ∷ 71 ∷ 10001 ∷ 10002 ∷ 10003 ∷ 10004 ∷ 10005 ∷ 10006 ∷ 10007 ∷ 10008 ∷ []
 
 abbrev pub failure_number : Failure → ℕ
 failure_number Perm = 1

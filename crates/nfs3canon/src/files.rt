@@ -47,7 +47,7 @@ pub fn counted<F: Files, S: BuildHasher + Drop>(
     name: &str,
 ) -> Outcome
     ensures counts { (bytes : List ℕ) → F.holds files.now name.now ≡ Some bytes
-        → CountsFile bytes result }
+        → CountsFile name.now bytes result }
 {
     match files.open(name) {
         Ok(file) => Outcome::Counted(check(alloc, hashers, &mut FromRead::new(file))),
@@ -65,7 +65,8 @@ pub fn compared<F: Files, S: BuildHasher + Drop>(
     second: &str,
 ) -> Outcome
     ensures compares { (bytes other : List ℕ) → F.holds files.now first.now ≡ Some bytes
-        → F.holds files.now second.now ≡ Some other → ComparesFiles bytes other result }
+        → F.holds files.now second.now ≡ Some other
+        → ComparesFiles first.now second.now bytes other result }
 {
     let source = match files.open(first) {
         Ok(source) => source,

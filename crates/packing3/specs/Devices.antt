@@ -4,6 +4,8 @@ use Rattle.capture3.specs.declared.fault.Error.{Error}
 use Rattle.capture3.specs.Entries.{CountsReading}
 
 -- A read that failed is the last, and counts once for its source; without one, nothing counts.
-abbrev pub CountsReadings : {X : Type 0} (old_client client old_server server : ℕ) → Result X Error → Type 0
+abbrev pub CountsReadings : {X : Type 0} (old_client client old_server server : ℕ) → Result X Error
+    → Type 0
 CountsReadings old_client client old_server server result =
-    (CountsReading old_client client result × (server ≡ old_server)) ⊎ ((client ≡ old_client) × CountsReading old_server server result)
+    (CountsReading old_client client result × (server ≡ old_server))
+        ⊎ ((client ≡ old_client) × CountsReading old_server server result)

@@ -1,4 +1,5 @@
--- A packing, and the histories for which it stands: what its sink held before, and the pairs of streams that were added.
+-- A packing, and the histories for which it stands: what its sink held before, and the pairs of
+-- streams that were added.
 use Rattle.std.specs.Prelude.{◌≡◌, ◌⊎◌, ℕ, List, [], ◌∷◌, ◌++◌, length, Option, None, Result, Ok, Err}
 use Rattle.capture3.specs.Told.{Gave, IsSpent, Told}
 use Rattle.std.specs.Io.KnownBytes.{Appends}
@@ -20,7 +21,8 @@ pub record HasWrittenCapture (old new : Option (List ℕ)) (pairs : List Streams
   pub appended : Appends old new file
 
 -- A front of it is written, and a write or the flush failed.
-pub record HasWrittenFront (old new : Option (List ℕ)) (pairs : List Streams) (error : Error) : Type 0 where
+pub record HasWrittenFront (old new : Option (List ℕ)) (pairs : List Streams)
+    (error : Error) : Type 0 where
   pub file : List ℕ
   pub packed : IsPacked file pairs
   pub appended : AppendsFront old new file
@@ -41,10 +43,13 @@ module _ {W : Type 0} where
 
   -- A write or a flush that failed counts once, and nothing else counts.
   abbrev pub CountsWrites : {X : Type 0} → (W → ℕ) → Packing W → Packing W → Result X Error → Type 0
-  CountsWrites failures old new result = CountsWriting (failures (sink_of old)) (failures (sink_of new)) result
+  CountsWrites failures old new result =
+      CountsWriting (failures (sink_of old)) (failures (sink_of new)) result
 
-  -- The sink held `old` before the start, and was given the magic and the connections of these pairs since.
-  pub record HasAdded (written : W → Option (List ℕ)) (packing : Packing W) (old : Option (List ℕ)) (pairs : List Streams) : Type 0 where
+  -- The sink held `old` before the start, and was given the magic and the connections of these
+  -- pairs since.
+  pub record HasAdded (written : W → Option (List ℕ)) (packing : Packing W) (old : Option (List ℕ))
+      (pairs : List Streams) : Type 0 where
     pub going : ending_of packing ≡ None
     pub front : List ℕ
     pub packed : ArePacked front pairs
@@ -53,16 +58,22 @@ module _ {W : Type 0} where
     pub streamed : packing.extent.streamed ≡ total_size pairs
     pub at : packing.extent.at ≡ length front
 
-  -- One pair more is added, whose sources are read to their ends. Or no pair has room, and nothing was read or written. Or an error came
-  -- while the pair was read and written.
-  abbrev pub AddsStreams : (W → Option (List ℕ)) → Packing W → (old : Option (List ℕ)) (client server : Told) → List Streams → Streams → Result (Unit {0}) Error → Type 0
-  AddsStreams written new old client server pairs streams (Ok done) = IsSpent client × IsSpent server × HasAdded written new old (pairs ++ streams ∷ [])
+  -- One pair more is added, whose sources are read to their ends. Or no pair has room, and nothing
+  -- was read or written. Or an error came while the pair was read and written.
+  abbrev pub AddsStreams : (W → Option (List ℕ)) → Packing W
+      → (old : Option (List ℕ)) (client server : Told) → List Streams → Streams
+      → Result (Unit {0}) Error → Type 0
+  AddsStreams written new old client server pairs streams (Ok done) = IsSpent client
+      × IsSpent server × HasAdded written new old (pairs ++ streams ∷ [])
   AddsStreams written new old client server pairs streams (Err error) =
-      ((streams ≡ record { client = []; server = [] }) × HasNoRoom old (written (sink_of new)) pairs error)
+      ((streams ≡ record { client = []; server = [] })
+          × HasNoRoom old (written (sink_of new)) pairs error)
       ⊎ BreaksOff old (written (sink_of new)) (pairs ++ streams ∷ []) error
 
   -- the same, with the streams that the sources gave in the call
-  pub record AddsPair (written : W → Option (List ℕ)) (new : Packing W) (old : Option (List ℕ)) (old_client client old_server server : Told) (pairs : List Streams) (result : Result (Unit {0}) Error) : Type 0 where
+  pub record AddsPair (written : W → Option (List ℕ)) (new : Packing W) (old : Option (List ℕ))
+      (old_client client old_server server : Told) (pairs : List Streams)
+      (result : Result (Unit {0}) Error) : Type 0 where
     pub streams : Streams
     pub from_client : Gave old_client client streams.client
     pub from_server : Gave old_server server streams.server
@@ -70,10 +81,13 @@ module _ {W : Type 0} where
 
   -- ---- the start
 
-  -- Memory ran out, and the sink is as it was; or a write failed, and a front of the magic is written.
+  -- Memory ran out, and the sink is as it was; or a write failed, and a front of the magic is
+  -- written.
   abbrev pub FailsToStart : (W → Option (List ℕ)) → W → Error → W → Type 0
-  FailsToStart written sink error new = ((error ≡ errors.Memory) × (new ≡ sink)) ⊎ ((error ≡ errors.Write) × AppendsFront (written sink) (written new) (magic One))
+  FailsToStart written sink error new = ((error ≡ errors.Memory) × (new ≡ sink))
+      ⊎ ((error ≡ errors.Write) × AppendsFront (written sink) (written new) (magic One))
 
   abbrev pub CountsStart : (W → ℕ) → W → Result (Packing W) (Error × W) → Type 0
   CountsStart failures sink (Ok packing) = failures (sink_of packing) ≡ failures sink
-  CountsStart failures sink (Err failed) = CountsWriting {X = Unit {0}} (failures sink) (failures failed.1) (Err failed.0)
+  CountsStart failures sink (Err failed) =
+      CountsWriting {X = Unit {0}} (failures sink) (failures failed.1) (Err failed.0)

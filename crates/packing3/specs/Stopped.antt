@@ -12,7 +12,8 @@ use Rattle.capture3.specs.Chunks.{max_bytes}
 use Rattle.canon3.specs.Bytes.{chunk_bytes}
 use Rattle.packing3.specs.Packed.{ArePacked, IsPacked}
 
--- A chunk comes next. With it the stream bytes of all that was read, `total`, pass the limit, and without it they keep it. The fault is at its length word.
+-- A chunk comes next. With it the stream bytes of all that was read, `total`, pass the limit, and
+-- without it they keep it. The fault is at its length word.
 pub record ChunkPassesLimit (fault : Fault) (at : ℕ) (next : List ℕ) (total : ℕ) : Type 0 where
   pub chunk : List ℕ
   pub more : List ℕ
@@ -28,8 +29,10 @@ Tells errors.Read at next total = ⊤
 Tells errors.Write at next total = ⊤
 Tells errors.Memory at next total = ⊥
 
--- A front is written of the capture of all that was read: of what was added, and of the pair that an error stopped.
-pub record BreaksOff (old new : Option (List ℕ)) (pairs : List Streams) (error : Error) : Type 0 where
+-- A front is written of the capture of all that was read: of what was added, and of the pair that
+-- an error stopped.
+pub record BreaksOff (old new : Option (List ℕ)) (pairs : List Streams)
+    (error : Error) : Type 0 where
   pub file : List ℕ
   pub front : List ℕ
   pub next : List ℕ
@@ -38,10 +41,14 @@ pub record BreaksOff (old new : Option (List ℕ)) (pairs : List Streams) (error
   pub appended : Appends old new front
   pub told : Tells error (length front) next (total_size pairs)
 
--- The pairs are as many as a capture may have. They are written, and the fault is at the byte after them.
-pub record HasNoRoom (old new : Option (List ℕ)) (pairs : List Streams) (error : Error) : Type 0 where
+-- The pairs are as many as a capture may have. They are written, and the fault is at the byte after
+-- them.
+pub record HasNoRoom (old new : Option (List ℕ)) (pairs : List Streams)
+    (error : Error) : Type 0 where
   pub front : List ℕ
   pub packed : ArePacked front pairs
   pub appended : Appends old new front
   pub full : length pairs ≡ max_connections
-  pub is : error ≡ errors.Refused (record { place = places.File (length front); reason = reasons.TooManyConnections })
+  pub is : error
+      ≡ errors.Refused (record { place = places.File (length front); reason =
+      reasons.TooManyConnections })

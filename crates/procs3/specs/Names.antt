@@ -43,4 +43,5 @@ mount_name n =
 
 -- the name of a procedure of NFS version 3 or MOUNT version 3
 abbrev pub name_of_procedure : ProcId → Option (List ℕ)
-name_of_procedure id = if is_nfs id then nfs_name id.proc_no else (if is_mount id then mount_name id.proc_no else None)
+name_of_procedure id =
+    if is_nfs id then nfs_name id.proc_no else (if is_mount id then mount_name id.proc_no else None)

@@ -1,4 +1,5 @@
--- How the arguments and the results of each procedure are laid out (RFC 1813, sections 3.3 and 5.2).
+-- How the arguments and the results of each procedure are laid out (RFC 1813, sections 3.3 and
+-- 5.2).
 use Rattle.std.specs.Prelude.{ℕ, Bool, ◌==◌, ◌&&◌, if◌then◌else◌}
 use Rattle.xdr3.specs.Layout.{Layout, exactly, rest}
 use Rattle.xdr3.specs.Shape.{nothing}
@@ -15,7 +16,8 @@ is_nfs id = (id.prog == 100003) && (id.vers == 3)
 abbrev pub is_mount : ProcId → Bool
 is_mount id = (id.prog == 100005) && (id.vers == 3)
 
--- Each row is the number of a procedure and what belongs to it. Of a procedure that is not listed it is all bytes that are left.
+-- Each row is the number of a procedure and what belongs to it. Of a procedure that is not listed
+-- it is all bytes that are left.
 
 -- procedure n of NFS has the arguments of section 3.3.n of RFC 1813
 abbrev pub nfs_arguments : ℕ → Layout
@@ -55,8 +57,8 @@ mount_arguments n =
     (if n == 5 then exactly nothing else
     rest names.rest))))))
 
--- Procedure n of NFS has the results of section 3.3.n of RFC 1813: after a status what is told of a success, and what is told of a
--- failure.
+-- Procedure n of NFS has the results of section 3.3.n of RFC 1813: after a status what is told of a
+-- success, and what is told of a failure.
 abbrev pub nfs_results : ℕ → Layout
 nfs_results n =
     (if n == 0 then exactly nothing else
@@ -96,8 +98,12 @@ mount_results_of n =
 
 -- the arguments of a call; of a procedure of any other program, all bytes that are left
 unfoldable pub arguments_of : ProcId → Layout
-arguments_of id = if is_nfs id then nfs_arguments id.proc_no else (if is_mount id then mount_arguments id.proc_no else rest names.rest)
+arguments_of id =
+    if is_nfs id then nfs_arguments id.proc_no else
+    (if is_mount id then mount_arguments id.proc_no else rest names.rest)
 
 -- the results of a successful call; of a procedure of any other program, all bytes that are left
 unfoldable pub results_of : ProcId → Layout
-results_of id = if is_nfs id then nfs_results id.proc_no else (if is_mount id then mount_results_of id.proc_no else rest names.rest)
+results_of id =
+    if is_nfs id then nfs_results id.proc_no else
+    (if is_mount id then mount_results_of id.proc_no else rest names.rest)

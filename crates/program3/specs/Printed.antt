@@ -25,9 +25,12 @@ use Rattle.program3.specs.declared.outcome.Report.{Report}
 abbrev pub newline : List ℕ
 newline = 10 ∷ []
 
--- a byte of a file's name: a control character or a backslash is a backslash, an x and two lower-case hexadecimal digits
+-- a byte of a file's name: a control character or a backslash is a backslash, an x and two
+-- lower-case hexadecimal digits
 abbrev pub escaped_byte : ℕ → List ℕ
-escaped_byte b = if nat_le 32 b && not (b == 127) && not (b == 92) then b ∷ [] else 92 ∷ 120 ∷ encode_lower (b ∷ [])
+escaped_byte b =
+    if nat_le 32 b && not (b == 127) && not (b == 92) then b ∷ [] else 92 ∷ 120
+    ∷ encode_lower (b ∷ [])
 
 abbrev pub escaped : List ℕ → List ℕ
 escaped bytes = flat_map escaped_byte bytes
@@ -38,7 +41,9 @@ unopened_of name = concat (codes "open failed: " ∷ escaped name ∷ newline �
 
 -- the line that tells the counts
 abbrev pub counts_of : Summary → List ℕ
-counts_of s = concat (codes "ok connections=" ∷ decimal s.connections ∷ codes " calls=" ∷ decimal s.calls ∷ codes " replies=" ∷ decimal s.replies ∷ codes " handles=" ∷ decimal s.handles ∷ newline ∷ [])
+counts_of s =
+    concat (codes "ok connections=" ∷ decimal s.connections ∷ codes " calls=" ∷ decimal s.calls
+    ∷ codes " replies=" ∷ decimal s.replies ∷ codes " handles=" ∷ decimal s.handles ∷ newline ∷ [])
 
 -- the line that tells a mask by these words
 abbrev pub mask_line : List ℕ → List ℕ
@@ -52,7 +57,9 @@ side_of Server = codes "server"
 -- the line that tells a place in a capture, and a reason
 abbrev pub line_at : Place → List ℕ → List ℕ
 line_at (File at) reason = concat (codes "file " ∷ decimal at ∷ codes ": " ∷ reason ∷ newline ∷ [])
-line_at (Record conn side rec_no byte) reason = concat (codes "connection " ∷ decimal conn ∷ codes " " ∷ side_of side ∷ codes " record " ∷ decimal rec_no ∷ codes " byte " ∷ decimal byte ∷ codes ": " ∷ reason ∷ newline ∷ [])
+line_at (Record conn side rec_no byte) reason =
+    concat (codes "connection " ∷ decimal conn ∷ codes " " ∷ side_of side ∷ codes " record "
+    ∷ decimal rec_no ∷ codes " byte " ∷ decimal byte ∷ codes ": " ∷ reason ∷ newline ∷ [])
 
 -- the line that tells a fault
 abbrev pub fault_of : Fault → List ℕ
@@ -87,7 +94,9 @@ prefix_of Second = codes "second: "
 -- the line that tells the first place at which two captures part
 abbrev pub differing_at : Place → List ℕ
 differing_at (File at) = concat (codes "differ at file " ∷ decimal at ∷ newline ∷ [])
-differing_at (Record conn side rec_no byte) = concat (codes "differ at connection " ∷ decimal conn ∷ codes " " ∷ side_of side ∷ codes " record " ∷ decimal rec_no ∷ newline ∷ [])
+differing_at (Record conn side rec_no byte) =
+    concat (codes "differ at connection " ∷ decimal conn ∷ codes " " ∷ side_of side
+    ∷ codes " record " ∷ decimal rec_no ∷ newline ∷ [])
 
 -- status 0 for captures that are the same, and 1 for captures that are not
 abbrev pub PrintsVerdict : Verdict → Report → Type 0
@@ -106,15 +115,18 @@ PrintsLineFault lines.SameName = Prints 4 [] (codes "output names an input" ++ n
 PrintsLineFault lines.NotText = Prints 4 [] (codes "a word of the line is not UTF-8" ++ newline)
 PrintsLineFault lines.Memory = PrintsError errors.Memory
 
--- A listing and a packing have written what they have to say. Of two captures the one that could not be read is named.
+-- A listing and a packing have written what they have to say. Of two captures the one that could
+-- not be read is named.
 abbrev pub PrintsOutcome : Outcome → Report → Type 0
 PrintsOutcome (Counted (Ok summary)) = Prints 0 (counts_of summary) []
 PrintsOutcome (Counted (Err error)) = PrintsError error
-PrintsOutcome (Masked summary mask) = Prints 0 (counts_of summary ++ mask_line (string_bytes mask)) []
+PrintsOutcome (Masked summary mask) =
+    Prints 0 (counts_of summary ++ mask_line (string_bytes mask)) []
 PrintsOutcome (Listed (Ok summary)) = Prints 0 [] []
 PrintsOutcome (Listed (Err error)) = PrintsError error
 PrintsOutcome (Compared (Ok verdict)) = PrintsVerdict verdict
-PrintsOutcome (Compared (Err error)) = Prints (status_of error.error) [] (prefix_of error.which ++ error_line error.error)
+PrintsOutcome (Compared (Err error)) =
+    Prints (status_of error.error) [] (prefix_of error.which ++ error_line error.error)
 PrintsOutcome (Packed (Ok done)) = Prints 0 [] []
 PrintsOutcome (Packed (Err error)) = PrintsError error
 PrintsOutcome (Unopened name) = Prints 3 [] (unopened_of (string_bytes name))

@@ -6,5 +6,7 @@ use Rattle.capture3.specs.declared.fault.Error.TheVariants as errors
 use Rattle.canon3.specs.declared.summary.Summary.{Summary}
 
 -- all of it, and what came of the job stays, or a write failed
-abbrev pub WritesOut : Result Summary Error → Option (List ℕ) → Result Summary Error → Option (List ℕ) → Type 0
-WritesOut came gathered now written = (now ≡ Err errors.Write) ⊎ ((now ≡ came) × Keeps gathered written)
+abbrev pub WritesOut : Result Summary Error → Option (List ℕ) → Result Summary Error
+    → Option (List ℕ) → Type 0
+WritesOut came gathered now written = (now ≡ Err errors.Write)
+    ⊎ ((now ≡ came) × Keeps gathered written)

@@ -4,7 +4,8 @@ use Rattle.record_mark.specs.Machine.{Next, Goes, Ends, within}
 use Rattle.record_mark.specs.Word.{word_next}
 use Rattle.record_mark.specs.RecordMark.{max_body, is_last, length_of, IsRecord, IsTooLong, InHeader, InBytes}
 
--- between records; in a header, after the body's bytes so far; or in a fragment's bytes, with how many are left after the next
+-- between records; in a header, after the body's bytes so far; or in a fragment's bytes, with how
+-- many are left after the next
 pub data Joining : Type 0 where
   Between : Joining
   Header : (body part : List ℕ) → Joining
@@ -27,7 +28,9 @@ expecting body last (suc left) = Goes (Bytes body last left)
 
 -- a header has come, with which the body fits its limit or not
 abbrev pub headed : List ℕ → ℕ → Next Joining Joined
-headed body header = cond (nat_lt max_body (length body + length_of header)) (Ends (TooLong (length body))) (expecting body (is_last header) (length_of header))
+headed body header =
+    cond (nat_lt max_body (length body + length_of header)) (Ends (TooLong (length body)))
+    (expecting body (is_last header) (length_of header))
 
 abbrev pub join_next : Joining → ℕ → Next Joining Joined
 join_next Between byte = within (Header []) (headed []) (word_next [] byte)

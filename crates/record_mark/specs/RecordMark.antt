@@ -23,9 +23,11 @@ pub record IsHeader (header : List ℕ) (last : Bool) (n : ℕ) : Type 0 where
 
 -- a header, and the bytes that the fragment carries (RFC 5531, section 11)
 abbrev pub IsFragment : Bool → List ℕ → List ℕ → Type 0
-IsFragment last bytes carried = (header : List ℕ) × (bytes ≡ header ++ carried) × IsHeader header last (length carried)
+IsFragment last bytes carried = (header : List ℕ) × (bytes ≡ header ++ carried)
+    × IsHeader header last (length carried)
 
--- fragments joined, only the last with the top bit. The body is what they carry (RFC 5531, section 11)
+-- fragments joined, only the last with the top bit. The body is what they carry (RFC 5531, section
+-- 11)
 pub record IsRecord (bytes body : List ℕ) : Type 0 where
   pub fragments : List (List ℕ)
   pub last : List ℕ
@@ -41,7 +43,8 @@ pub record IsRecord (bytes body : List ℕ) : Type 0 where
 abbrev pub Marks : List ℕ → List (List ℕ) → Type 0
 Marks stream bodies = Joins IsRecord stream bodies
 
--- The bytes end with a whole header, with which the body would pass the limit. at is how many bytes of the body stand before it (RFC 5531, section 11)
+-- The bytes end with a whole header, with which the body would pass the limit. at is how many bytes
+-- of the body stand before it (RFC 5531, section 11)
 pub record IsTooLong (bytes : List ℕ) (at : ℕ) : Type 0 where
   pub fragments : List (List ℕ)
   pub front : List ℕ
@@ -66,7 +69,8 @@ pub record InHeader (bytes body part : List ℕ) : Type 0 where
   pub carried : body ≡ concat fragments
   pub fits : length body ≤ max_body
 
--- A record is begun, and after the next byte this many bytes are left of its last fragment here (RFC 5531, section 11)
+-- A record is begun, and after the next byte this many bytes are left of its last fragment here
+-- (RFC 5531, section 11)
 pub record InBytes (bytes body : List ℕ) (last : Bool) (left : ℕ) : Type 0 where
   pub fragments : List (List ℕ)
   pub front : List ℕ
@@ -80,12 +84,15 @@ pub record InBytes (bytes body : List ℕ) (last : Bool) (left : ℕ) : Type 0 w
 
 -- a record that is begun and not whole, and the bytes of its body so far (RFC 5531, section 11)
 abbrev pub IsOpen : List ℕ → List ℕ → Type 0
-IsOpen bytes body = ((part : List ℕ) × InHeader bytes body part) ⊎ ((last : Bool) × (left : ℕ) × InBytes bytes body last left)
+IsOpen bytes body = ((part : List ℕ) × InHeader bytes body part)
+    ⊎ ((last : Bool) × (left : ℕ) × InBytes bytes body last left)
 
--- none of a record's bytes, or some that are not all, and the bytes of its body so far (RFC 5531, section 11)
+-- none of a record's bytes, or some that are not all, and the bytes of its body so far (RFC 5531,
+-- section 11)
 abbrev pub IsUnfinished : List ℕ → List ℕ → Type 0
 IsUnfinished bytes body = ((bytes ≡ []) × (body ≡ [])) ⊎ IsOpen bytes body
 
--- the bytes are a record, or unfinished, and these are the bytes of its body so far (RFC 5531, section 11)
+-- the bytes are a record, or unfinished, and these are the bytes of its body so far (RFC 5531,
+-- section 11)
 abbrev pub HasBody : List ℕ → List ℕ → Type 0
 HasBody bytes body = IsRecord bytes body ⊎ IsUnfinished bytes body

@@ -9,7 +9,8 @@ pub data Taking : Type 0 where
   Led : Run Joining Joined → Taking
   OutOfMemory : Taking
 
--- These bytes, and no others, were taken since the start of the record: a record, or what one begins with, or what ends with a header that passes the limit.
+-- These bytes, and no others, were taken since the start of the record: a record, or what one
+-- begins with, or what ends with a header that passes the limit.
 abbrev pub HasTaken : Taking → List ℕ → Type 0
 HasTaken (Led (Runs s)) bytes = HasJoined bytes s
 HasTaken (Led (Stops end)) bytes = EndsRecord bytes end
@@ -54,7 +55,8 @@ body_of _ = []
 
 -- the first n bytes of the piece make the record whole
 abbrev pub EndsWithin : List ℕ → List ℕ → ℕ → Type 0
-EndsWithin bytes piece n = (n ≤ length piece) × ((body : List ℕ) × IsRecord (bytes ++ take n piece) body)
+EndsWithin bytes piece n = (n ≤ length piece)
+    × ((body : List ℕ) × IsRecord (bytes ++ take n piece) body)
 
 -- all n bytes of the piece do not make it whole
 abbrev pub GoesOn : List ℕ → List ℕ → ℕ → Type 0

@@ -14,7 +14,8 @@ IsWord bytes n = (length bytes ≡ 4) × (number bytes ≡ n)
 -- the bytes are pieces joined, one for each of the things, in order
 abbrev pub Joins : {X : Type 0} → (List ℕ → X → Type 0) → List ℕ → List X → Type 0
 Joins Spells bytes [] = bytes ≡ []
-Joins Spells bytes (x ∷ xs) = (front : List ℕ) × (rest : List ℕ) × (bytes ≡ front ++ rest) × Spells front x × Joins Spells rest xs
+Joins Spells bytes (x ∷ xs) = (front : List ℕ) × (rest : List ℕ) × (bytes ≡ front ++ rest)
+    × Spells front x × Joins Spells rest xs
 
 -- the machine that reads one word. Its state is the bytes so far
 abbrev pub word_next : List ℕ → ℕ → Next (List ℕ) ℕ

@@ -11,15 +11,20 @@ use Rattle.rpc_head.specs.Names.{head_names}
 
 abbrev pub parameter_items : AuthSys → List Item
 parameter_items s =
-    followed_by (Word head_names.stamp s.stamp ∷ Opaque Text head_names.machinename s.machinename.now ∷ Word head_names.uid s.uid ∷ Word head_names.gid s.gid ∷ [])
+    followed_by (Word head_names.stamp s.stamp
+        ∷ Opaque Text head_names.machinename s.machinename.now ∷ Word head_names.uid s.uid
+        ∷ Word head_names.gid s.gid ∷ [])
     (count_items (groups_of s.gids))
 
 -- after the number of their bytes
 abbrev pub auth_sys_items : AuthSys → List Item
-auth_sys_items s = followed_by (Word head_names.cred_length (length (zero_spelling (parameter_items s))) ∷ []) (parameter_items s)
+auth_sys_items s =
+    followed_by (Word head_names.cred_length (length (zero_spelling (parameter_items s)))
+    ∷ []) (parameter_items s)
 
 abbrev pub credential_items : Cred → List Item
-credential_items (Plain body) = followed_by (Word head_names.cred_flavor 0 ∷ []) (Opaque Var head_names.cred_body body.now ∷ [])
+credential_items (Plain body) =
+    followed_by (Word head_names.cred_flavor 0 ∷ []) (Opaque Var head_names.cred_body body.now ∷ [])
 credential_items (Sys s) = followed_by (Word head_names.cred_flavor 1 ∷ []) (auth_sys_items s)
 
 abbrev pub verifier_items : Verf → List Item

@@ -12,8 +12,10 @@ use Rattle.rpc_head.specs.Shapes.{message_start}
 abbrev pub start_items : MessageStart → List Item
 start_items s = Word head_names.xid s.xid ∷ Word head_names.mtype (word_of s.is_reply) ∷ []
 
--- The start's items stand between the old place and the new one. A stop is where and why the bytes from the old place on are
--- refused.
+-- The start's items stand between the old place and the new one. A stop is where and why the bytes
+-- from the old place on are refused.
 abbrev pub IsStart : View → Result MessageStart Stop → View → Type 0
-IsStart old (Ok s) new = Reads message_start (drop old.at old.body) (start_items s) (drop new.at old.body)
-IsStart old (Err stop) new = (after : ℕ) × Refuses message_start (drop old.at old.body) after stop.reason × (stop.at ≡ old.at + after)
+IsStart old (Ok s) new =
+    Reads message_start (drop old.at old.body) (start_items s) (drop new.at old.body)
+IsStart old (Err stop) new = (after : ℕ)
+    × Refuses message_start (drop old.at old.body) after stop.reason × (stop.at ≡ old.at + after)

@@ -16,17 +16,20 @@ reply_start = word head_names.xid then listed head_names.mtype (1 ∷ [])
 
 -- a call's items begin with xid, mtype, rpcvers, prog, vers and proc
 abbrev pub procedure_in : List Item → ProcId
-procedure_in items = record { prog = word_in items 3; vers = word_in items 4; proc_no = word_in items 5 }
+procedure_in items =
+    record { prog = word_in items 3; vers = word_in items 4; proc_no = word_in items 5 }
 
 -- a call, whose procedure chooses how its arguments are laid out
 unfoldable pub call_layout : (ProcId → Layout) → Layout
 call_layout arguments = after (call_start then call_head) (λ items. arguments (procedure_in items))
 
--- An accepted reply's items begin with xid, mtype, reply_stat, verf_flavor, verf_body and accept_stat. Results follow where
--- reply_stat is MSG_ACCEPTED (0) and accept_stat is SUCCESS (0).
+-- An accepted reply's items begin with xid, mtype, reply_stat, verf_flavor, verf_body and
+-- accept_stat. Results follow where reply_stat is MSG_ACCEPTED (0) and accept_stat is SUCCESS (0).
 abbrev pub has_results : List Item → Bool
 has_results items = (word_in items 2 == 0) && (word_in items 5 == 0)
 
 -- a reply, with these results after an accepted success and nothing after any other head
 unfoldable pub reply_layout : Layout → Layout
-reply_layout results = after (reply_start then reply_head) (λ items. if has_results items then results else exactly nothing)
+reply_layout results =
+    after (reply_start then reply_head)
+    (λ items. if has_results items then results else exactly nothing)

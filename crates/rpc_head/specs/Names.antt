@@ -1,4 +1,5 @@
--- The names of items, as the fields of RFC 5531 (section 9, appendix A). They stay folded in proofs, save where a walk says them.
+-- The names of items, as the fields of RFC 5531 (section 9, appendix A). They stay folded in
+-- proofs, save where a walk says them.
 use Rattle.std.specs.Prelude.{ℕ, List, codes}
 
 pub record HeadNames : Type 0 where

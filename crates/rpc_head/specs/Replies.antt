@@ -26,5 +26,7 @@ deny_items (RpcMismatch low high) = Word head_names.reject_stat 0 ∷ version_it
 deny_items (AuthError stat) = Word head_names.reject_stat 1 ∷ Word head_names.auth_stat stat ∷ []
 
 abbrev pub reply_head_items : ReplyHead → List Item
-reply_head_items (Accepted verf accept) = followed_by (Word head_names.reply_stat 0 ∷ []) (followed_by (verifier_items verf) (accept_items accept))
+reply_head_items (Accepted verf accept) =
+    followed_by (Word head_names.reply_stat 0
+    ∷ []) (followed_by (verifier_items verf) (accept_items accept))
 reply_head_items (Denied deny) = followed_by (Word head_names.reply_stat 1 ∷ []) (deny_items deny)

@@ -1,4 +1,5 @@
--- The items of arguments and results of the procedures that make a file (RFC 1813, sections 3.3.8 to 3.3.11).
+-- The items of arguments and results of the procedures that make a file (RFC 1813, sections 3.3.8
+-- to 3.3.11).
 use Rattle.std.specs.Prelude.{List, [], ◌∷◌}
 use Rattle.xdr3.specs.Item.{Item, followed_by, Fixed, Opaque, Text, Word}
 use Rattle.nfs3_types.specs.Items.{dir_op_items, post_op_attr_items, post_op_fh_items, settable_items, wcc_items}

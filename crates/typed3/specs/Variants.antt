@@ -1,5 +1,5 @@
--- The name of the procedure that a value belongs to (RFC 1813, sections 3.3 and 5.2), and none of raw bytes. Several procedures have
--- the same items, so that the items alone do not tell it.
+-- The name of the procedure that a value belongs to (RFC 1813, sections 3.3 and 5.2), and none of
+-- raw bytes. Several procedures have the same items, so that the items alone do not tell it.
 use Rattle.std.specs.Prelude.{ℕ, List, Option, Some, None, codes}
 use Rattle.typed3.specs.declared.args.Args.{Args}
 use Rattle.typed3.specs.declared.args.Args.TheVariants as args

@@ -10,4 +10,4 @@ mod summing;
 pub use counting::{GETATTR, count_calls};
 pub use naming::looked_up_name;
 pub use packing::pack_two;
-pub use summing::{WRITE, bytes_to_write};
+pub use summing::{DataBytes, WRITE, bytes_to_write};

@@ -23,12 +23,13 @@ pub const WRITE: ProcId = ProcId {
 
 /// A visitor that sums the lengths of the items called `data`, up to 2⁶⁴ - 1.
 #[derive(Drop)]
-struct DataBytes {
+pub struct DataBytes {
     sum: u64,
 }
 
 impl DataBytes {
-    fn new() -> DataBytes
+    /// Returns a visitor of no items.
+    pub fn new() -> DataBytes
         ensures { HasSummed result [] }
     {
         DataBytes { sum: 0 }

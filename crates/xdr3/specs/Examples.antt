@@ -15,14 +15,17 @@ words numbers = flat_map word_bytes numbers
 
 -- the items of a whole body, or its first fault
 abbrev pub reading_verdict : Layout → List ℕ → Result (List Item) Stop
-reading_verdict layout body = reading_layout layout body 0 >>= λ x. if x.1 == length body then Ok x.0 else refused x.1 Trailing
+reading_verdict layout body =
+    reading_layout layout body 0 >>= λ x. if x.1 == length body then Ok x.0 else refused x.1
+    Trailing
 
 abbrev pub IsRefused : Layout → List ℕ → ℕ → Reason → Type 0
 IsRefused layout body at reason = reading_verdict layout body ≡ refused at reason
 
 -- each cut of the body to one of these lengths is short there
 abbrev pub CutsAreShort : Layout → List ℕ → ℕ → List ℕ → Type 0
-CutsAreShort layout body at lengths = AllByRecursion (λ n. IsRefused layout (take n body) at Short) lengths
+CutsAreShort layout body at lengths =
+    AllByRecursion (λ n. IsRefused layout (take n body) at Short) lengths
 
 -- ---- the file of RFC 4506, section 7
 
@@ -30,19 +33,29 @@ CutsAreShort layout body at lengths = AllByRecursion (λ n. IsRefused layout (ta
 abbrev pub file_type : Shape
 file_type =
     choose (codes "kind") (λ n. nat_lt n 3) BadEnum
-    (λ n. if n == 0 then nothing else (if n == 1 then opaque Text (codes "creator") 255 else opaque Text (codes "interpretor") 255))
+    (λ n. if n == 0 then nothing else
+        (if n == 1 then opaque Text (codes "creator") 255 else opaque Text (codes "interpretor")
+        255))
 
 abbrev pub file : Layout
-file = exactly (opaque Text (codes "filename") 255 then file_type then opaque Text (codes "owner") 32 then opaque Var (codes "data") 65535)
+file = exactly
+    (opaque Text (codes "filename") 255 then file_type then opaque Text (codes "owner") 32 then
+    opaque Var (codes "data") 65535)
 
 -- the bytes, with residual bytes of this value
 abbrev pub file_bytes : ℕ → List ℕ
 file_bytes b =
-    words (9 ∷ []) ++ (codes "sillyprog" ++ (b ∷ b ∷ b ∷ words (2 ∷ 4 ∷ []) ++ (codes "lisp" ++ (words (4 ∷ []) ++ (codes "john" ++ (words (6 ∷ []) ++ (codes "(quit)" ++ b ∷ b ∷ [])))))))
+    words (9 ∷ [])
+        ++ (codes "sillyprog"
+        ++ (b ∷ b ∷ b ∷ words (2 ∷ 4 ∷ [])
+        ++ (codes "lisp"
+        ++ (words (4 ∷ [])
+        ++ (codes "john" ++ (words (6 ∷ []) ++ (codes "(quit)" ++ b ∷ b ∷ [])))))))
 
 abbrev pub file_items : List Item
 file_items =
-    Opaque Text (codes "filename") (codes "sillyprog") ∷ Word (codes "kind") 2 ∷ Opaque Text (codes "interpretor") (codes "lisp")
+    Opaque Text (codes "filename") (codes "sillyprog") ∷ Word (codes "kind") 2
+        ∷ Opaque Text (codes "interpretor") (codes "lisp")
     ∷ Opaque Text (codes "owner") (codes "john") ∷ Opaque Var (codes "data") (codes "(quit)") ∷ []
 
 pub record File : Type 0 where
@@ -72,21 +85,30 @@ choices = exactly (optional (codes "some") (word (codes "number")) then boolean 
 
 -- two words in as many bytes as a length says, and then the rest
 abbrev pub window : Layout
-window = after (sized (codes "length") (word (codes "first") then word (codes "second"))) (λ items. rest (codes "rest"))
+window = after (sized (codes "length") (word (codes "first") then word (codes "second")))
+    (λ items. rest (codes "rest"))
 
 pub record Parts : Type 0 where
-  pub two_strings : reading_verdict strings (words (1 ∷ 1 ∷ []) ++ (codes "a" ++ (0 ∷ 0 ∷ 0 ∷ words (1 ∷ 0 ∷ 0 ∷ [])))) ≡ Ok (
-      Word (codes "next") 1 ∷ Opaque Text (codes "item") (codes "a") ∷ Word (codes "next") 1 ∷ Opaque Text (codes "item") [] ∷ Word (codes "next") 0 ∷ [])
+  pub two_strings : reading_verdict strings (words (1 ∷ 1 ∷ [])
+      ++ (codes "a" ++ (0 ∷ 0 ∷ 0 ∷ words (1 ∷ 0 ∷ 0 ∷ [])))) ≡ Ok (
+      Word (codes "next") 1 ∷ Opaque Text (codes "item") (codes "a") ∷ Word (codes "next") 1
+          ∷ Opaque Text (codes "item") [] ∷ Word (codes "next") 0 ∷ [])
   pub open_list : CutsAreShort strings (words (1 ∷ 0 ∷ 0 ∷ [])) 8 (8 ∷ 11 ∷ [])
   pub bad_link : IsRefused strings (words (1 ∷ 0 ∷ 2 ∷ [])) 8 BadBool
-  pub two_numbers : reading_verdict numbers (words (2 ∷ 0 ∷ 5 ∷ 1 ∷ 0 ∷ [])) ≡ Ok (Word (codes "numbers") 2 ∷ Hyper (codes "number") 5 ∷ Hyper (codes "number") 4294967296 ∷ [])
+  pub two_numbers : reading_verdict numbers (words (2 ∷ 0 ∷ 5 ∷ 1 ∷ 0 ∷ []))
+      ≡ Ok (Word (codes "numbers") 2 ∷ Hyper (codes "number") 5 ∷ Hyper (codes "number") 4294967296
+      ∷ [])
   pub three_numbers : IsRefused numbers (words (3 ∷ [])) 0 TooLong
   pub one_number : CutsAreShort numbers (words (2 ∷ 0 ∷ 5 ∷ 0 ∷ [])) 12 (12 ∷ 16 ∷ [])
-  pub some : reading_verdict choices (words (1 ∷ 7 ∷ 1 ∷ [])) ≡ Ok (Word (codes "some") 1 ∷ Word (codes "number") 7 ∷ Word (codes "truth") 1 ∷ [])
-  pub none : reading_verdict choices (words (0 ∷ 0 ∷ [])) ≡ Ok (Word (codes "some") 0 ∷ Word (codes "truth") 0 ∷ [])
+  pub some : reading_verdict choices (words (1 ∷ 7 ∷ 1 ∷ []))
+      ≡ Ok (Word (codes "some") 1 ∷ Word (codes "number") 7 ∷ Word (codes "truth") 1 ∷ [])
+  pub none : reading_verdict choices (words (0 ∷ 0 ∷ []))
+      ≡ Ok (Word (codes "some") 0 ∷ Word (codes "truth") 0 ∷ [])
   pub bad_option : IsRefused choices (words (2 ∷ [])) 0 BadBool
   pub bad_truth : IsRefused choices (words (0 ∷ 2 ∷ [])) 4 BadBool
-  pub in_window : reading_verdict window (words (8 ∷ 1 ∷ 2 ∷ []) ++ 9 ∷ []) ≡ Ok (Word (codes "length") 8 ∷ Word (codes "first") 1 ∷ Word (codes "second") 2 ∷ Rest (codes "rest") (9 ∷ []) ∷ [])
+  pub in_window : reading_verdict window (words (8 ∷ 1 ∷ 2 ∷ []) ++ 9 ∷ [])
+      ≡ Ok (Word (codes "length") 8 ∷ Word (codes "first") 1 ∷ Word (codes "second") 2
+      ∷ Rest (codes "rest") (9 ∷ []) ∷ [])
   pub wide_window : IsRefused window (words (12 ∷ 1 ∷ 2 ∷ 3 ∷ [])) 12 AuthLength
   pub narrow_window : IsRefused window (words (4 ∷ 1 ∷ 2 ∷ [])) 8 AuthLength
   pub long_window : IsRefused window (words (401 ∷ [])) 0 TooLong

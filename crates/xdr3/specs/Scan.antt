@@ -11,14 +11,18 @@ use Rattle.xdr3.specs.View.{MovesOn, View}
 use Rattle.xdr3.specs.Visit.{Adds}
 
 -- Items of the shape stand between two places of one body, and a visitor was told them.
-unfoldable pub Scans : {V : Type 0} → (V → List Item → Type 0) → Shape → View → View → V → V → Type 0
+unfoldable pub Scans : {V : Type 0} → (V → List Item → Type 0) → Shape → View → View → V → V
+    → Type 0
 Scans stands shape old new before after =
-    (items : List Item) × (reading shape old.body old.at ≡ Ok (items, new.at)) × MovesOn old new × Adds stands before after items
+    (items : List Item) × (reading shape old.body old.at ≡ Ok (items, new.at)) × MovesOn old new
+        × Adds stands before after items
 
 -- A word that is accepted stands there, and a visitor was told it.
-unfoldable pub ScansWord : {V : Type 0} → (V → List Item → Type 0) → List ℕ → (ℕ → Bool) → Reason → ℕ → View → View → V → V → Type 0
+unfoldable pub ScansWord : {V : Type 0} → (V → List Item → Type 0) → List ℕ → (ℕ → Bool) → Reason
+    → ℕ → View → View → V → V → Type 0
 ScansWord stands name accepted other n old new before after =
-    (word_at accepted other old.body old.at ≡ Ok (n, new.at)) × MovesOn old new × Adds stands before after (Word name n ∷ [])
+    (word_at accepted other old.body old.at ≡ Ok (n, new.at)) × MovesOn old new
+        × Adds stands before after (Word name n ∷ [])
 
 -- The failure is that of reading the shape there, unless memory ran out.
 unfoldable pub Stops : Shape → View → GetError → Type 0
@@ -28,9 +32,11 @@ unfoldable pub StopsWord : (ℕ → Bool) → Reason → View → GetError → T
 StopsWord accepted other old error = Fails error (word_at accepted other old.body old.at)
 
 -- Items of the layout stand between two places of one body, and a visitor was told them.
-unfoldable pub ScansLayout : {V : Type 0} → (V → List Item → Type 0) → Layout → View → View → V → V → Type 0
+unfoldable pub ScansLayout : {V : Type 0} → (V → List Item → Type 0) → Layout → View → View → V → V
+    → Type 0
 ScansLayout stands layout old new before after =
-    (items : List Item) × (reading_layout layout old.body old.at ≡ Ok (items, new.at)) × MovesOn old new × Adds stands before after items
+    (items : List Item) × (reading_layout layout old.body old.at ≡ Ok (items, new.at))
+        × MovesOn old new × Adds stands before after items
 
 -- The failure is that of reading the layout there, unless memory ran out.
 unfoldable pub StopsLayout : Layout → View → GetError → Type 0

@@ -26,7 +26,11 @@ magic_unless false = magic One
 abbrev pub magic_before : (connections : ℕ) → List ℕ
 magic_before connections = if connections == 0 then magic One else []
 
--- the entry's values are held after those before it, and its bytes in the canonical form are written, or a front of them
-abbrev pub Follows : {S H : Type 0} → MessageWriter S H → (old new : Option (List ℕ)) → List Entry → Entry → {X : Type 0} → Result X Error → Type 0
-Follows n old new entries one (Ok x) = IsGoing n × WriterStands n (values_before (entries ++ one ∷ [])) × Appends old new (bytes_after entries (one ∷ []))
+-- the entry's values are held after those before it, and its bytes in the canonical form are
+-- written, or a front of them
+abbrev pub Follows : {S H : Type 0} → MessageWriter S H → (old new : Option (List ℕ)) → List Entry
+    → Entry → {X : Type 0} → Result X Error → Type 0
+Follows n old new entries one (Ok x) = IsGoing n
+    × WriterStands n (values_before (entries ++ one ∷ []))
+    × Appends old new (bytes_after entries (one ∷ []))
 Follows n old new entries one (Err error) = AppendsFront old new (bytes_after entries (one ∷ []))

@@ -37,8 +37,10 @@ pub record PartWith (a b : List Entry) (e f : Entry) (place : Place) : Type 0 wh
   pub differ : bytes_of (canonical (a ++ e ∷ [])) ≢ bytes_of (canonical (b ++ f ∷ []))
   pub place_is : IsPlaceOf a (Some e) (Some f) place
 
--- these were compared, and the numberings stand for their values, and for these items of the next two messages
-pub record IsTold {S H : Type 0} (comparison : Comparison S H) (a b : List Entry) (items others : List Item) : Type 0 where
+-- these were compared, and the numberings stand for their values, and for these items of the next
+-- two messages
+pub record IsTold {S H : Type 0} (comparison : Comparison S H) (a b : List Entry)
+    (items others : List Item) : Type 0 where
   pub agree : Agree a b
   pub first : WriterStands comparison.first (told_after (values_of a) items)
   pub second : WriterStands comparison.second (told_after (values_of b) others)
@@ -48,7 +50,8 @@ pub record IsTold {S H : Type 0} (comparison : Comparison S H) (a b : List Entry
 abbrev pub IsCompared : {S H : Type 0} → Comparison S H → (a b : List Entry) → Type 0
 IsCompared comparison a b = IsTold comparison a b [] []
 
-abbrev pub Compares : {S H : Type 0} → Comparison S H → (a b : List Entry) (e f : Entry) → Option Place → Type 0
+abbrev pub Compares : {S H : Type 0} → Comparison S H → (a b : List Entry) (e f : Entry)
+    → Option Place → Type 0
 Compares comparison a b e f None = IsCompared comparison (a ++ e ∷ []) (b ++ f ∷ [])
 Compares comparison a b e f (Some place) = PartWith a b e f place
 
@@ -67,8 +70,11 @@ refusal_in (Some (findings.Parted place)) = None
 refusal_in None = None
 
 -- the failed reads of this one's source, between two states of its reader
-abbrev pub CountsReadsOf : {R S H X : Type 0} {builds : BuildHasher.Ghosts S H} {hashes : Hasher.Ghosts H} → Which → (R → ℕ) → (old new : Entries R S H builds hashes) → Result X SameError → Type 0
-CountsReadsOf which failures old new result = CountsReadingOf which (failures (source_of old)) (failures (source_of new)) result
+abbrev pub CountsReadsOf : {R S H X : Type 0} {builds : BuildHasher.Ghosts S H}
+    {hashes : Hasher.Ghosts H} → Which → (R → ℕ) → (old new : Entries R S H builds hashes)
+    → Result X SameError → Type 0
+CountsReadsOf which failures old new result =
+    CountsReadingOf which (failures (source_of old)) (failures (source_of new)) result
 
 -- what an error of a reader says of what its source gave
 abbrev pub SaysOfGiven : (start now : Told) → Error → Type 0
@@ -83,12 +89,16 @@ IsReadOut start now handed (Ok x) = (more : List Entry) × GaveAll start now (ha
 IsReadOut start now handed (Err error) = SaysOfGiven start now error
 
 -- the same of the second source, with this verdict
-abbrev pub IsReadAfter : (start now : Told) → List Entry → Verdict → Result Verdict SameError → Type 0
-IsReadAfter start now handed verdict (Ok answer) = (answer ≡ verdict) × (more : List Entry) × GaveAll start now (handed ++ more)
-IsReadAfter start now handed verdict (Err error) = (error.which ≡ Second) × SaysOfGiven start now error.error
+abbrev pub IsReadAfter : (start now : Told) → List Entry → Verdict → Result Verdict SameError
+    → Type 0
+IsReadAfter start now handed verdict (Ok answer) = (answer ≡ verdict) × (more : List Entry)
+    × GaveAll start now (handed ++ more)
+IsReadAfter start now handed verdict (Err error) = (error.which ≡ Second)
+    × SaysOfGiven start now error.error
 
 -- a reader, and what its source told at the start
-module _ {R S H : Type 0} {builds : BuildHasher.Ghosts S H} {hashes : Hasher.Ghosts H} (telling : R → Told) (start : Told) (reader : Entries R S H builds hashes) where
+module _ {R S H : Type 0} {builds : BuildHasher.Ghosts S H} {hashes : Hasher.Ghosts H}
+    (telling : R → Told) (start : Told) (reader : Entries R S H builds hashes) where
   -- it handed out these entries
   pub record HasGiven (handed : List Entry) : Type 0 where
     pub given : List ℕ
@@ -102,11 +112,14 @@ module _ {R S H : Type 0} {builds : BuildHasher.Ghosts S H} {hashes : Hasher.Gho
 
   abbrev pub ReadsOn : List Entry → Result Bool Error → Type 0
   ReadsOn handed (Ok true) = HasGivenOn handed
-  ReadsOn handed (Ok false) = (more : List Entry) × GaveAll start (telling (source_of reader)) (handed ++ more)
+  ReadsOn handed (Ok false) = (more : List Entry)
+      × GaveAll start (telling (source_of reader)) (handed ++ more)
   ReadsOn handed (Err error) = SaysOfGiven start (telling (source_of reader)) error
 
 -- the first source told this at the start and now, and the second this at its start
-module _ {R S H : Type 0} {builds : BuildHasher.Ghosts S H} {hashes : Hasher.Ghosts H} (telling : R → Told) (first now start : Told) (reader : Entries R S H builds hashes) (comparison : Comparison S H) (a b : List Entry) (e : Entry) where
+module _ {R S H : Type 0} {builds : BuildHasher.Ghosts S H} {hashes : Hasher.Ghosts H}
+    (telling : R → Told) (first now start : Told) (reader : Entries R S H builds hashes)
+    (comparison : Comparison S H) (a b : List Entry) (e : Entry) where
   -- the second's entry came beside e, and they are alike
   pub record GoesWith : Type 0 where
     pub f : Entry
@@ -123,10 +136,13 @@ module _ {R S H : Type 0} {builds : BuildHasher.Ghosts S H} {hashes : Hasher.Gho
   Meets (Ok (Some findings.Ended)) = ⊥
   Meets (Ok (Some (findings.Parted place))) = PartsHere place
   Meets (Ok (Some (findings.Refused fault))) = GaveFault start (telling (source_of reader)) fault
-  Meets (Err error) = StopsGiven first now start (telling (source_of reader)) error.error error.which
+  Meets (Err error) =
+      StopsGiven first now start (telling (source_of reader)) error.error error.which
 
 -- two readers, and what their sources told at the start
-module _ {A B S H : Type 0} {builds : BuildHasher.Ghosts S H} {hashes : Hasher.Ghosts H} (telling : A → Told) (telling_other : B → Told) (start other_start : Told) (first : Entries A S H builds hashes) (second : Entries B S H builds hashes) where
+module _ {A B S H : Type 0} {builds : BuildHasher.Ghosts S H} {hashes : Hasher.Ghosts H}
+    (telling : A → Told) (telling_other : B → Told) (start other_start : Told)
+    (first : Entries A S H builds hashes) (second : Entries B S H builds hashes) where
   -- what the two handed out was compared
   pub record IsComparing (comparison : Comparison S H) : Type 0 where
     pub a : List Entry
@@ -156,13 +172,18 @@ module _ {A B S H : Type 0} {builds : BuildHasher.Ghosts S H} {hashes : Hasher.G
   abbrev pub IsFound : Finding → Type 0
   IsFound findings.Ended = HaveEnded
   IsFound (findings.Parted place) = HaveParted place
-  IsFound (findings.Refused fault) = ((a : List Entry) × HasGiven telling start first a) × GaveFault other_start (telling_other (source_of second)) fault
+  IsFound (findings.Refused fault) = ((a : List Entry) × HasGiven telling start first a)
+      × GaveFault other_start (telling_other (source_of second)) fault
 
   abbrev pub FindsOut : Result Finding SameError → Type 0
   FindsOut (Ok finding) = IsFound finding
-  FindsOut (Err error) = StopsGiven start (telling (source_of first)) other_start (telling_other (source_of second)) error.error error.which
+  FindsOut (Err error) =
+      StopsGiven start (telling (source_of first)) other_start (telling_other (source_of second))
+      error.error error.which
 
   abbrev pub StepsOn : Comparison S H → Result (Option Finding) SameError → Type 0
   StepsOn comparison (Ok None) = IsComparing comparison
   StepsOn comparison (Ok (Some finding)) = IsFound finding
-  StepsOn comparison (Err error) = StopsGiven start (telling (source_of first)) other_start (telling_other (source_of second)) error.error error.which
+  StepsOn comparison (Err error) =
+      StopsGiven start (telling (source_of first)) other_start (telling_other (source_of second))
+      error.error error.which

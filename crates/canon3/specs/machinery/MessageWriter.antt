@@ -15,7 +15,8 @@ use Rattle.canon3.specs.Values.{handles, handles_in, verifiers, verifiers_in}
 abbrev pub AreFew : (hs vs : List (List ℕ)) → Type 0
 AreFew hs vs = (length hs < 2 ^ 32) × (length vs < 2 ^ 32)
 
--- what was there before a message: the handles, the write verifiers, and the xids of the open connection's calls
+-- what was there before a message: the handles, the write verifiers, and the xids of the open
+-- connection's calls
 pub record Before : Type 0 where
   pub handles : List (List ℕ)
   pub verifiers : List (List ℕ)
@@ -23,7 +24,8 @@ pub record Before : Type 0 where
 
 -- the values of these entries
 abbrev pub values_of : List Entry → Before
-values_of entries = record { handles = handles entries; verifiers = verifiers entries; xids = open_xids [] entries }
+values_of entries =
+    record { handles = handles entries; verifiers = verifiers entries; xids = open_xids [] entries }
 
 -- the tables hold these
 pub record HoldsBefore {S H : Type 0} (n : MessageWriter S H) (before : Before) : Type 0 where
@@ -36,29 +38,39 @@ pub record HoldsBefore {S H : Type 0} (n : MessageWriter S H) (before : Before) 
 -- the bytes are those of the message, where xs are the xids with its own
 abbrev pub IsWritten : List ℕ → Before → (xs : List ℕ) → List Item → Type 0
 IsWritten bytes before xs items =
-    AreFew (before.handles ++ handles_in items) (before.verifiers ++ verifiers_in items) → length xs < 2 ^ 32 → bytes ≡ zero_spelling (message_after before.handles before.verifiers xs items)
+    AreFew (before.handles ++ handles_in items) (before.verifiers ++ verifiers_in items)
+        → length xs < 2 ^ 32
+        → bytes ≡ zero_spelling (message_after before.handles before.verifiers xs items)
 
--- the message up to here, which begins with its xid; nothing is said where it begins with another item
+-- the message up to here, which begins with its xid; nothing is said where it begins with another
+-- item
 abbrev pub IsSpelled : Stage → (table bytes : List ℕ) → Before → List Item → Type 0
-IsSpelled stage table bytes before [] = (stage ≡ Begins) × HoldsDistinct nat_eq table before.xids × (bytes ≡ [])
-IsSpelled stage table bytes before (Word name x ∷ items) = (stage ≡ Goes) × HoldsDistinct nat_eq table (before.xids ++ x ∷ []) × IsWritten bytes before (before.xids ++ x ∷ []) (Word name x ∷ items)
+IsSpelled stage table bytes before [] = (stage ≡ Begins) × HoldsDistinct nat_eq table before.xids
+    × (bytes ≡ [])
+IsSpelled stage table bytes before (Word name x ∷ items) = (stage ≡ Goes)
+    × HoldsDistinct nat_eq table (before.xids ++ x ∷ [])
+    × IsWritten bytes before (before.xids ++ x ∷ []) (Word name x ∷ items)
 IsSpelled stage table bytes before _ = Unit {0}
 
-pub record IsWithinMessage {S H : Type 0} (n : MessageWriter S H) (before : Before) (items : List Item) : Type 0 where
+pub record IsWithinMessage {S H : Type 0} (n : MessageWriter S H) (before : Before)
+    (items : List Item) : Type 0 where
   pub handles : HoldsHandles n.handles (before.handles ++ handles_in items)
   pub verifiers : HoldsDistinct bytes_eq n.verfs (before.verifiers ++ verifiers_in items)
   pub spelled : IsSpelled n.stage n.xids n.writer before items
 
--- A visitor stands for lists of items alone. So items in front of the message's own tell what was there before it.
+-- A visitor stands for lists of items alone. So items in front of the message's own tell what was
+-- there before it.
 abbrev pub in_front_of : List (List ℕ) → List Item → List Item
 in_front_of [] items = Word [] 0 ∷ items
 in_front_of (x ∷ xs) items = Rest [] x ∷ in_front_of xs items
 
 abbrev pub told_after : Before → List Item → List Item
-told_after before items = Rest [] before.xids ∷ in_front_of before.handles (in_front_of before.verifiers items)
+told_after before items =
+    Rest [] before.xids ∷ in_front_of before.handles (in_front_of before.verifiers items)
 
 -- a message under way, and what was there before it
-pub record HasMessageUnderWay {S H : Type 0} (n : MessageWriter S H) (all : List Item) : Type 0 where
+pub record HasMessageUnderWay {S H : Type 0} (n : MessageWriter S H)
+    (all : List Item) : Type 0 where
   pub before : Before
   pub items : List Item
   pub are : all ≡ told_after before items

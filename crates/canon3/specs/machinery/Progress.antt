@@ -12,9 +12,11 @@ use Rattle.capture3.specs.declared.reader.entry.Kind.TheVariants as kinds
 -- one entry more
 abbrev pub progress_after : Progress → Kind → Progress
 progress_after progress kinds.Begin = record { connections = progress.connections + 1; records = 0 }
-progress_after progress (kinds.Call id) = record { connections = progress.connections; records = progress.records + 1 }
+progress_after progress (kinds.Call id) =
+    record { connections = progress.connections; records = progress.records + 1 }
 progress_after progress kinds.Turn = record { connections = progress.connections; records = 0 }
-progress_after progress (kinds.Reply id) = record { connections = progress.connections; records = progress.records + 1 }
+progress_after progress (kinds.Reply id) =
+    record { connections = progress.connections; records = progress.records + 1 }
 progress_after progress kinds.Close = progress
 progress_after progress kinds.End = progress
 
@@ -31,6 +33,8 @@ side_in _ = None
 
 -- the next record where one of the two is a message, and else the next connection
 abbrev pub place_from : Progress → Option Side → Option Side → Place
-place_from progress (Some side) other = places.Record progress.connections side (1 + progress.records) 0
-place_from progress None (Some side) = places.Record progress.connections side (1 + progress.records) 0
+place_from progress (Some side) other =
+    places.Record progress.connections side (1 + progress.records) 0
+place_from progress None (Some side) =
+    places.Record progress.connections side (1 + progress.records) 0
 place_from progress None None = places.Record (1 + progress.connections) Client 0 0

@@ -20,9 +20,12 @@ spelling_of Message body = chunk_bytes (record_bytes body)
 
 -- the bytes of entries in the canonical form, where they come after others
 abbrev pub bytes_after : (entries more : List Entry) → List ℕ
-bytes_after entries more = flat_map entry_bytes (entries_after (handles entries) (verifiers entries) (open_xids [] entries) more)
+bytes_after entries more =
+    flat_map entry_bytes
+    (entries_after (handles entries) (verifiers entries) (open_xids [] entries) more)
 
 -- The values are held, and the entry's bytes in the canonical form are told.
-pub record HasSpelled {S H : Type 0} (n : MessageWriter S H) (form : Spelling) (entries : List Entry) (one : Entry) : Type 0 where
+pub record HasSpelled {S H : Type 0} (n : MessageWriter S H) (form : Spelling)
+    (entries : List Entry) (one : Entry) : Type 0 where
   pub holds : HoldsBefore n (values_of (entries ++ one ∷ []))
   pub spelled : spelling_of form n.writer ≡ bytes_after entries (one ∷ [])

@@ -20,14 +20,18 @@ pub record Tallies {S H : Type 0} (tally : Tally S H) (entries : List Entry) : T
   pub handles : GathersAll tally.handles (all_items entries)
 
 -- the bytes met an error
-pub record HasFailed {R S H : Type 0} {builds : BuildHasher.Ghosts S H} {hashes : Hasher.Ghosts H} (told : R → Told) (first : Told) (reader : Entries R S H builds hashes) (error : Error) : Type 0 where
+pub record HasFailed {R S H : Type 0} {builds : BuildHasher.Ghosts S H} {hashes : Hasher.Ghosts H}
+    (told : R → Told) (first : Told) (reader : Entries R S H builds hashes)
+    (error : Error) : Type 0 where
   pub given : List ℕ
   pub handed : List Entry
   pub consumed : Gave first (told (source_of reader)) given
   pub met : IsMetBy error (told (source_of reader)) given handed
 
--- a reader that hands out entries, from when the source told this first, and what is tallied of them
-module _ {R S H : Type 0} {builds : BuildHasher.Ghosts S H} {hashes : Hasher.Ghosts H} (told : R → Told) (first : Told) where
+-- a reader that hands out entries, from when the source told this first, and what is tallied of
+-- them
+module _ {R S H : Type 0} {builds : BuildHasher.Ghosts S H} {hashes : Hasher.Ghosts H}
+    (told : R → Told) (first : Told) where
   -- what it handed out is in the tally
   pub record IsTallying (reader : Entries R S H builds hashes) (tally : Tally S H) : Type 0 where
     pub given : List ℕ
@@ -50,6 +54,7 @@ module _ {R S H : Type 0} {builds : BuildHasher.Ghosts S H} {hashes : Hasher.Gho
   TalliesOn reader tally (Ok false) = HasTalliedAll reader tally
   TalliesOn reader tally (Err error) = HasFailed told first reader error
 
-  abbrev pub TalliesToTheEnd : {X : Type 0} → Entries R S H builds hashes → Tally S H → Result X Error → Type 0
+  abbrev pub TalliesToTheEnd : {X : Type 0} → Entries R S H builds hashes → Tally S H
+      → Result X Error → Type 0
   TalliesToTheEnd reader tally (Ok x) = HasTalliedAll reader tally
   TalliesToTheEnd reader tally (Err error) = HasFailed told first reader error

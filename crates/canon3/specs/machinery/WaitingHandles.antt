@@ -8,8 +8,10 @@ use Rattle.canon3.specs.HandleTable.{same_handle}
 use Rattle.canon3.specs.Rank.{HoldsDistinct}
 use Rattle.canon3.specs.Values.{handles_in}
 
--- The table holds the distinct ones of some handles. These, and those that were not looked up, are the handles of the items.
+-- The table holds the distinct ones of some handles. These, and those that were not looked up, are
+-- the handles of the items.
 abbrev pub GathersAll : {S H : Type 0} → WaitingHandles S H → List Item → Type 0
 GathersAll gathering items =
     (given : List Handle) × HoldsDistinct same_handle gathering.numbers given
-    × (map handle_bytes (given ++ drop gathering.looked_up gathering.waiting.items) ≡ handles_in items)
+    × (map handle_bytes (given ++ drop gathering.looked_up gathering.waiting.items)
+    ≡ handles_in items)

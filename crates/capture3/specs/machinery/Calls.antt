@@ -10,7 +10,8 @@ found (call ∷ calls) xid = if call.xid == xid then Some call.id else found cal
 
 -- the list with a call at its end, unless its xid is there
 abbrev pub with_numbered_call : List NumberedCall → ℕ → ProcId → List NumberedCall
-with_numbered_call calls xid id = if is_some (found calls xid) then calls else calls ++ record { xid = xid; id = id } ∷ []
+with_numbered_call calls xid id =
+    if is_some (found calls xid) then calls else calls ++ record { xid = xid; id = id } ∷ []
 
 -- the pairs of a table as calls
 abbrev pub numbered_calls : List (ℕ × ProcId) → List NumberedCall

@@ -33,18 +33,25 @@ unpacking_of position taking streams = unpacking_at position streams (joining_of
 abbrev pub unpacking_in : Container → Unpacking
 unpacking_in c = unpacking_of c.position c.joiner c.streams
 
--- Where the machine is: it goes on, or something is whole. After a record the next one has not begun.
+-- Where the machine is: it goes on, or something is whole. After a record the next one has not
+-- begun.
 abbrev pub arrived : Option Event → Position → Taking → sided.Streams → Run Unpacking Unpacked
 arrived None position taking streams = Runs (unpacking_of position taking streams)
-arrived (Some Begin) position taking streams = Stops (Has Begin [] (unpacking_of position taking streams))
-arrived (Some (Record side)) position taking streams = Stops (Has (Record side) (body_of taking) (unpacking_at position streams Between))
-arrived (Some Turn) position taking streams = Stops (Has Turn [] (unpacking_of position taking streams))
-arrived (Some Close) position taking streams = Stops (Has Close [] (unpacking_of position taking streams))
-arrived (Some Streams) position taking streams = Stops (HasStreams streams (unpacking_of position taking streams))
+arrived (Some Begin) position taking streams =
+    Stops (Has Begin [] (unpacking_of position taking streams))
+arrived (Some (Record side)) position taking streams =
+    Stops (Has (Record side) (body_of taking) (unpacking_at position streams Between))
+arrived (Some Turn) position taking streams =
+    Stops (Has Turn [] (unpacking_of position taking streams))
+arrived (Some Close) position taking streams =
+    Stops (Has Close [] (unpacking_of position taking streams))
+arrived (Some Streams) position taking streams =
+    Stops (HasStreams streams (unpacking_of position taking streams))
 
 -- the bytes lead the machine from there to here
 abbrev pub Arrives : Unpacking → List ℕ → Option Event → Position → Taking → sided.Streams → Type 0
-Arrives from bytes event position taking streams = after unpack_next (Runs from) bytes ≡ arrived event position taking streams
+Arrives from bytes event position taking streams =
+    after unpack_next (Runs from) bytes ≡ arrived event position taking streams
 
 -- the fault is shown, unless memory ran out
 abbrev pub ShowsError : Unpacking → List ℕ → Error → Type 0
@@ -56,11 +63,13 @@ abbrev pub stream_of : Side → sided.Streams → List ℕ
 stream_of sides.Client streams = streams.client
 stream_of sides.Server streams = streams.server
 
--- The streams are those that the position tells; or, at a cursor, they are whole, and some of their bytes were judged.
+-- The streams are those that the position tells; or, at a cursor, they are whole, and some of their
+-- bytes were judged.
 abbrev pub AreStored : Position → Option Cursor → sided.Streams → Type 0
 AreStored position None streams = StoredAt position.spot position.total streams
 AreStored position (Some cursor) streams =
-    (cursor.taken ≤ length (stream_of cursor.side streams)) × (position.records ≤ cursor.taken) × (size streams ≤ position.total) × IsBeforeMark Two position.spot
+    (cursor.taken ≤ length (stream_of cursor.side streams)) × (position.records ≤ cursor.taken)
+        × (size streams ≤ position.total) × IsBeforeMark Two position.spot
 
 -- the same of a container
 abbrev pub IsStored : Container → Type 0
@@ -71,7 +80,8 @@ abbrev pub IsReady : Option Cursor → Taking → Type 0
 IsReady None taking = IsRunning taking
 IsReady (Some cursor) taking = taking ≡ unbegun
 
--- How many things of whole streams can become whole after so many bytes of this side's: a record for each byte that is left, and the ends of the streams.
+-- How many things of whole streams can become whole after so many bytes of this side's: a record
+-- for each byte that is left, and the ends of the streams.
 abbrev pub room_after : Side → ℕ → sided.Streams → ℕ
 room_after sides.Client taken streams = 2 + (size streams - taken)
 room_after sides.Server taken streams = 1 + (length streams.server - taken)
@@ -91,30 +101,47 @@ room_in c = room_of c.position c.streams + recall_room c.cursor c.streams
 abbrev pub rest_of : Cursor → sided.Streams → List ℕ
 rest_of cursor streams = drop cursor.taken (stream_of cursor.side streams)
 
--- With a record the cursor goes on by its bytes. With the client's end the server's stream is next, from its first record, and with the server's end the streams are let go.
--- In both the last record of the stream is whole.
-abbrev pub Recalled : Cursor → (old new : Position) (streams left : sided.Streams) → Taking → Option Cursor → Event → Type 0
+-- With a record the cursor goes on by its bytes. With the client's end the server's stream is next,
+-- from its first record, and with the server's end the streams are let go. In both the last record
+-- of the stream is whole.
+abbrev pub Recalled : Cursor → (old new : Position) (streams left : sided.Streams) → Taking
+    → Option Cursor → Event → Type 0
 Recalled cursor old new streams left taking next (Record side) =
     (side ≡ cursor.side) × (left ≡ streams) × (new ≡ record old { records = old.records + 1 })
-    × ((count : ℕ) × (next ≡ Some (record { side = cursor.side; taken = cursor.taken + count })) × (after join_next (Runs Between) (take count (rest_of cursor streams)) ≡ Stops (Whole (body_of taking))))
+    × ((count : ℕ) × (next ≡ Some (record { side = cursor.side; taken = cursor.taken + count }))
+    × (after join_next (Runs Between) (take count (rest_of cursor streams))
+    ≡ Stops (Whole (body_of taking))))
 Recalled cursor old new streams left taking next Turn =
-    (cursor.side ≡ sides.Client) × (left ≡ streams) × (new ≡ record old { records = 0 }) × (next ≡ Some (record { side = sides.Server; taken = 0 })) × (joining_of taking ≡ Between) × (after join_next (Runs Between) (rest_of cursor streams) ≡ Runs Between)
+    (cursor.side ≡ sides.Client) × (left ≡ streams) × (new ≡ record old { records = 0 })
+        × (next ≡ Some (record { side = sides.Server; taken = 0 })) × (joining_of taking ≡ Between)
+        × (after join_next (Runs Between) (rest_of cursor streams) ≡ Runs Between)
 Recalled cursor old new streams left taking next Close =
-    (cursor.side ≡ sides.Server) × AreEmpty left × (new ≡ old) × (next ≡ None) × (joining_of taking ≡ Between) × (after join_next (Runs Between) (rest_of cursor streams) ≡ Runs Between)
+    (cursor.side ≡ sides.Server) × AreEmpty left × (new ≡ old) × (next ≡ None)
+        × (joining_of taking ≡ Between)
+        × (after join_next (Runs Between) (rest_of cursor streams) ≡ Runs Between)
 Recalled cursor old new streams left taking next _ = ⊥
 
 -- the stream ends within this record
 abbrev pub IsCutInRecord : Position → Side → Joining → Error → Type 0
 IsCutInRecord position side joining error =
     (joining ≢ Between)
-    × (error ≡ errors.Refused (record { place = places.Record position.connections side (position.records + 1) (length (joined_body joining)); reason = RecordCut }))
+    × (error ≡ errors.Refused (record { place =
+    places.Record position.connections side (position.records + 1) (length (joined_body joining));
+    reason = RecordCut }))
 
 -- the fault of the record after the cursor, unless memory ran out
 abbrev pub RecallFails : Cursor → Position → sided.Streams → Error → Type 0
 RecallFails cursor position streams (errors.Refused fault) =
-    ((at : ℕ) × (n : ℕ) × (after join_next (Runs Between) (take n (rest_of cursor streams)) ≡ Stops (TooLong at)) × (fault ≡ record { place = places.Record position.connections cursor.side (position.records + 1) at; reason = RecordTooLong }))
-    ⊎ ((j : Joining) × (j ≢ Between) × (after join_next (Runs Between) (rest_of cursor streams) ≡ Runs j)
-    × (fault ≡ record { place = places.Record position.connections cursor.side (position.records + 1) (length (joined_body j)); reason = RecordCut }))
+    ((at : ℕ) × (n : ℕ)
+        × (after join_next (Runs Between) (take n (rest_of cursor streams)) ≡ Stops (TooLong at))
+        × (fault ≡ record { place =
+        places.Record position.connections cursor.side (position.records + 1) at; reason =
+        RecordTooLong }))
+    ⊎ ((j : Joining) × (j ≢ Between)
+    × (after join_next (Runs Between) (rest_of cursor streams) ≡ Runs j)
+    × (fault ≡ record { place =
+    places.Record position.connections cursor.side (position.records + 1) (length (joined_body j));
+    reason = RecordCut }))
 RecallFails cursor position streams errors.Memory = Unit {0}
 RecallFails cursor position streams _ = ⊥
 
@@ -122,16 +149,29 @@ RecallFails cursor position streams _ = ⊥
 abbrev pub first_cursor : Cursor
 first_cursor = record { side = sides.Client; taken = 0 }
 
--- What is whole, or nothing, with these bytes of the file. It comes from the file; or it is the first thing of streams that are whole with the last of the bytes;
--- or, with no byte, the next thing of such streams.
+-- What is whole, or nothing, with these bytes of the file. It comes from the file; or it is the
+-- first thing of streams that are whole with the last of the bytes; or, with no byte, the next
+-- thing of such streams.
 pub data Comes (old new : Container) (bytes : List ℕ) (event : Option Event) : Type 0 where
-  FromFile : old.cursor ≡ None → new.cursor ≡ None → Arrives (unpacking_in old) bytes event new.position new.joiner new.streams → Comes old new bytes event
-  FirstKept : (mid : Container) (one : Event) → old.cursor ≡ None → Arrives (unpacking_in old) bytes (Some Streams) mid.position mid.joiner mid.streams → StoredWith (Some Streams) mid.position mid.streams → event ≡ Some one
-      → Recalled first_cursor mid.position new.position mid.streams new.streams new.joiner new.cursor one → Comes old new bytes event
-  NextKept : (cursor : Cursor) (one : Event) → old.cursor ≡ Some cursor → bytes ≡ [] → event ≡ Some one → Recalled cursor old.position new.position old.streams new.streams new.joiner new.cursor one → Comes old new bytes event
+  FromFile : old.cursor ≡ None → new.cursor ≡ None
+      → Arrives (unpacking_in old) bytes event new.position new.joiner new.streams
+      → Comes old new bytes event
+  FirstKept : (mid : Container) (one : Event) → old.cursor ≡ None
+      → Arrives (unpacking_in old) bytes (Some Streams) mid.position mid.joiner mid.streams
+      → StoredWith (Some Streams) mid.position mid.streams → event ≡ Some one
+      → Recalled first_cursor mid.position new.position mid.streams new.streams new.joiner
+      new.cursor one → Comes old new bytes event
+  NextKept : (cursor : Cursor) (one : Event) → old.cursor ≡ Some cursor → bytes ≡ []
+      → event ≡ Some one
+      → Recalled cursor old.position new.position old.streams new.streams new.joiner new.cursor one
+      → Comes old new bytes event
 
 -- the fault of what would come, in the same three ways, unless memory ran out
 pub data ComesToFault (old : Container) (bytes : List ℕ) (error : Error) : Type 0 where
-  InFile : old.cursor ≡ None → ShowsError (unpacking_in old) bytes error → ComesToFault old bytes error
-  InFirstKept : (mid : Container) (n : ℕ) → old.cursor ≡ None → Arrives (unpacking_in old) (take n bytes) (Some Streams) mid.position mid.joiner mid.streams → RecallFails first_cursor mid.position mid.streams error → ComesToFault old bytes error
-  InNextKept : (cursor : Cursor) → old.cursor ≡ Some cursor → RecallFails cursor old.position old.streams error → ComesToFault old bytes error
+  InFile : old.cursor ≡ None → ShowsError (unpacking_in old) bytes error
+      → ComesToFault old bytes error
+  InFirstKept : (mid : Container) (n : ℕ) → old.cursor ≡ None
+      → Arrives (unpacking_in old) (take n bytes) (Some Streams) mid.position mid.joiner mid.streams
+      → RecallFails first_cursor mid.position mid.streams error → ComesToFault old bytes error
+  InNextKept : (cursor : Cursor) → old.cursor ≡ Some cursor
+      → RecallFails cursor old.position old.streams error → ComesToFault old bytes error

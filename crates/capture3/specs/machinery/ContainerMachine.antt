@@ -1,4 +1,5 @@
--- Taking a capture apart, one byte after another, up to what is whole next. Records are not judged here.
+-- Taking a capture apart, one byte after another, up to what is whole next. Records are not judged
+-- here.
 use Rattle.std.specs.Prelude.{ℕ, zero, suc, ◌+◌, List, [], ◌∷◌, length, cond, nat_eq, nat_lt}
 use Rattle.xdr3.specs.declared.reason.Reason.{Reason}
 use Rattle.xdr3.specs.declared.reason.Reason.TheVariants.{BadMagic, BadMark, AfterEnd, TooManyConnections, TooManyBytes, RecordCut, RecordTooLong}
@@ -17,8 +18,10 @@ use Rattle.capture3.specs.SidedChunksMachine.{MixedPoint, SideWord, Mixing, Mixe
 use Rattle.capture3.specs.SidedChunksMachine as mixing
 use Rattle.capture3.specs.SidedChunks.{Streams, gathered}
 
--- the part that is open: bytes of the magic that are due, its last byte, a connection word's bytes so far, the bytes so far of a chunk's length word, a chunk and
--- how many bytes it has left after the next, in version 2 the streams so far and the point in their chunks, or nothing after the last word 0
+-- the part that is open: bytes of the magic that are due, its last byte, a connection word's bytes
+-- so far, the bytes so far of a chunk's length word, a chunk and how many bytes it has left after
+-- the next, in version 2 the streams so far and the point in their chunks, or nothing after the
+-- last word 0
 pub data Opened : Type 0 where
   Magic : (due : ℕ) (more : List ℕ) → Opened
   Digit : Opened
@@ -28,8 +31,9 @@ pub data Opened : Type 0 where
   Mixed : (streams : Streams) (point : MixedPoint) → Opened
   Ended : (version : Version) → Opened
 
--- the file's byte at which the open word begins or the next chunk would begin, the stream bytes with those of the open chunk, the connections, the
--- whole records of the open stream, and the record that is open
+-- the file's byte at which the open word begins or the next chunk would begin, the stream bytes
+-- with those of the open chunk, the connections, the whole records of the open stream, and the
+-- record that is open
 pub record Unpacking : Type 0 where
   pub at : ℕ
   pub total : ℕ
@@ -38,8 +42,8 @@ pub record Unpacking : Type 0 where
   pub opened : Opened
   pub joining : Joining
 
--- Something is whole, and after it stands this: an event, with the body where it is a record, or both streams of a connection of version 2, which come as no event. Or the byte
--- shows a fault.
+-- Something is whole, and after it stands this: an event, with the body where it is a record, or
+-- both streams of a connection of version 2, which come as no event. Or the byte shows a fault.
 pub data Unpacked : Type 0 where
   Has : Event → List ℕ → Unpacking → Unpacked
   HasStreams : Streams → Unpacking → Unpacked
@@ -51,7 +55,8 @@ at_byte at reason = Refuses (record { place = places.File at; reason = reason })
 
 -- a fault of a record
 abbrev pub in_record : ℕ → Side → ℕ → ℕ → Reason → Unpacked
-in_record connection side record_number byte reason = Refuses (record { place = places.Record connection side record_number byte; reason = reason })
+in_record connection side record_number byte reason =
+    Refuses (record { place = places.Record connection side record_number byte; reason = reason })
 
 -- the bytes of the magic that are left before its last
 abbrev pub left_of_magic : List ℕ → Opened
@@ -66,26 +71,33 @@ awaiting_chunk side (suc left) = Chunk side left
 -- in a chunk with so many bytes to come
 abbrev pub in_chunk : (at total connections records : ℕ) → Side → ℕ → Joining → Unpacking
 in_chunk at total connections records side left joining =
-    record { at = at; total = total; connections = connections; records = records; opened = awaiting_chunk side left; joining = joining }
+    record { at = at; total = total; connections = connections; records = records; opened =
+        awaiting_chunk side left; joining = joining }
 
 -- before a connection word
 abbrev pub before_mark : Version → (at total connections records : ℕ) → Joining → Unpacking
-before_mark version at total connections records joining = record { at = at; total = total; connections = connections; records = records; opened = Mark version []; joining = joining }
+before_mark version at total connections records joining =
+    record { at = at; total = total; connections = connections; records = records; opened =
+    Mark version []; joining = joining }
 
 -- before a stream's first length word, after a word
 abbrev pub before_stream : (at total connections : ℕ) → Joining → Side → Unpacking
 before_stream at total connections joining side =
-    record { at = at + 4; total = total; connections = connections; records = 0; opened = Length side []; joining = joining }
+    record { at = at + 4; total = total; connections = connections; records = 0; opened =
+        Length side []; joining = joining }
 
 -- version 2: before a connection's first side word, after a word
 abbrev pub before_sides : (at total connections : ℕ) → Joining → Unpacking
 before_sides at total connections joining =
-    record { at = at + 4; total = total; connections = connections; records = 0; opened = Mixed (gathered []) (SideWord []); joining = joining }
+    record { at = at + 4; total = total; connections = connections; records = 0; opened =
+        Mixed (gathered []) (SideWord []); joining = joining }
 
 -- version 2: before the length word after a side word
-abbrev pub before_side_length : (at total connections records : ℕ) → Streams → Side → Joining → Unpacking
+abbrev pub before_side_length : (at total connections records : ℕ) → Streams → Side → Joining
+    → Unpacking
 before_side_length at total connections records streams side joining =
-    record { at = at; total = total; connections = connections; records = records; opened = Mixed streams (mixing.SideLength side []); joining = joining }
+    record { at = at; total = total; connections = connections; records = records; opened =
+        Mixed streams (mixing.SideLength side []); joining = joining }
 
 -- a connection's first part, by the version
 abbrev pub begun_at : Version → (at total connections : ℕ) → Joining → Unpacking
@@ -93,75 +105,108 @@ begun_at One at total connections joining = before_stream at total connections j
 begun_at Two at total connections joining = before_sides at total connections joining
 
 -- a connection word has come
-abbrev pub connection_marked : Version → (at total connections records : ℕ) → Joining → ℕ → Next Unpacking Unpacked
+abbrev pub connection_marked : Version → (at total connections records : ℕ) → Joining → ℕ
+    → Next Unpacking Unpacked
 connection_marked version at total connections records joining zero =
-    Goes (record { at = at + 4; total = total; connections = connections; records = records; opened = Ended version; joining = joining })
+    Goes (record { at = at + 4; total = total; connections = connections; records =
+        records; opened = Ended version; joining = joining })
 connection_marked version at total connections records joining (suc zero) =
-    cond (nat_lt connections 65535) (Ends (Has Begin [] (begun_at version at total (connections + 1) joining))) (Ends (at_byte at TooManyConnections))
-connection_marked version at total connections records joining (suc (suc more)) = Ends (at_byte at BadMark)
+    cond (nat_lt connections 65535)
+        (Ends (Has Begin [] (begun_at version at total (connections + 1) joining)))
+        (Ends (at_byte at TooManyConnections))
+connection_marked version at total connections records joining (suc (suc more)) =
+    Ends (at_byte at BadMark)
 
 -- a stream's word 0 has come
 abbrev pub stream_ended : (at total connections records : ℕ) → Side → Joining → Unpacked
-stream_ended at total connections records Client Between = Has Turn [] (before_stream at total connections Between Server)
-stream_ended at total connections records Server Between = Has Close [] (before_mark One (at + 4) total connections records Between)
-stream_ended at total connections records side (Header body part) = in_record connections side (records + 1) (length body) RecordCut
-stream_ended at total connections records side (Bytes body last left) = in_record connections side (records + 1) (length body) RecordCut
+stream_ended at total connections records Client Between =
+    Has Turn [] (before_stream at total connections Between Server)
+stream_ended at total connections records Server Between =
+    Has Close [] (before_mark One (at + 4) total connections records Between)
+stream_ended at total connections records side (Header body part) =
+    in_record connections side (records + 1) (length body) RecordCut
+stream_ended at total connections records side (Bytes body last left) =
+    in_record connections side (records + 1) (length body) RecordCut
 
 -- a chunk's length word has come
-abbrev pub chunk_counted : (at total connections records : ℕ) → Side → Joining → ℕ → Next Unpacking Unpacked
-chunk_counted at total connections records side joining zero = Ends (stream_ended at total connections records side joining)
+abbrev pub chunk_counted : (at total connections records : ℕ) → Side → Joining → ℕ
+    → Next Unpacking Unpacked
+chunk_counted at total connections records side joining zero =
+    Ends (stream_ended at total connections records side joining)
 chunk_counted at total connections records side joining (suc left) =
     cond (nat_lt 1073741824 (total + suc left)) (Ends (at_byte at TooManyBytes))
-    (Goes (record { at = at + 4 + suc left; total = total + suc left; connections = connections; records = records; opened = Chunk side left; joining = joining }))
+    (Goes (record { at = at + 4 + suc left; total = total + suc left; connections =
+        connections; records = records; opened = Chunk side left; joining = joining }))
 
 -- a record has ended
-abbrev pub record_joined : (at total connections records : ℕ) → Side → ℕ → Joined → Next Unpacking Unpacked
+abbrev pub record_joined : (at total connections records : ℕ) → Side → ℕ → Joined
+    → Next Unpacking Unpacked
 record_joined at total connections records side left (Whole body) =
     Ends (Has (Record side) body (in_chunk at total connections (records + 1) side left Between))
-record_joined at total connections records side left (TooLong byte) = Ends (in_record connections side (records + 1) byte RecordTooLong)
+record_joined at total connections records side left (TooLong byte) =
+    Ends (in_record connections side (records + 1) byte RecordTooLong)
 
 -- version 2: among the chunks of both sides
 abbrev pub mixed_at : (connections records : ℕ) → Joining → Mixing → Unpacking
-mixed_at connections records joining m = record { at = m.at; total = m.total; connections = connections; records = records; opened = Mixed m.streams m.point; joining = joining }
+mixed_at connections records joining m =
+    record { at = m.at; total = m.total; connections = connections; records = records; opened =
+    Mixed m.streams m.point; joining = joining }
 
 -- the side word 0 has come, or a fault
 abbrev pub mixed_ended : (connections : ℕ) → Joining → MixedEnd → Next Unpacking Unpacked
-mixed_ended connections joining (MixedCloses at total streams) = Ends (HasStreams streams (before_mark Two at total connections 0 joining))
+mixed_ended connections joining (MixedCloses at total streams) =
+    Ends (HasStreams streams (before_mark Two at total connections 0 joining))
 mixed_ended connections joining (MixedRefuses fault) = Ends (Refuses fault)
 
 -- in a chunk of version 2 with so many bytes to come
-abbrev pub in_side_chunk : (at total connections records : ℕ) → Streams → Side → ℕ → Joining → Unpacking
+abbrev pub in_side_chunk : (at total connections records : ℕ) → Streams → Side → ℕ → Joining
+    → Unpacking
 in_side_chunk at total connections records streams side left joining =
-    record { at = at; total = total; connections = connections; records = records; opened = Mixed streams (awaiting_side side left); joining = joining }
+    record { at = at; total = total; connections = connections; records = records; opened =
+        Mixed streams (awaiting_side side left); joining = joining }
 
 -- a side word has come
-abbrev pub sides_marked : (at total connections records : ℕ) → Streams → Joining → ℕ → Next Unpacking Unpacked
-sides_marked at total connections records streams joining n = within (mixed_at connections records joining) (mixed_ended connections joining) (sided at total streams n)
+abbrev pub sides_marked : (at total connections records : ℕ) → Streams → Joining → ℕ
+    → Next Unpacking Unpacked
+sides_marked at total connections records streams joining n =
+    within (mixed_at connections records joining) (mixed_ended connections joining)
+    (sided at total streams n)
 
 -- the length word after a side word has come
-abbrev pub sides_counted : (at total connections records : ℕ) → Streams → Side → Joining → ℕ → Next Unpacking Unpacked
-sides_counted at total connections records streams side joining n = within (mixed_at connections records joining) (mixed_ended connections joining) (measured at total streams side n)
+abbrev pub sides_counted : (at total connections records : ℕ) → Streams → Side → Joining → ℕ
+    → Next Unpacking Unpacked
+sides_counted at total connections records streams side joining n =
+    within (mixed_at connections records joining) (mixed_ended connections joining)
+    (measured at total streams side n)
 
 -- one byte more
-abbrev pub open_step : (at total connections records : ℕ) → Joining → Opened → ℕ → Next Unpacking Unpacked
+abbrev pub open_step : (at total connections records : ℕ) → Joining → Opened → ℕ
+    → Next Unpacking Unpacked
 open_step at total connections records joining (Magic due more) byte =
     cond (nat_eq byte due)
-    (Goes (record { at = at + 1; total = total; connections = connections; records = records; opened = left_of_magic more; joining = joining }))
+    (Goes (record { at = at + 1; total = total; connections = connections; records =
+        records; opened = left_of_magic more; joining = joining }))
     (Ends (at_byte at BadMagic))
 open_step at total connections records joining Digit byte =
-    cond (nat_eq byte (digit One)) (Goes (before_mark One (at + 1) total connections records joining))
-    (cond (nat_eq byte (digit Two)) (Goes (before_mark Two (at + 1) total connections records joining)) (Ends (at_byte at BadMagic)))
+    cond (nat_eq byte (digit One))
+        (Goes (before_mark One (at + 1) total connections records joining))
+    (cond (nat_eq byte (digit Two))
+        (Goes (before_mark Two (at + 1) total connections records joining))
+        (Ends (at_byte at BadMagic)))
 open_step at total connections records joining (Mark version part) byte =
-    within (λ p. record { at = at; total = total; connections = connections; records = records; opened = Mark version p; joining = joining })
+    within (λ p. record { at = at; total = total; connections = connections; records =
+        records; opened = Mark version p; joining = joining })
     (connection_marked version at total connections records joining) (word_next part byte)
 open_step at total connections records joining (Length side part) byte =
-    within (λ p. record { at = at; total = total; connections = connections; records = records; opened = Length side p; joining = joining })
+    within (λ p. record { at = at; total = total; connections = connections; records =
+        records; opened = Length side p; joining = joining })
     (chunk_counted at total connections records side joining) (word_next part byte)
 open_step at total connections records joining (Chunk side left) byte =
     within (in_chunk at total connections records side left)
     (record_joined at total connections records side left) (join_next joining byte)
 open_step at total connections records joining (Mixed streams point) byte =
-    within (mixed_at connections records joining) (mixed_ended connections joining) (mixed_step at total streams point byte)
+    within (mixed_at connections records joining) (mixed_ended connections joining)
+        (mixed_step at total streams point byte)
 open_step at total connections records joining (Ended version) byte = Ends (at_byte at AfterEnd)
 
 -- the same by where the machine stands
@@ -170,4 +215,6 @@ unpack_next u byte = open_step u.at u.total u.connections u.records u.joining u.
 
 -- before the first byte
 abbrev pub unpacking_start : Unpacking
-unpacking_start = record { at = 0; total = 0; connections = 0; records = 0; opened = left_of_magic MAGIC; joining = Between }
+unpacking_start =
+    record { at = 0; total = 0; connections = 0; records = 0; opened =
+    left_of_magic MAGIC; joining = Between }

@@ -1,4 +1,5 @@
--- The histories for which a reader of entries stands: what its source gave it, and what it handed out.
+-- The histories for which a reader of entries stands: what its source gave it, and what it handed
+-- out.
 use Rattle.std.specs.Prelude.{◌≡◌, ℕ, ◌+◌, ◌≤◌, Option, Some, None, Result, Ok, Err, List, [], ◌∷◌, ◌++◌, length, slice_range}
 use Rattle.capture3.specs.Told.{Told, Gave, IsSpent}
 use Rattle.xdr3.specs.Item.{AreBytes, Item}
@@ -31,17 +32,21 @@ module _ {R S H : Type 0} {builds : BuildHasher.Ghosts S H} {hashes : Hasher.Gho
 
   -- the record of this entry stands, if it was the last
   abbrev pub HoldsRecordOf : Entries R S H builds hashes → Entry → Type 0
-  HoldsRecordOf entries entry = (kind : Kind) → entries.last ≡ Some kind → IsHeld kind entries.parser.container.joiner entry
+  HoldsRecordOf entries entry = (kind : Kind) → entries.last ≡ Some kind
+      → IsHeld kind entries.parser.container.joiner entry
 
   abbrev pub HoldsLast : Entries R S H builds hashes → List Entry → Type 0
-  HoldsLast entries handed = (front : List Entry) (entry : Entry) → handed ≡ front ++ entry ∷ [] → HoldsRecordOf entries entry
+  HoldsLast entries handed = (front : List Entry) (entry : Entry) → handed ≡ front ++ entry ∷ []
+      → HoldsRecordOf entries entry
 
   -- the bytes of the block that are not judged yet
   abbrev pub unjudged : Entries R S H builds hashes → List ℕ
   unjudged entries = slice_range entries.block.items entries.start entries.end
 
-  -- the machine for a capture file stands after the bytes judged, and has emitted what was handed out
-  pub record IsReading (entries : Entries R S H builds hashes) (given : List ℕ) (handed : List Entry) : Type 0 where
+  -- the machine for a capture file stands after the bytes judged, and has emitted what was handed
+  -- out
+  pub record IsReading (entries : Entries R S H builds hashes) (given : List ℕ)
+      (handed : List Entry) : Type 0 where
     pub judged : List ℕ
     pub split : given ≡ judged ++ unjudged entries
     pub counted : entries.judged ≡ length judged
@@ -53,7 +58,8 @@ module _ {R S H : Type 0} {builds : BuildHasher.Ghosts S H} {hashes : Hasher.Gho
   StandsIn (Failed error) told entries given handed = IsMetBy error told given handed
 
   -- the source gave these bytes since the reader was new, and the reader handed out these entries
-  pub record StandsFor (told : R → Told) (entries : Entries R S H builds hashes) (given : List ℕ) (handed : List Entry) : Type 0 where
+  pub record StandsFor (told : R → Told) (entries : Entries R S H builds hashes) (given : List ℕ)
+      (handed : List Entry) : Type 0 where
     pub bytes : AreBytes given
     pub few : length handed + entries_left entries ≤ most_entries
     pub limits : KeepsLimits entries given handed
@@ -61,19 +67,26 @@ module _ {R S H : Type 0} {builds : BuildHasher.Ghosts S H} {hashes : Hasher.Gho
     pub here : StandsIn entries.stage (told entries.source.now) entries given handed
 
   -- the source gave more bytes
-  pub record HasRead (told : R → Told) (old new : Entries R S H builds hashes) (given : List ℕ) (handed : List Entry) : Type 0 where
+  pub record HasRead (told : R → Told) (old new : Entries R S H builds hashes) (given : List ℕ)
+      (handed : List Entry) : Type 0 where
     pub more : List ℕ
     pub consumed : Gave (told old.source.now) (told new.source.now) more
     pub stands : StandsFor told new (given ++ more) handed
 
   -- an entry is handed out and told; or it goes on, or has failed
-  abbrev pub HandsOutOrGoesOn : {V : Type 0} → (R → Told) → (V → List Item → Type 0) → Entries R S H builds hashes → (was now : V) → List ℕ → List Entry → Result (Option Kind) Error → Type 0
+  abbrev pub HandsOutOrGoesOn : {V : Type 0} → (R → Told) → (V → List Item → Type 0)
+      → Entries R S H builds hashes → (was now : V) → List ℕ → List Entry
+      → Result (Option Kind) Error → Type 0
   HandsOutOrGoesOn told stands new was now given handed (Ok (Some kind)) =
-      (entry : Entry) × IsOfKind kind entry × Adds stands was now (items_of entry) × StandsFor told new given (handed ++ entry ∷ [])
+      (entry : Entry) × IsOfKind kind entry × Adds stands was now (items_of entry)
+          × StandsFor told new given (handed ++ entry ∷ [])
   HandsOutOrGoesOn told stands new was now given handed (Ok None) = StandsFor told new given handed
-  HandsOutOrGoesOn told stands new was now given handed (Err error) = StandsFor told new given handed
+  HandsOutOrGoesOn told stands new was now given handed (Err error) =
+      StandsFor told new given handed
 
-  pub record Turns {V : Type 0} (told : R → Told) (stands : V → List Item → Type 0) (old new : Entries R S H builds hashes) (was now : V) (given : List ℕ) (handed : List Entry) (result : Result (Option Kind) Error) : Type 0 where
+  pub record Turns {V : Type 0} (told : R → Told) (stands : V → List Item → Type 0)
+      (old new : Entries R S H builds hashes) (was now : V) (given : List ℕ) (handed : List Entry)
+      (result : Result (Option Kind) Error) : Type 0 where
     pub more : List ℕ
     pub consumed : Gave (told old.source.now) (told new.source.now) more
     pub goes_on : HandsOutOrGoesOn told stands new was now (given ++ more) handed result

@@ -39,7 +39,8 @@ use Rattle.capture3.specs.machinery.FileStanding.{Judged, parsing_at, resumed, A
 use Rattle.capture3.specs.machinery.ContainerMachine.{Unpacking, Unpacked, Has, HasStreams, before_mark}
 
 -- these bytes have led the machine for the file here, and these entries are whole
-pub record StandsAt (position : Position) (taking : Taking) (streams : Streams) (table : List NumberedCall) (bytes : List ℕ) (entries : List Entry) : Type 0 where
+pub record StandsAt (position : Position) (taking : Taking) (streams : Streams)
+    (table : List NumberedCall) (bytes : List ℕ) (entries : List Entry) : Type 0 where
   pub so_far : Judged
   pub agrees : Agrees (unpacking_of position taking streams) so_far
   pub calls : IsTableOf table so_far.calls
@@ -51,27 +52,35 @@ abbrev pub after_side_word : Position → Unpacking
 after_side_word p = before_mark Two p.at p.total p.connections 0 Between
 
 -- the same; or the last of the bytes was that of a side word 0, and the streams' records are judged
-abbrev pub StandsOrRecalls : Option Cursor → Position → Taking → Streams → List NumberedCall → List ℕ → List Entry → Type 0
-StandsOrRecalls None position taking streams table bytes entries = StandsAt position taking streams table bytes entries
-StandsOrRecalls (Some cursor) position taking streams table bytes entries = Recalls (after_side_word position) streams cursor.side cursor.taken position.records table bytes entries
+abbrev pub StandsOrRecalls : Option Cursor → Position → Taking → Streams → List NumberedCall
+    → List ℕ → List Entry → Type 0
+StandsOrRecalls None position taking streams table bytes entries =
+    StandsAt position taking streams table bytes entries
+StandsOrRecalls (Some cursor) position taking streams table bytes entries =
+    Recalls (after_side_word position) streams cursor.side cursor.taken position.records table bytes
+    entries
 
 -- the same where the record that became whole last, if one did, is let go
 abbrev pub HasCome : Container → List NumberedCall → List ℕ → List Entry → Type 0
-HasCome c table bytes entries = StandsOrRecalls c.cursor c.position (released c.joiner) c.streams table bytes entries
+HasCome c table bytes entries =
+    StandsOrRecalls c.cursor c.position (released c.joiner) c.streams table bytes entries
 
 -- what is whole with the last byte
 abbrev pub met : Event → Position → Taking → Streams → Unpacked
 met Begin position taking streams = Has Begin [] (unpacking_of position taking streams)
-met (Record side) position taking streams = Has (Record side) (body_of taking) (unpacking_at position streams Between)
+met (Record side) position taking streams =
+    Has (Record side) (body_of taking) (unpacking_at position streams Between)
 met Turn position taking streams = Has Turn [] (unpacking_of position taking streams)
 met Close position taking streams = Has Close [] (unpacking_of position taking streams)
-met events.Streams position taking streams = HasStreams streams (unpacking_of position taking streams)
+met events.Streams position taking streams =
+    HasStreams streams (unpacking_of position taking streams)
 
 abbrev pub met_in : Event → Container → Unpacked
 met_in event c = met event c.position c.joiner c.streams
 
 -- the last of the bytes made this whole, after these entries
-pub record HasMet (container : Container) (table : List NumberedCall) (event : Event) (bytes : List ℕ) (entries : List Entry) : Type 0 where
+pub record HasMet (container : Container) (table : List NumberedCall) (event : Event)
+    (bytes : List ℕ) (entries : List Entry) : Type 0 where
   pub so_far : Judged
   pub front : List ℕ
   pub byte : ℕ
@@ -85,34 +94,45 @@ pub record HasMet (container : Container) (table : List NumberedCall) (event : E
   pub emits : EmitsOn so_far entries (Ends (met_in event container))
 
 -- the next record of the streams is whole, after these entries
-pub record HasRecalled (container : Container) (table : List NumberedCall) (side : Side) (bytes : List ℕ) (entries : List Entry) : Type 0 where
+pub record HasRecalled (container : Container) (table : List NumberedCall) (side : Side)
+    (bytes : List ℕ) (entries : List Entry) : Type 0 where
   pub taken : ℕ
   pub records : ℕ
   pub count : ℕ
-  pub stood : Recalls (after_side_word container.position) container.streams side taken records table bytes entries
-  pub joins : after join_next (Runs Between) (take count (drop taken (stream_of side container.streams))) ≡ Stops (Whole (body_of container.joiner))
+  pub stood : Recalls (after_side_word container.position) container.streams side taken records
+      table bytes entries
+  pub joins : after join_next (Runs Between)
+      (take count (drop taken (stream_of side container.streams)))
+      ≡ Stops (Whole (body_of container.joiner))
   pub next_is : container.cursor ≡ Some (record { side = side; taken = taken + count })
   pub records_are : container.position.records ≡ records + 1
 
 -- the next thing of streams that were kept is whole: a record, or an end, which is an entry
 abbrev pub MeetsKept : Container → List NumberedCall → Event → List ℕ → List Entry → Type 0
-MeetsKept container table (Record side) bytes entries = HasRecalled container table side bytes entries
-MeetsKept container table Turn bytes entries = HasCome container table bytes (entries ++ whole.Turn ∷ [])
-MeetsKept container table Close bytes entries = HasCome container table bytes (entries ++ whole.Close ∷ [])
+MeetsKept container table (Record side) bytes entries =
+    HasRecalled container table side bytes entries
+MeetsKept container table Turn bytes entries =
+    HasCome container table bytes (entries ++ whole.Turn ∷ [])
+MeetsKept container table Close bytes entries =
+    HasCome container table bytes (entries ++ whole.Close ∷ [])
 MeetsKept container table _ bytes entries = ⊥
 
 -- something is whole, in one way or the other
 abbrev pub MeetsEvent : Container → List NumberedCall → Event → List ℕ → List Entry → Type 0
-MeetsEvent container table event bytes entries = ((container.cursor ≡ None) × HasMet container table event bytes entries) ⊎ MeetsKept container table event bytes entries
+MeetsEvent container table event bytes entries =
+    ((container.cursor ≡ None) × HasMet container table event bytes entries)
+    ⊎ MeetsKept container table event bytes entries
 
 -- ---- what a call leaves
 
 -- what is whole is this entry, whose body stands there where it is a message
 abbrev pub IsHeld : Kind → Taking → Entry → Type 0
 IsHeld kinds.Begin taking entry = entry ≡ whole.Begin
-IsHeld (kinds.Call id) taking entry = (items : List Item) × IsWhole taking × IsCall (body_of taking) items × (id ≡ procedure_in items) × (entry ≡ whole.Call items)
+IsHeld (kinds.Call id) taking entry = (items : List Item) × IsWhole taking
+    × IsCall (body_of taking) items × (id ≡ procedure_in items) × (entry ≡ whole.Call items)
 IsHeld kinds.Turn taking entry = entry ≡ whole.Turn
-IsHeld (kinds.Reply id) taking entry = (items : List Item) × IsWhole taking × IsReply (body_of taking) (record { id = id; items = items }) × (entry ≡ whole.Reply id items)
+IsHeld (kinds.Reply id) taking entry = (items : List Item) × IsWhole taking
+    × IsReply (body_of taking) (record { id = id; items = items }) × (entry ≡ whole.Reply id items)
 IsHeld kinds.Close taking entry = entry ≡ whole.Close
 IsHeld kinds.End taking entry = entry ≡ whole.End
 
@@ -130,13 +150,17 @@ abbrev pub SpellsLast : Option Kind → Taking → Type 0
 SpellsLast None taking = Unit {0}
 SpellsLast (Some kind) taking = SpellsKind kind taking
 
--- The bytes lead to there, and the entry, if there is one, is told a visitor. A whole record stands until the next call.
-abbrev pub GoesTo : {V : Type 0} → (V → List Item → Type 0) → (was now : V) → Option Kind → Container → List NumberedCall → List ℕ → List Entry → Type 0
+-- The bytes lead to there, and the entry, if there is one, is told a visitor. A whole record stands
+-- until the next call.
+abbrev pub GoesTo : {V : Type 0} → (V → List Item → Type 0) → (was now : V) → Option Kind
+    → Container → List NumberedCall → List ℕ → List Entry → Type 0
 GoesTo stands was now None container table bytes entries = HasCome container table bytes entries
 GoesTo stands was now (Some kind) container table bytes entries =
-    (entry : Entry) × IsHeld kind container.joiner entry × Adds stands was now (items_of entry) × HasCome container table bytes (entries ++ entry ∷ [])
+    (entry : Entry) × IsHeld kind container.joiner entry × Adds stands was now (items_of entry)
+        × HasCome container table bytes (entries ++ entry ∷ [])
 
--- one of the bytes shows the fault, and these entries are all that they reach, unless memory ran out
+-- one of the bytes shows the fault, and these entries are all that they reach, unless memory ran
+-- out
 abbrev pub FailsAt : List ℕ → List Entry → Error → Type 0
 FailsAt bytes entries (errors.Refused fault) = ShowsFirst bytes entries fault
 FailsAt bytes entries errors.Memory = Unit {0}
@@ -145,7 +169,9 @@ FailsAt bytes entries _ = ⊥
 -- ---- one record
 
 -- the body was a call, which is told a visitor and joins the calls of its connection
-pub record JudgesCall {V : Type 0} (stands : V → List Item → Type 0) (was now : V) (calls : List (List Item)) (body : List ℕ) (table : List NumberedCall) (id : ProcId) : Type 0 where
+pub record JudgesCall {V : Type 0} (stands : V → List Item → Type 0) (was now : V)
+    (calls : List (List Item)) (body : List ℕ) (table : List NumberedCall)
+    (id : ProcId) : Type 0 where
   pub items : List Item
   pub judged : judge_call calls body ≡ Ok items
   pub is_call : IsCall body items
@@ -154,7 +180,8 @@ pub record JudgesCall {V : Type 0} (stands : V → List Item → Type 0) (was no
   pub adds : Adds stands was now items
 
 -- the body was a reply, which is told a visitor
-pub record JudgesReply {V : Type 0} (stands : V → List Item → Type 0) (was now : V) (calls : List (List Item)) (body : List ℕ) (id : ProcId) : Type 0 where
+pub record JudgesReply {V : Type 0} (stands : V → List Item → Type 0) (was now : V)
+    (calls : List (List Item)) (body : List ℕ) (id : ProcId) : Type 0 where
   pub items : List Item
   pub judged : judge_reply calls body ≡ Ok (record { id = id; items = items })
   pub is_reply : IsReply body (record { id = id; items = items })
@@ -163,13 +190,17 @@ pub record JudgesReply {V : Type 0} (stands : V → List Item → Type 0) (was n
 -- the body was refused, unless memory ran out
 abbrev pub RefusesBody : {X : Type 0} → Position → Side → Result X Stop → Error → Type 0
 RefusesBody position side judged (errors.Refused fault) =
-    (stop : Stop) × (judged ≡ Err stop) × (fault ≡ record { place = places.Record position.connections side position.records stop.at; reason = stop.reason })
+    (stop : Stop) × (judged ≡ Err stop)
+        × (fault ≡ record { place =
+        places.Record position.connections side position.records stop.at; reason = stop.reason })
 RefusesBody position side judged errors.Memory = Unit {0}
 RefusesBody position side judged _ = ⊥
 
 -- the fault of the record that became whole last, or that memory ran out
 abbrev pub error_at : Position → Side → GetError → Error
-error_at position side (gets.Stop stop) = errors.Refused (record { place = places.Record position.connections side position.records stop.at; reason = stop.reason })
+error_at position side (gets.Stop stop) =
+    errors.Refused (record { place =
+    places.Record position.connections side position.records stop.at; reason = stop.reason })
 error_at position side gets.Memory = errors.Memory
 
 -- the bytes are refused, or memory ran out: no device failed

@@ -1,4 +1,5 @@
--- Taking a capture apart, and judging its records as they come: where the machine for a capture file stands.
+-- Taking a capture apart, and judging its records as they come: where the machine for a capture
+-- file stands.
 use Rattle.std.specs.Prelude.{◌≡◌, map, ℕ, suc, List, [], ◌∷◌, ◌++◌, length, Result, Ok, Err}
 use Rattle.xdr3.specs.declared.reason.Stop.{Stop}
 use Rattle.xdr3.specs.Item.{Item}
@@ -25,8 +26,8 @@ use Rattle.capture3.specs.Typed.{connection_entries, reply_entry}
 use Rattle.capture3.specs.machinery.ContainerMachine.{Opened, Magic, Digit, Mark, Length, Chunk, Mixed, Ended, Unpacking, Unpacked, Has, HasStreams, Refuses}
 use Rattle.capture3.specs.SidedChunks.{Streams}
 
--- What has been judged: where the open connection begins and the stream bytes before it, the entries of whole connections, and the open
--- connection's calls and replies.
+-- What has been judged: where the open connection begins and the stream bytes before it, the
+-- entries of whole connections, and the open connection's calls and replies.
 pub record Judged : Type 0 where
   pub start : ℕ
   pub before : ℕ
@@ -36,28 +37,43 @@ pub record Judged : Type 0 where
 
 -- at a point of a stream of version 1
 abbrev pub siding_at : {M : Type 0} → (at total : ℕ) → List M → Joining → siding.Point → Siding M
-siding_at at total messages joining point = record { at = at; total = total; reading = record { messages = messages; joining = joining }; point = point }
+siding_at at total messages joining point =
+    record { at = at; total = total; reading =
+    record { messages = messages; joining = joining }; point = point }
 
 -- the machine for the file, at this spot
 abbrev pub parsing_in : Version → (at total connections : ℕ) → List Entry → Spot → Parsing
-parsing_in version at total connections entries spot = record { version = version; at = at; total = total; number = connections; entries = entries; spot = spot }
+parsing_in version at total connections entries spot =
+    record { version = version; at = at; total = total; number = connections; entries =
+    entries; spot = spot }
 
 -- the same by the part that is open
 abbrev pub resumed_at : (at total connections : ℕ) → Joining → Opened → Judged → Parsing
-resumed_at at total connections joining (Magic due more) j = parsing_in One at total connections j.entries (parsing.Magic due more)
-resumed_at at total connections joining Digit j = parsing_in One at total connections j.entries parsing.Digit
-resumed_at at total connections joining (Mark version part) j = parsing_in version at total connections j.entries (parsing.Mark part)
+resumed_at at total connections joining (Magic due more) j =
+    parsing_in One at total connections j.entries (parsing.Magic due more)
+resumed_at at total connections joining Digit j =
+    parsing_in One at total connections j.entries parsing.Digit
+resumed_at at total connections joining (Mark version part) j =
+    parsing_in version at total connections j.entries (parsing.Mark part)
 resumed_at at total connections joining (Length Client part) j =
-    parsing_in One j.start j.before connections j.entries (parsing.Inside (InClient (siding_at at total j.calls joining (siding.Length part))))
+    parsing_in One j.start j.before connections j.entries
+        (parsing.Inside (InClient (siding_at at total j.calls joining (siding.Length part))))
 resumed_at at total connections joining (Length Server part) j =
-    parsing_in One j.start j.before connections j.entries (parsing.Inside (InServer j.calls (siding_at at total j.replies joining (siding.Length part))))
+    parsing_in One j.start j.before connections j.entries
+        (parsing.Inside
+        (InServer j.calls (siding_at at total j.replies joining (siding.Length part))))
 resumed_at at total connections joining (Chunk Client left) j =
-    parsing_in One j.start j.before connections j.entries (parsing.Inside (InClient (siding_at at total j.calls joining (siding.Chunk left))))
+    parsing_in One j.start j.before connections j.entries
+        (parsing.Inside (InClient (siding_at at total j.calls joining (siding.Chunk left))))
 resumed_at at total connections joining (Chunk Server left) j =
-    parsing_in One j.start j.before connections j.entries (parsing.Inside (InServer j.calls (siding_at at total j.replies joining (siding.Chunk left))))
+    parsing_in One j.start j.before connections j.entries
+        (parsing.Inside
+        (InServer j.calls (siding_at at total j.replies joining (siding.Chunk left))))
 resumed_at at total connections joining (Mixed streams point) j =
-    parsing_in Two j.start j.before connections j.entries (parsing.Inside (InMixed (record { at = at; total = total; streams = streams; point = point })))
-resumed_at at total connections joining (Ended version) j = parsing_in version at total connections j.entries parsing.Ended
+    parsing_in Two j.start j.before connections j.entries (parsing.Inside (InMixed (record { at =
+        at; total = total; streams = streams; point = point })))
+resumed_at at total connections joining (Ended version) j =
+    parsing_in version at total connections j.entries parsing.Ended
 
 -- where the machine for a capture file stands
 abbrev pub parsing_at : Unpacking → Judged → Parsing
@@ -67,7 +83,8 @@ parsing_at u j = resumed_at u.at u.total u.connections u.joining u.opened j
 
 -- a connection begins
 abbrev pub connection_begun : Unpacking → Judged → Judged
-connection_begun u j = record { start = u.at; before = u.total; entries = j.entries; calls = []; replies = [] }
+connection_begun u j =
+    record { start = u.at; before = u.total; entries = j.entries; calls = []; replies = [] }
 
 -- one call more
 abbrev pub with_call : Judged → List Item → Judged
@@ -88,20 +105,24 @@ connection_closed j = record j { entries = j.entries ++ connection_entries j.cal
 -- a call is judged: it is kept, or refused
 abbrev pub call_judged : Unpacking → Judged → Result (List Item) Stop → Next Parsing ShownFault
 call_judged u j (Ok call) = Goes (parsing_at u (with_call j call))
-call_judged u j (Err stop) = Ends (refusal (place_at u.connections Client (fault_at j.calls stop.at stop.reason)))
+call_judged u j (Err stop) =
+    Ends (refusal (place_at u.connections Client (fault_at j.calls stop.at stop.reason)))
 
 -- the same of a reply
 abbrev pub reply_judged : Unpacking → Judged → Result ReplyItems Stop → Next Parsing ShownFault
 reply_judged u j (Ok reply) = Goes (parsing_at u (with_reply j reply))
-reply_judged u j (Err stop) = Ends (refusal (place_at u.connections Server (fault_at j.replies stop.at stop.reason)))
+reply_judged u j (Err stop) =
+    Ends (refusal (place_at u.connections Server (fault_at j.replies stop.at stop.reason)))
 
 -- both streams of a connection of version 2 have come, and all their records are judged
 abbrev pub conversed : Unpacking → Judged → Streams → Next Parsing ShownFault
 conversed u j streams =
-    within (λ p. parsing_in Two j.start j.before u.connections j.entries (parsing.Inside p)) (parsing.closed Two u.connections j.entries)
+    within (λ p. parsing_in Two j.start j.before u.connections j.entries (parsing.Inside p))
+        (parsing.closed Two u.connections j.entries)
     (client_said u.connections u.at u.total streams.server (stream_end judge_call streams.client))
 
--- what the machine for the file comes to. Streams come by HasStreams and as no event, so what is said of the event of that name, here and below, is of no use.
+-- what the machine for the file comes to. Streams come by HasStreams and as no event, so what is
+-- said of the event of that name, here and below, is of no use.
 abbrev pub resumed : Judged → Next Unpacking Unpacked → Next Parsing ShownFault
 resumed j (Goes u) = Goes (parsing_at u j)
 resumed j (Ends (Has Begin body u)) = Goes (parsing_at u (connection_begun u j))
@@ -115,7 +136,8 @@ resumed j (Ends (Refuses fault)) = Ends (refusal fault)
 
 -- ---- what was judged belongs to what was taken
 
--- by the part that is open: as many records are whole as messages were judged, and no record is open outside the streams of version 1
+-- by the part that is open: as many records are whole as messages were judged, and no record is
+-- open outside the streams of version 1
 abbrev pub AgreesAt : ℕ → Joining → Opened → Judged → Type 0
 AgreesAt records joining (Magic due more) j = joining ≡ Between
 AgreesAt records joining Digit j = joining ≡ Between
@@ -135,8 +157,10 @@ Agrees u j = AgreesAt u.records u.joining u.opened j
 abbrev pub AgreesOn : Judged → Next Unpacking Unpacked → Type 0
 AgreesOn j (Goes u) = Agrees u j
 AgreesOn j (Ends (Has Begin body u)) = Agrees u (connection_begun u j)
-AgreesOn j (Ends (Has (Record Client) body u)) = ((call : List Item) → Agrees u (with_call j call)) × (u.records ≡ suc (length j.calls))
-AgreesOn j (Ends (Has (Record Server) body u)) = ((reply : ReplyItems) → Agrees u (with_reply j reply)) × (u.records ≡ suc (length j.replies))
+AgreesOn j (Ends (Has (Record Client) body u)) = ((call : List Item) → Agrees u (with_call j call))
+    × (u.records ≡ suc (length j.calls))
+AgreesOn j (Ends (Has (Record Server) body u)) =
+    ((reply : ReplyItems) → Agrees u (with_reply j reply)) × (u.records ≡ suc (length j.replies))
 AgreesOn j (Ends (Has Turn body u)) = Agrees u (turned j)
 AgreesOn j (Ends (Has Close body u)) = Agrees u (connection_closed j)
 AgreesOn j (Ends (Has events.Streams body u)) = Agrees u j
@@ -159,7 +183,8 @@ emitted_at (Magic due more) j = j.entries
 emitted_at Digit j = j.entries
 emitted_at (Mark version part) j = j.entries
 emitted_at (Length Client part) j = j.entries ++ client_entries j.calls
-emitted_at (Length Server part) j = j.entries ++ (client_entries j.calls ++ server_entries j.replies)
+emitted_at (Length Server part) j =
+    j.entries ++ (client_entries j.calls ++ server_entries j.replies)
 emitted_at (Chunk Client left) j = j.entries ++ client_entries j.calls
 emitted_at (Chunk Server left) j = j.entries ++ (client_entries j.calls ++ server_entries j.replies)
 emitted_at (Mixed streams point) j = j.entries ++ entries.Begin ∷ []
@@ -168,11 +193,15 @@ emitted_at (Ended version) j = j.entries
 -- after entries, what comes next adds
 abbrev pub EmitsOn : Judged → List Entry → Next Unpacking Unpacked → Type 0
 EmitsOn j base (Goes u) = emitted_at u.opened j ≡ base
-EmitsOn j base (Ends (Has Begin body u)) = emitted_at u.opened (connection_begun u j) ≡ base ++ entries.Begin ∷ []
-EmitsOn j base (Ends (Has (Record Client) body u)) = (call : List Item) → emitted_at u.opened (with_call j call) ≡ base ++ entries.Call call ∷ []
-EmitsOn j base (Ends (Has (Record Server) body u)) = (reply : ReplyItems) → emitted_at u.opened (with_reply j reply) ≡ base ++ reply_entry reply ∷ []
+EmitsOn j base (Ends (Has Begin body u)) =
+    emitted_at u.opened (connection_begun u j) ≡ base ++ entries.Begin ∷ []
+EmitsOn j base (Ends (Has (Record Client) body u)) = (call : List Item)
+    → emitted_at u.opened (with_call j call) ≡ base ++ entries.Call call ∷ []
+EmitsOn j base (Ends (Has (Record Server) body u)) = (reply : ReplyItems)
+    → emitted_at u.opened (with_reply j reply) ≡ base ++ reply_entry reply ∷ []
 EmitsOn j base (Ends (Has Turn body u)) = emitted_at u.opened (turned j) ≡ base ++ entries.Turn ∷ []
-EmitsOn j base (Ends (Has Close body u)) = emitted_at u.opened (connection_closed j) ≡ base ++ entries.Close ∷ []
+EmitsOn j base (Ends (Has Close body u)) =
+    emitted_at u.opened (connection_closed j) ≡ base ++ entries.Close ∷ []
 EmitsOn j base (Ends (Has events.Streams body u)) = emitted_at u.opened j ≡ base
 EmitsOn j base (Ends (HasStreams streams u)) = base ≡ j.entries ++ entries.Begin ∷ []
 EmitsOn j base (Ends (Refuses fault)) = Unit {0}

@@ -1,4 +1,5 @@
--- Where a reader stands in the streams of a connection of version 2: all of them have come, and their records are judged one by one, while no byte of the file is taken.
+-- Where a reader stands in the streams of a connection of version 2: all of them have come, and
+-- their records are judged one by one, while no byte of the file is taken.
 use Rattle.std.specs.Prelude.{◌≡◌, ℕ, List, [], ◌∷◌, ◌++◌, length, drop}
 use Rattle.record_mark.specs.Machine.{Runs}
 use Rattle.capture3.specs.declared.message.calls.NumberedCall.{NumberedCall}
@@ -23,16 +24,24 @@ use Rattle.record_mark.specs.Machine.{Ends}
 abbrev pub between_records : {M : Type 0} → List M → Reading M
 between_records messages = record { messages = messages; joining = Between }
 
--- After so many bytes of the side's stream: what is to be said of its rest is what is to be said of all of it.
+-- After so many bytes of the side's stream: what is to be said of its rest is what is to be said of
+-- all of it.
 abbrev pub RecallsAt : Side → ℕ → ℕ → Streams → Judged → List Entry → Type 0
 RecallsAt Client taken records streams j handed =
-    (stream_end judge_call streams.client ≡ rest_end judge_call (between_records j.calls) (drop taken streams.client)) × (records ≡ length j.calls) × (handed ≡ j.entries ++ client_entries j.calls)
+    (stream_end judge_call streams.client
+        ≡ rest_end judge_call (between_records j.calls) (drop taken streams.client))
+        × (records ≡ length j.calls) × (handed ≡ j.entries ++ client_entries j.calls)
 RecallsAt Server taken records streams j handed =
     (stream_end judge_call streams.client ≡ Held j.calls)
-    × (stream_end (judge_replies j.calls) streams.server ≡ rest_end (judge_replies j.calls) (between_records j.replies) (drop taken streams.server)) × (records ≡ length j.replies) × (handed ≡ j.entries ++ (client_entries j.calls ++ server_entries j.replies))
+    × (stream_end (judge_replies j.calls) streams.server
+    ≡ rest_end (judge_replies j.calls) (between_records j.replies) (drop taken streams.server))
+    × (records ≡ length j.replies)
+    × (handed ≡ j.entries ++ (client_entries j.calls ++ server_entries j.replies))
 
--- The last byte of these is that of the side word 0, after which `u` stands. Of the side's stream so many bytes and records were taken, and these entries were handed out.
-pub record Recalls (u : Unpacking) (streams : Streams) (side : Side) (taken records : ℕ) (table : List NumberedCall) (bytes : List ℕ) (handed : List Entry) : Type 0 where
+-- The last byte of these is that of the side word 0, after which `u` stands. Of the side's stream
+-- so many bytes and records were taken, and these entries were handed out.
+pub record Recalls (u : Unpacking) (streams : Streams) (side : Side) (taken records : ℕ)
+    (table : List NumberedCall) (bytes : List ℕ) (handed : List Entry) : Type 0 where
   pub front : List ℕ
   pub byte : ℕ
   pub state : Parsing
@@ -44,7 +53,8 @@ pub record Recalls (u : Unpacking) (streams : Streams) (side : Side) (taken reco
   pub calls : IsTableOf table so_far.calls
   pub here : RecallsAt side taken records streams so_far handed
 
--- One of the bytes shows the fault. The machine runs up to it, and what was handed out are the entries that it emitted, with those that the byte still reaches.
+-- One of the bytes shows the fault. The machine runs up to it, and what was handed out are the
+-- entries that it emitted, with those that the byte still reaches.
 pub record ShowsFirst (bytes : List ℕ) (handed : List Entry) (fault : Fault) : Type 0 where
   pub front : List ℕ
   pub byte : ℕ

@@ -9,7 +9,8 @@ use Rattle.capture3.specs.declared.message.calls.NumberedCall.{NumberedCall}
 use Rattle.capture3.specs.Bodies.{procedure_of}
 use Rattle.capture3.specs.machinery.Calls.{found}
 
--- what is laid out after a reply's head: the results of an accepted success, and nothing after any other head
+-- what is laid out after a reply's head: the results of an accepted success, and nothing after any
+-- other head
 abbrev pub results_after : Bool → ProcId → Layout
 results_after success id = if success then results_of id else exactly nothing
 

@@ -32,7 +32,8 @@ abbrev pub words_before : Side → ℕ
 words_before sides.Client = 0
 words_before sides.Server = 4
 
--- How many bytes there are at most: twelve for each connection's words, and nine for each stream byte, in chunks of one byte.
+-- How many bytes there are at most: twelve for each connection's words, and nine for each stream
+-- byte, in chunks of one byte.
 abbrev pub span : ℕ → ℕ → ℕ
 span connections total = 12 * connections + 9 * total
 
@@ -41,11 +42,15 @@ abbrev pub IsSoundSpot : Spot → ℕ → ℕ → ℕ → ℕ → Type 0
 IsSoundSpot Magic at total connections records = at < 7
 IsSoundSpot Digit at total connections records = at ≡ 7
 IsSoundSpot (Mark version part) at total connections records = at ≤ 8 + span connections total
-IsSoundSpot (Length side part) at total connections records = at ≤ words_before side + span connections total
-IsSoundSpot (Chunk side left) at total connections records = (0 < left) × (left ≤ at) × (at ≤ words_before side + span connections total) × (records + left ≤ total)
+IsSoundSpot (Length side part) at total connections records =
+    at ≤ words_before side + span connections total
+IsSoundSpot (Chunk side left) at total connections records = (0 < left) × (left ≤ at)
+    × (at ≤ words_before side + span connections total) × (records + left ≤ total)
 IsSoundSpot (spots.Side part) at total connections records = at ≤ span connections total
-IsSoundSpot (spots.SideLength side part) at total connections records = at ≤ 4 + span connections total
-IsSoundSpot (spots.SideChunk side left) at total connections records = (0 < left) × (at ≤ span connections total)
+IsSoundSpot (spots.SideLength side part) at total connections records =
+    at ≤ 4 + span connections total
+IsSoundSpot (spots.SideChunk side left) at total connections records = (0 < left)
+    × (at ≤ span connections total)
 IsSoundSpot (Ended version) at total connections records = at ≤ 12 + span connections total
 
 -- the counts are within the limits, and the position stands no further than they allow
@@ -68,18 +73,21 @@ opened_at streams (Mark version part) at = unpacking.Mark (version_of version) (
 opened_at streams (Length side part) at = unpacking.Length side (bytes_so_far part)
 opened_at streams (Chunk side left) at = awaiting_chunk side left
 opened_at streams (spots.Side part) at = unpacking.Mixed streams (SideWord (bytes_so_far part))
-opened_at streams (spots.SideLength side part) at = unpacking.Mixed streams (mixing.SideLength side (bytes_so_far part))
+opened_at streams (spots.SideLength side part) at =
+    unpacking.Mixed streams (mixing.SideLength side (bytes_so_far part))
 opened_at streams (spots.SideChunk side left) at = unpacking.Mixed streams (awaiting_side side left)
 opened_at streams (Ended version) at = unpacking.Ended (version_of version)
 
 -- the position, the streams and the open record, as the machine has them
 abbrev pub unpacking_at : Position → sided.Streams → Joining → Unpacking
 unpacking_at p streams joining =
-    record { at = p.at; total = p.total; connections = p.connections; records = p.records; opened = opened_at streams p.spot p.at; joining = joining }
+    record { at = p.at; total = p.total; connections = p.connections; records = p.records; opened =
+        opened_at streams p.spot p.at; joining = joining }
 
 -- some of the bytes lead the machine to the fault
 abbrev pub ShowsFault : Unpacking → List ℕ → Error → Type 0
-ShowsFault from bytes (Refused fault) = (n : ℕ) × (n ≤ length bytes) × (after unpack_next (Runs from) (take n bytes) ≡ Stops (Refuses fault))
+ShowsFault from bytes (Refused fault) = (n : ℕ) × (n ≤ length bytes)
+    × (after unpack_next (Runs from) (take n bytes) ≡ Stops (Refuses fault))
 ShowsFault from bytes _ = ⊥
 
 -- the bytes so far of the body of a record that is open, or none between records
@@ -95,13 +103,17 @@ landed_at (Some event) streams u = Stops (Has event [] u)
 
 -- What a whole word leads the machine to: there, or to the fault. The open record stays.
 abbrev pub Lands : Next Unpacking Unpacked → sided.Streams → Joining → Result Taken Error → Type 0
-Lands next streams joining (Ok taken) = landed next ≡ landed_at taken.event streams (unpacking_at taken.position streams joining)
+Lands next streams joining (Ok taken) =
+    landed next ≡ landed_at taken.event streams (unpacking_at taken.position streams joining)
 Lands next streams joining (Err (Refused fault)) = next ≡ Ends (Refuses fault)
 Lands next streams joining (Err _) = ⊥
 
--- The bytes taken lead the machine there, or some of the bytes lead it to the fault. The open record stays.
+-- The bytes taken lead the machine there, or some of the bytes lead it to the fault. The open
+-- record stays.
 abbrev pub Moves : Unpacking → List ℕ → sided.Streams → Joining → Result Taken Error → Type 0
-Moves from bytes streams joining (Ok taken) = after unpack_next (Runs from) (take taken.count bytes) ≡ landed_at taken.event streams (unpacking_at taken.position streams joining)
+Moves from bytes streams joining (Ok taken) =
+    after unpack_next (Runs from) (take taken.count bytes)
+    ≡ landed_at taken.event streams (unpacking_at taken.position streams joining)
 Moves from bytes streams joining (Err error) = ShowsFault from bytes error
 
 -- no stream byte is kept
@@ -129,13 +141,16 @@ IsBeforeStream side spot = (part : WordPart) × (bytes_so_far part ≡ []) × (s
 
 -- the length word after a side word, at its first byte
 abbrev pub IsBeforeSideLength : Side → Spot → Type 0
-IsBeforeSideLength side spot = (part : WordPart) × (bytes_so_far part ≡ []) × (spot ≡ spots.SideLength side part)
+IsBeforeSideLength side spot = (part : WordPart) × (bytes_so_far part ≡ [])
+    × (spot ≡ spots.SideLength side part)
 
 -- these counts
 abbrev pub HasCounts : (total connections records : ℕ) → Position → Type 0
-HasCounts total connections records p = (p.total ≡ total) × (p.connections ≡ connections) × (p.records ≡ records)
+HasCounts total connections records p = (p.total ≡ total) × (p.connections ≡ connections)
+    × (p.records ≡ records)
 
--- How many things can become whole within the limits, from here on. Kept streams are not counted as judged.
+-- How many things can become whole within the limits, from here on. Kept streams are not counted as
+-- judged.
 abbrev pub room_here : Spot → sided.Streams → ℕ
 room_here Magic streams = 0
 room_here Digit streams = 0
@@ -153,7 +168,8 @@ room_here (Ended version) streams = 0
 abbrev pub room_of : Position → sided.Streams → ℕ
 room_of p streams = 4 * (65535 - p.connections) + (1073741824 - p.total) + room_here p.spot streams
 
--- The most that can become whole: 65,535 connections with a begin, a turn and a close each, and a record for each stream byte.
+-- The most that can become whole: 65,535 connections with a begin, a turn and a close each, and a
+-- record for each stream byte.
 abbrev pub most_things : ℕ
 most_things = 1074003964
 
@@ -181,21 +197,27 @@ StoredAt (spots.SideLength side part) total streams = size streams ≤ total
 StoredAt (spots.SideChunk side left) total streams = size streams + left ≤ total
 StoredAt _ total streams = AreEmpty streams
 
--- the same after what was taken; with the side word 0 the streams are whole, and no record of them is judged
+-- the same after what was taken; with the side word 0 the streams are whole, and no record of them
+-- is judged
 abbrev pub StoredWith : Option Event → Position → sided.Streams → Type 0
-StoredWith (Some Streams) position streams = (size streams ≤ position.total) × (position.records ≡ 0) × IsBeforeMark Two position.spot
+StoredWith (Some Streams) position streams = (size streams ≤ position.total)
+    × (position.records ≡ 0) × IsBeforeMark Two position.spot
 StoredWith _ position streams = StoredAt position.spot position.total streams
 
 -- ---- what bytes that are taken come to, whatever streams are kept here
 
 -- what became whole took its room
 abbrev pub TakesRoom : Position → Taken → Type 0
-TakesRoom before taken = (streams : sided.Streams) → StoredAt before.spot before.total streams → room_of taken.position streams + cost_of taken.event streams ≤ room_of before streams
+TakesRoom before taken = (streams : sided.Streams) → StoredAt before.spot before.total streams
+    → room_of taken.position streams + cost_of taken.event streams ≤ room_of before streams
 
 -- the streams belong to where the bytes end
 abbrev pub KeepsStreams : Position → Taken → Type 0
-KeepsStreams before taken = (streams : sided.Streams) → StoredAt before.spot before.total streams → StoredWith taken.event taken.position streams
+KeepsStreams before taken = (streams : sided.Streams) → StoredAt before.spot before.total streams
+    → StoredWith taken.event taken.position streams
 
 -- the machine goes there, or to the fault
 abbrev pub MovesFrom : Position → Joining → List ℕ → Result Taken Error → Type 0
-MovesFrom before joining bytes result = (streams : sided.Streams) → StoredAt before.spot before.total streams → Moves (unpacking_at before streams joining) bytes streams joining result
+MovesFrom before joining bytes result = (streams : sided.Streams)
+    → StoredAt before.spot before.total streams
+    → Moves (unpacking_at before streams joining) bytes streams joining result

@@ -7,23 +7,27 @@ use Rattle.canon3.specs.machinery.Summary.{all_items}
 use Rattle.listing3.specs.declared.line_writer.LineWriter.{LineWriter}
 use Rattle.listing3.specs.Listing.{shown_items}
 
--- the message up to here: its xid, and the text of the items after it; nothing is said where it begins with another item
+-- the message up to here: its xid, and the text of the items after it; nothing is said where it
+-- begins with another item
 abbrev pub IsTextOf : Option ℕ → List ℕ → List Item → Type 0
 IsTextOf xid text [] = (xid ≡ None) × (text ≡ [])
 IsTextOf xid text (Word name n ∷ items) = (xid ≡ Some n) × (text ≡ shown_items items)
 IsTextOf xid text _ = Unit {0}
 
--- The items of the messages before stand in front of the message's own, and how many these are in front of all.
+-- The items of the messages before stand in front of the message's own, and how many these are in
+-- front of all.
 abbrev pub after_front : (front items : List Item) → List Item
 after_front front items = Word [] (length front) ∷ (front ++ items)
 
 -- a message under way, after these items
-pub record HasLineUnderWay {S H : Type 0} (writer : LineWriter S H) (front items : List Item) : Type 0 where
+pub record HasLineUnderWay {S H : Type 0} (writer : LineWriter S H)
+    (front items : List Item) : Type 0 where
   pub gathered : Gathers writer.handles (front ++ items)
   pub text : IsTextOf writer.xid writer.items items
 
 abbrev pub LineStands : {S H : Type 0} → LineWriter S H → List Item → Type 0
-LineStands writer all = (front : List Item) × (items : List Item) × (all ≡ after_front front items) × HasLineUnderWay writer front items
+LineStands writer all = (front : List Item) × (items : List Item) × (all ≡ after_front front items)
+    × HasLineUnderWay writer front items
 
 -- what stands for entries whose lines were written
 abbrev pub items_before : List Entry → List Item

@@ -8,4 +8,5 @@ use Rattle.nfs3_types.specs.Times.{time_items}
 abbrev pub times_items : Times → List Item
 times_items t =
     time_items names.atime_sec names.atime_nsec t.atime
-    ++ (time_items names.mtime_sec names.mtime_nsec t.mtime ++ time_items names.ctime_sec names.ctime_nsec t.ctime)
+    ++ (time_items names.mtime_sec names.mtime_nsec t.mtime
+    ++ time_items names.ctime_sec names.ctime_nsec t.ctime)

@@ -11,14 +11,19 @@ use Rattle.packing3.specs.machinery.Streaming.{StopsInConnection}
 
 module _ {W : Type 0} where
   -- no connection has room, and nothing was read or written
-  pub record IsFull (packing : Packing W) (old_client client old_server server : Told) (old written : Option (List ℕ)) (error : Error) : Type 0 where
+  pub record IsFull (packing : Packing W) (old_client client old_server server : Told)
+      (old written : Option (List ℕ)) (error : Error) : Type 0 where
     pub full : packing.connections ≡ max_connections
-    pub is : error ≡ errors.Refused (record { place = places.File packing.extent.at; reason = reasons.TooManyConnections })
+    pub is : error
+        ≡ errors.Refused (record { place = places.File packing.extent.at; reason =
+        reasons.TooManyConnections })
     pub same_client : client ≡ old_client
     pub same_server : server ≡ old_server
     pub same_sink : written ≡ old
 
-  abbrev pub FailsToAdd : Packing W → (old_client client old_server server : Told) (old written : Option (List ℕ)) → Error → Type 0
+  abbrev pub FailsToAdd : Packing W
+      → (old_client client old_server server : Told) (old written : Option (List ℕ)) → Error
+      → Type 0
   FailsToAdd packing old_client client old_server server old written error =
       IsFull packing old_client client old_server server old written error
       ⊎ StopsInConnection old_client client old_server server old written packing.extent error

@@ -29,12 +29,16 @@ pub record Grows (extent after : Extent) (bytes : List ℕ) (streamed : ℕ) : T
   pub at : after.at ≡ extent.at + length bytes
   pub streamed_is : after.streamed ≡ extent.streamed + streamed
 
--- Besides `room` bytes no more than five are written for each stream byte: a chunk has four more than it carries, and carries at least one.
+-- Besides `room` bytes no more than five are written for each stream byte: a chunk has four more
+-- than it carries, and carries at least one.
 abbrev pub GrowsLittle : (room : ℕ) (extent after : Extent) → Type 0
-GrowsLittle room extent after = after.at + 5 * extent.streamed ≤ extent.at + room + 5 * after.streamed
+GrowsLittle room extent after =
+    after.at + 5 * extent.streamed ≤ extent.at + room + 5 * after.streamed
 
--- A chunk of the next n bytes of the source is written: of fewer than fill it only where no more are left, and no chunk where there are none.
-pub record HasChunk (old_told told : Told) (old written : Option (List ℕ)) (extent after : Extent) (n : ℕ) : Type 0 where
+-- A chunk of the next n bytes of the source is written: of fewer than fill it only where no more
+-- are left, and no chunk where there are none.
+pub record HasChunk (old_told told : Told) (old written : Option (List ℕ)) (extent after : Extent)
+    (n : ℕ) : Type 0 where
   pub chunk : List ℕ
   pub consumed : Gave old_told told chunk
   pub many : length chunk ≡ n
@@ -44,7 +48,8 @@ pub record HasChunk (old_told told : Told) (old written : Option (List ℕ)) (ex
   pub grows : Grows extent after (flat_map chunk_bytes (last_chunk chunk)) n
 
 -- full chunks of the source's next bytes are written
-pub record HasFull (old_told told : Told) (old written : Option (List ℕ)) (extent after : Extent) : Type 0 where
+pub record HasFull (old_told told : Told) (old written : Option (List ℕ))
+    (extent after : Extent) : Type 0 where
   pub full : List (List ℕ)
   pub each : AreFull full
   pub consumed : Gave old_told told (concat full)
@@ -52,7 +57,8 @@ pub record HasFull (old_told told : Told) (old written : Option (List ℕ)) (ext
   pub grows : Grows extent after (flat_map chunk_bytes full) (length (concat full))
 
 -- the source's bytes are written to their end, as a stream
-pub record HasStream (old_told told : Told) (old written : Option (List ℕ)) (extent after : Extent) : Type 0 where
+pub record HasStream (old_told told : Told) (old written : Option (List ℕ))
+    (extent after : Extent) : Type 0 where
   pub stream : List ℕ
   pub bytes : List ℕ
   pub consumed : Gave old_told told stream
@@ -62,7 +68,8 @@ pub record HasStream (old_told told : Told) (old written : Option (List ℕ)) (e
   pub grows : Grows extent after bytes (length stream)
 
 -- A front of these bytes is written, and an error came. They begin at this byte of the file.
-pub record IsStopped (old written : Option (List ℕ)) (bytes : List ℕ) (at total : ℕ) (error : Error) : Type 0 where
+pub record IsStopped (old written : Option (List ℕ)) (bytes : List ℕ) (at total : ℕ)
+    (error : Error) : Type 0 where
   pub front : List ℕ
   pub next : List ℕ
   pub split : bytes ≡ front ++ next
@@ -70,14 +77,17 @@ pub record IsStopped (old written : Option (List ℕ)) (bytes : List ℕ) (at to
   pub told : Tells error (at + length front) next total
 
 -- a front is written of the chunk of what was read
-pub record StopsInChunk (old_told told : Told) (old written : Option (List ℕ)) (extent : Extent) (error : Error) : Type 0 where
+pub record StopsInChunk (old_told told : Told) (old written : Option (List ℕ)) (extent : Extent)
+    (error : Error) : Type 0 where
   pub chunk : List ℕ
   pub consumed : Gave old_told told chunk
   pub within : length chunk ≤ full_size
-  pub stopped : IsStopped old written (flat_map chunk_bytes (last_chunk chunk)) extent.at (extent.streamed + length chunk) error
+  pub stopped : IsStopped old written (flat_map chunk_bytes (last_chunk chunk)) extent.at
+      (extent.streamed + length chunk) error
 
 -- a front is written of the stream of what was read
-pub record StopsInStream (old_told told : Told) (old written : Option (List ℕ)) (extent : Extent) (error : Error) : Type 0 where
+pub record StopsInStream (old_told told : Told) (old written : Option (List ℕ)) (extent : Extent)
+    (error : Error) : Type 0 where
   pub stream : List ℕ
   pub bytes : List ℕ
   pub consumed : Gave old_told told stream
@@ -85,7 +95,8 @@ pub record StopsInStream (old_told told : Told) (old written : Option (List ℕ)
   pub stopped : IsStopped old written bytes extent.at (extent.streamed + length stream) error
 
 -- the word 1 and both sources' bytes to their ends are written, as a connection
-pub record HasConnection (old_client client old_server server : Told) (old written : Option (List ℕ)) (extent after : Extent) : Type 0 where
+pub record HasConnection (old_client client old_server server : Told)
+    (old written : Option (List ℕ)) (extent after : Extent) : Type 0 where
   pub streams : Streams
   pub bytes : List ℕ
   pub from_client : Gave old_client client streams.client
@@ -97,7 +108,8 @@ pub record HasConnection (old_client client old_server server : Told) (old writt
   pub grows : Grows extent after bytes (size streams)
 
 -- a front is written of the connection of what was read
-pub record StopsInConnection (old_client client old_server server : Told) (old written : Option (List ℕ)) (extent : Extent) (error : Error) : Type 0 where
+pub record StopsInConnection (old_client client old_server server : Told)
+    (old written : Option (List ℕ)) (extent : Extent) (error : Error) : Type 0 where
   pub streams : Streams
   pub bytes : List ℕ
   pub from_client : Gave old_client client streams.client

@@ -30,14 +30,18 @@ fsstat_parts = post_op_attr then fsstat_numbers
 
 unfoldable pub fsinfo_numbers : Shape
 fsinfo_numbers =
-    word names.rtmax then word names.rtpref then word names.rtmult then word names.wtmax then word names.wtpref then word names.wtmult
-    then word names.dtpref then hyper names.maxfilesize then time names.delta_sec names.delta_nsec then word names.properties
+    word names.rtmax then word names.rtpref then word names.rtmult then word names.wtmax then word
+        names.wtpref then word names.wtmult
+    then word names.dtpref then hyper names.maxfilesize then time names.delta_sec names.delta_nsec
+        then word names.properties
 
 unfoldable pub fsinfo_parts : Shape
 fsinfo_parts = post_op_attr then fsinfo_numbers
 
 unfoldable pub pathconf_names : Shape
-pathconf_names = boolean names.no_trunc then boolean names.chown_restricted then boolean names.case_insensitive then boolean names.case_preserving
+pathconf_names =
+    boolean names.no_trunc then boolean names.chown_restricted then boolean names.case_insensitive
+    then boolean names.case_preserving
 
 unfoldable pub pathconf_limits : Shape
 pathconf_limits = word names.linkmax then word names.name_max then pathconf_names

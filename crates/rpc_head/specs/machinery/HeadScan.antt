@@ -13,7 +13,9 @@ unfoldable pub credentials : Shape
 credentials = credential then verifier
 
 -- the items of an accepted reply's head from the accept_stat on, which is this
-unfoldable pub ScansAccept : {V : Type 0} → (V → List Item → Type 0) → ℕ → View → View → V → V → Type 0
+unfoldable pub ScansAccept : {V : Type 0} → (V → List Item → Type 0) → ℕ → View → View → V → V
+    → Type 0
 ScansAccept stands stat old new before after =
-    (items : List Item) × (reading accept old.body old.at ≡ Ok (items, new.at)) × (word_in items 0 ≡ stat) × MovesOn old new
+    (items : List Item) × (reading accept old.body old.at ≡ Ok (items, new.at))
+        × (word_in items 0 ≡ stat) × MovesOn old new
     × Adds stands before after items

@@ -9,8 +9,10 @@ use Rattle.capture3.specs.Bodies.{IsCall, IsReply}
 
 -- the body spells no call, unless memory ran out
 abbrev pub SpellsNoCall : GetError → List ℕ → Type 0
-SpellsNoCall error body = (stop : Stop) → error ≡ errors.Stop stop → (items : List Item) → IsCall body items → ⊥
+SpellsNoCall error body = (stop : Stop) → error ≡ errors.Stop stop → (items : List Item)
+    → IsCall body items → ⊥
 
 -- the body spells no reply with the results of this procedure, unless memory ran out
 abbrev pub SpellsNoReply : GetError → ProcId → List ℕ → Type 0
-SpellsNoReply error id body = (stop : Stop) → error ≡ errors.Stop stop → (items : List Item) → IsReply body (record { id = id; items = items }) → ⊥
+SpellsNoReply error id body = (stop : Stop) → error ≡ errors.Stop stop → (items : List Item)
+    → IsReply body (record { id = id; items = items }) → ⊥

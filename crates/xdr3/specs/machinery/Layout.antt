@@ -8,4 +8,5 @@ use Rattle.xdr3.specs.Layout.{Layout, after, word_in}
 
 -- a word that is accepted, and then the layout that it chooses
 abbrev pub by_word : List ℕ → (ℕ → Bool) → Reason → (ℕ → Layout) → Layout
-by_word name accepted other next = after (choose name accepted other (λ n. nothing)) (λ items. next (word_in items 0))
+by_word name accepted other next =
+    after (choose name accepted other (λ n. nothing)) (λ items. next (word_in items 0))

@@ -11,7 +11,10 @@ use Rattle.xdr3.specs.Visit.{Adds}
 -- All that is left of a window is items of the shape, and a visitor was told them.
 unfoldable pub ScansInside : {V : Type 0} → (V → List Item → Type 0) → Shape → View → V → V → Type 0
 ScansInside stands shape window before after =
-    (items : List Item) × (from_window (length window.body) (reading shape window.body window.at) ≡ Ok (items, length window.body)) × Adds stands before after items
+    (items : List Item)
+        × (from_window (length window.body) (reading shape window.body window.at)
+        ≡ Ok (items, length window.body)) × Adds stands before after items
 
 unfoldable pub StopsInside : Shape → View → GetError → Type 0
-StopsInside shape window error = Fails error (from_window (length window.body) (reading shape window.body window.at))
+StopsInside shape window error =
+    Fails error (from_window (length window.body) (reading shape window.body window.at))
