@@ -12,7 +12,7 @@ abbrev pub items_after : (hs vs : List (List ℕ)) → List Item → List Item
 items_after hs vs [] = []
 items_after hs vs (i ∷ items) =
     numbered_item (hs ++ handle_in i) (vs ++ verifier_in i) i
-        ∷ items_after (hs ++ handle_in i) (vs ++ verifier_in i) items
+    ∷ items_after (hs ++ handle_in i) (vs ++ verifier_in i) items
 
 -- a message, where xs are the xids of the open connection's calls so far, this one's too
 abbrev pub message_after : (hs vs : List (List ℕ)) (xs : List ℕ) → List Item → List Item
@@ -26,10 +26,10 @@ entries_after hs vs xs [] = []
 entries_after hs vs xs (Begin ∷ es) = Begin ∷ entries_after hs vs [] es
 entries_after hs vs xs (Call items ∷ es) =
     Call (message_after hs vs (xs ++ xid_of items) items)
-        ∷ entries_after (hs ++ handles_in items) (vs ++ verifiers_in items) (xs ++ xid_of items) es
+    ∷ entries_after (hs ++ handles_in items) (vs ++ verifiers_in items) (xs ++ xid_of items) es
 entries_after hs vs xs (Turn ∷ es) = Turn ∷ entries_after hs vs xs es
 entries_after hs vs xs (Reply id items ∷ es) =
     Reply id (message_after hs vs xs items)
-        ∷ entries_after (hs ++ handles_in items) (vs ++ verifiers_in items) xs es
+    ∷ entries_after (hs ++ handles_in items) (vs ++ verifiers_in items) xs es
 entries_after hs vs xs (Close ∷ es) = Close ∷ entries_after hs vs xs es
 entries_after hs vs xs (End ∷ es) = End ∷ entries_after hs vs xs es

@@ -67,7 +67,7 @@ module _ (old new old_other new_other : Told) where
       × GaveAll old_other new_other b × Same a b
   DecidesGiven (Ok (verdicts.Differ place)) =
       (a : List Entry) × (b : List Entry) × GaveAll old new a × GaveAll old_other new_other b
-          × (Same a b → ⊥) × Parting a b place
+      × (Same a b → ⊥) × Parting a b place
   DecidesGiven (Err error) = StopsGiven error.error error.which
 
 -- a read of this one failed

@@ -84,7 +84,7 @@ module _ {T : Type 0} (form : List Entry → List ℕ) (before : List Entry → 
       → {X : Type 0} → Result X Error → Type 0
   WritesOne was now passed kind between new result =
       (old : Option (List ℕ)) (entries : List Entry) (one : Entry) → IsOfKind kind one
-          → AreFirst (entries ++ one ∷ []) → length (entries ++ one ∷ []) < 2 ^ 32
-          → ArePassed passed entries
+      → AreFirst (entries ++ one ∷ []) → length (entries ++ one ∷ []) < 2 ^ 32
+      → ArePassed passed entries
       → stands was (before entries ++ items_of one) → Appends old between (form entries)
       → HasWrittenOrCut now old new (entries ++ one ∷ []) result

@@ -43,7 +43,7 @@ zero_verifier = 0 ∷ 0 ∷ 0 ∷ 0 ∷ 0 ∷ 0 ∷ 0 ∷ 0 ∷ []
 abbrev pub call_of : (prog proc xid : ℕ) → List Item → Entry
 call_of prog proc xid arguments =
     Call (Word (codes "xid") xid ∷ Word (codes "mtype") 0 ∷ Word (codes "rpcvers") 2
-        ∷ Word (codes "prog") prog ∷ Word (codes "vers") 3 ∷ Word (codes "proc") proc
+    ∷ Word (codes "prog") prog ∷ Word (codes "vers") 3 ∷ Word (codes "proc") proc
     ∷ Word (codes "cred_flavor") 0 ∷ Opaque Var (codes "cred_body") []
     ∷ Word (codes "verf_flavor") 0 ∷ Opaque Var (codes "verf_body") [] ∷ arguments)
 
@@ -51,7 +51,7 @@ call_of prog proc xid arguments =
 abbrev pub success_reply : (prog proc xid : ℕ) → List Item → Entry
 success_reply prog proc xid results =
     Reply (record { prog = prog; vers = 3; proc_no = proc }) (Word (codes "xid") xid
-        ∷ Word (codes "mtype") 1 ∷ Word (codes "reply_stat") 0
+    ∷ Word (codes "mtype") 1 ∷ Word (codes "reply_stat") 0
     ∷ Word (codes "verf_flavor") 0 ∷ Opaque Var (codes "verf_body") []
     ∷ Word (codes "accept_stat") 0 ∷ results)
 

@@ -42,7 +42,7 @@ PartWhereFormsDo a b = (i : ℕ) → bytes_of (take i (canonical a)) ≡ bytes_o
 abbrev pub HavePlaces : List Entry → List Entry → Type 0
 HavePlaces a b =
     (i : ℕ) (e f : Entry) → Same (take i a) (take i b) → slice_get a i ≡ Some e
-        → slice_get b i ≡ Some f
+    → slice_get b i ≡ Some f
     → (e ≡ f) ⊎ ((place : Place) × IsPlaceOf (take i a) (Some e) (Some f) place)
 
 -- two captures that are the same up to entry i end both there, or neither
@@ -68,4 +68,4 @@ CallStaysACall hs vs xs items =
 abbrev pub ReplyStaysAReply : (hs vs : List (List ℕ)) (xs : List ℕ) → ProcId → List Item → Type 0
 ReplyStaysAReply hs vs xs id items =
     FitsLayout (reply_layout (results_of id)) items
-        → FitsLayout (reply_layout (results_of id)) (numbered_message hs vs xs items)
+    → FitsLayout (reply_layout (results_of id)) (numbered_message hs vs xs items)

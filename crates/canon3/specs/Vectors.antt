@@ -62,7 +62,7 @@ attribute_bytes =
 abbrev pub attribute_items : List Item
 attribute_items =
     Word (codes "status") 0 ∷ Word (codes "type") 2 ∷ Word (codes "mode") 493
-        ∷ Word (codes "nlink") 2 ∷ Word (codes "uid") 0 ∷ Word (codes "gid") 0
+    ∷ Word (codes "nlink") 2 ∷ Word (codes "uid") 0 ∷ Word (codes "gid") 0
     ∷ Hyper (codes "size") 4096 ∷ Hyper (codes "used") 4096 ∷ Word (codes "rdev1") 0
     ∷ Word (codes "rdev2") 0 ∷ Hyper (codes "fsid") 1 ∷ Hyper (codes "fileid") 2
     ∷ Word (codes "atime_sec") 1 ∷ Word (codes "atime_nsec") 0 ∷ Word (codes "mtime_sec") 1
@@ -104,7 +104,7 @@ two_calls_form = two_calls 1 2 (handle_in_form 1) (handle_in_form 2)
 abbrev pub mounting_of : (first_xid second_xid : ℕ) (handle : List ℕ) → List ℕ
 mounting_of first_xid second_xid handle =
     capture (streams (call_bytes 100005 1 first_xid (words (2 ∷ []) ++ (codes "/x" ++ 0 ∷ 0 ∷ []))
-        ∷ []) (reply_bytes first_xid (words (0 ∷ []) ++ (handle ++ words (1 ∷ 1 ∷ []))) ∷ [])
+    ∷ []) (reply_bytes first_xid (words (0 ∷ []) ++ (handle ++ words (1 ∷ 1 ∷ []))) ∷ [])
     ++ streams (call_bytes 100003 1 second_xid handle ∷ []) [])
 
 abbrev pub mounting : List ℕ
@@ -152,14 +152,14 @@ listed_bytes n name residual handle =
 abbrev pub listed_items : ℕ → (name handle : List ℕ) → List Item
 listed_items n name handle =
     Word (codes "entry") 1 ∷ Hyper (codes "fileid") n ∷ Opaque Text (codes "name") name
-        ∷ Hyper (codes "cookie") n ∷ Word (codes "attr") 0 ∷ Word (codes "handle") 1
+    ∷ Hyper (codes "cookie") n ∷ Word (codes "attr") 0 ∷ Word (codes "handle") 1
     ∷ Opaque Handle (codes "fh") handle ∷ []
 
 -- a directory, a file with the empty handle, another file, and the directory again
 abbrev pub listing_bytes : (directory other : List ℕ) → List ℕ
 listing_bytes directory other =
     listed_bytes 1 (codes ".") (0 ∷ 0 ∷ 0 ∷ []) directory
-        ++ (listed_bytes 2 (codes "a") (0 ∷ 0 ∷ 0 ∷ []) (words (0 ∷ []))
+    ++ (listed_bytes 2 (codes "a") (0 ∷ 0 ∷ 0 ∷ []) (words (0 ∷ []))
     ++ (listed_bytes 3 (codes "b") (0 ∷ 0 ∷ 0 ∷ []) other
     ++ listed_bytes 4 (codes "..") (0 ∷ 0 ∷ []) directory))
 
@@ -167,7 +167,7 @@ abbrev pub directory_of : (xid : ℕ) (directory other : List ℕ) → List ℕ
 directory_of xid directory other =
     let call = call_bytes 100003 17 xid (directory ++ words (0 ∷ 0 ∷ 0 ∷ 0 ∷ 512 ∷ 4096 ∷ [])) in
     let reply = reply_bytes xid (words (0 ∷ 0 ∷ 0 ∷ 0 ∷ [])
-        ++ (listing_bytes directory other ++ words (0 ∷ 1 ∷ []))) in
+    ++ (listing_bytes directory other ++ words (0 ∷ 1 ∷ []))) in
     capture (streams (call ∷ []) (reply ∷ []))
 
 abbrev pub directory : List ℕ
@@ -176,10 +176,10 @@ directory = directory_of 4 (handle_of 0xaa) (handle_of 0xbb)
 abbrev pub directory_entries : List Entry
 directory_entries =
     one (call_of 100003 17 4 (Opaque Handle (codes "fh") aa ∷ Hyper (codes "cookie") 0
-        ∷ Fixed (codes "cookieverf") zero_verifier ∷ Word (codes "dircount") 512
-        ∷ Word (codes "maxcount") 4096 ∷ []) ∷ [])
+    ∷ Fixed (codes "cookieverf") zero_verifier ∷ Word (codes "dircount") 512
+    ∷ Word (codes "maxcount") 4096 ∷ []) ∷ [])
     (success_reply 100003 17 4 (Word (codes "status") 0 ∷ Word (codes "attr") 0
-        ∷ Fixed (codes "cookieverf") zero_verifier
+    ∷ Fixed (codes "cookieverf") zero_verifier
     ∷ (listed_items 1 (codes ".") aa
     ++ (listed_items 2 (codes "a") []
     ++ (listed_items 3 (codes "b") bb
@@ -209,7 +209,7 @@ by_system = call_by 36 (system_bytes 255 2 (8 ∷ 9 ∷ []))
 abbrev pub by_system_entries : List Entry
 by_system_entries =
     one (Call (Word (codes "xid") 1 ∷ Word (codes "mtype") 0 ∷ Word (codes "rpcvers") 2
-        ∷ Word (codes "prog") 100003 ∷ Word (codes "vers") 3 ∷ Word (codes "proc") 0
+    ∷ Word (codes "prog") 100003 ∷ Word (codes "vers") 3 ∷ Word (codes "proc") 0
     ∷ Word (codes "cred_flavor") 1 ∷ Word (codes "cred_length") 36 ∷ Word (codes "stamp") 1
     ∷ Opaque Text (codes "machinename") (codes "client")
     ∷ Word (codes "uid") 0 ∷ Word (codes "gid") 0 ∷ Word (codes "gids") 2 ∷ Word (codes "group") 8

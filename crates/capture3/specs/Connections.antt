@@ -32,14 +32,24 @@ pub record Context : Type 0 where
 
 abbrev pub client_position : Context → Position
 client_position context =
-    record { connection = context.number; side = Client; start = context.start; before =
-    context.before }
+    record {
+      connection = context.number;
+      side = Client;
+      start = context.start;
+      before =
+          context.before;
+    }
 
 -- after the bytes of the client stream in the file, which carry `client`
 abbrev pub server_position : Context → List ℕ → List ℕ → Position
 server_position context front client =
-    record { connection = context.number; side = Server; start =
-    context.start + length front; before = context.before + length client }
+    record {
+      connection = context.number;
+      side = Server;
+      start =
+          context.start + length front;
+      before = context.before + length client;
+    }
 
 -- a fault, and the entries that the byte which shows it still reaches
 pub record ShownFault : Type 0 where
@@ -109,8 +119,11 @@ client_refusal number calls fault =
 -- a fault in the server stream: all calls and the replies before it are reached
 abbrev pub server_refusal : ℕ → List (List Item) → List ReplyItems → RecordFault → ShownFault
 server_refusal number calls replies fault =
-    record { fault = place_at number Server fault; more =
-    map Call calls ++ (Turn ∷ map reply_entry replies) }
+    record {
+      fault = place_at number Server fault;
+      more =
+          map Call calls ++ (Turn ∷ map reply_entry replies);
+    }
 
 -- The side word 0 shows this fault of the streams, which are whole with it: the first fault of the
 -- client stream, or, where that has none, of the server stream.

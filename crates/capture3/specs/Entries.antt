@@ -41,7 +41,7 @@ AreAllBeforeEnd bytes entries = Typed bytes (entries ++ End ∷ [])
 abbrev pub IsShownBy : (told : Told) (given : List ℕ) (handed : List Entry) → Fault → Type 0
 IsShownBy told given handed fault =
     ((rest : List ℕ) → FirstFault (given ++ rest) fault × Reached (given ++ rest) handed)
-        ⊎ (IsSpent told × FirstFault given fault × Reached given handed)
+    ⊎ (IsSpent told × FirstFault given fault × Reached given handed)
 
 -- What an error says, after the bytes given and the entries handed out, where the source tells
 -- this: the bytes given show the fault, and just these entries are reached; or a read failed, and

@@ -30,7 +30,7 @@ null_reply = (222 ∷ 173 ∷ 190 ∷ 239 ∷ []) ++ word_1 ++ word_0 ++ word_0 
 abbrev pub null_capture : List ℕ
 null_capture =
     magic_1 ++ word_1 ++ (0 ∷ 0 ∷ 0 ∷ 44 ∷ []) ++ (128 ∷ 0 ∷ 0 ∷ 40 ∷ []) ++ null_call ++ word_0
-        ++ (0 ∷ 0 ∷ 0 ∷ 28 ∷ []) ++ (128 ∷ 0 ∷ 0 ∷ 24 ∷ []) ++ null_reply ++ word_0 ++ word_0
+    ++ (0 ∷ 0 ∷ 0 ∷ 28 ∷ []) ++ (128 ∷ 0 ∷ 0 ∷ 24 ∷ []) ++ null_reply ++ word_0 ++ word_0
 
 abbrev pub null_procedure : ProcId
 null_procedure = record { prog = 100003; vers = 3; proc_no = 0 }
@@ -38,8 +38,8 @@ null_procedure = record { prog = 100003; vers = 3; proc_no = 0 }
 abbrev pub null_call_items : List Item
 null_call_items =
     Word head_names.xid 3735928559 ∷ Word head_names.mtype 0 ∷ Word head_names.rpcvers 2
-        ∷ Word head_names.prog 100003 ∷ Word head_names.vers 3 ∷ Word head_names.proc 0
-        ∷ Word head_names.cred_flavor 0 ∷ Opaque Var head_names.cred_body []
+    ∷ Word head_names.prog 100003 ∷ Word head_names.vers 3 ∷ Word head_names.proc 0
+    ∷ Word head_names.cred_flavor 0 ∷ Opaque Var head_names.cred_body []
     ∷ Word head_names.verf_flavor 0 ∷ Opaque Var head_names.verf_body [] ∷ []
 
 abbrev pub null_reply_items : List Item

@@ -50,8 +50,12 @@ pub data Rule (bytes : List ℕ) (shown : ShownFault) : Type 0 where
       → shown ≡ refusal (file_fault (length b.front) TooManyConnections) → Rule bytes shown
   -- in a connection
   WithinConnection : (b : AfterConnections bytes) → b.mark ≡ 1
-      → ConnectionShows b.version (record { number = suc (length b.connections); start =
-      length b.front + 4; before = total_size b.connections }) b.rest shown → Rule bytes shown
+      → ConnectionShows b.version (record {
+        number = suc (length b.connections);
+        start =
+            length b.front + 4;
+        before = total_size b.connections;
+      }) b.rest shown → Rule bytes shown
   -- a byte after the last word 0
   ByteAfterEnd : (b : AfterConnections bytes) → b.mark ≡ 0 → length b.rest ≡ 1
       → shown ≡ refusal (file_fault (length b.front + 4) AfterEnd) → Rule bytes shown
@@ -72,5 +76,5 @@ IsClean bytes = (front rest : List ℕ) (shown : ShownFault) → bytes ≡ front
 abbrev pub FirstFault : List ℕ → Fault → Type 0
 FirstFault file fault =
     ((front : List ℕ) × (rest : List ℕ) × (shown : ShownFault) × (file ≡ front ++ rest)
-        × Shows front shown × (fault ≡ shown.fault))
+    × Shows front shown × (fault ≡ shown.fault))
     ⊎ (IsClean file × (IsWellFormed file → ⊥) × (fault ≡ file_fault (length file) CaptureCut))

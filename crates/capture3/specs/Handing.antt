@@ -26,7 +26,7 @@ module _ {R S H : Type 0} {builds : BuildHasher.Ghosts S H} {hashes : Hasher.Gho
       → Result (Option Kind) Error → Type 0
   HandsOut told stands new was now given handed (Ok (Some kind)) =
       (entry : Entry) × IsOfKind kind entry × AreFirstReached given (handed ++ entry ∷ [])
-          × Adds stands was now (items_of entry) × StandsFor told new given (handed ++ entry ∷ [])
+      × Adds stands was now (items_of entry) × StandsFor told new given (handed ++ entry ∷ [])
   HandsOut told stands new was now given handed (Ok None) = Typed given handed
       × IsSpent (told new.source.now) × StandsFor told new given handed
   HandsOut told stands new was now given handed (Err error) =

@@ -47,18 +47,33 @@ abbrev pub counted : {M : Type 0} → (RecordFault → Fault) → ℕ → ℕ �
 counted place at total reading zero = Ends (closing place at total reading.messages reading.joining)
 counted place at total reading (suc left) =
     cond (nat_lt max_bytes (total + suc left)) (Ends (SideRefuses (file_fault at TooManyBytes)))
-    (Goes (record { at = at + 4 + suc left; total = total + suc left; reading = reading; point =
-        Chunk left }))
+    (Goes (record {
+      at = at + 4 + suc left;
+      total = total + suc left;
+      reading = reading;
+      point =
+          Chunk left;
+    }))
 
 abbrev pub side_step : {M : Type 0} → Judge M → (RecordFault → Fault) → ℕ → ℕ → Reading M → Point
     → ℕ → Next (Siding M) (SideEnd M)
 side_step judge place at total reading (Length part) byte =
-    within (λ p. record { at = at; total = total; reading = reading; point =
-        Length p }) (counted place at total reading) (word_next part byte)
+    within (λ p. record {
+      at = at;
+      total = total;
+      reading = reading;
+      point =
+          Length p;
+    }) (counted place at total reading) (word_next part byte)
 side_step judge place at total reading (Chunk left) byte =
-    within (λ r. record { at = at; total = total; reading = r; point =
-        awaiting left }) (λ shown. Ends (SideRefuses (place shown)))
-        (stream_next judge reading byte)
+    within (λ r. record {
+      at = at;
+      total = total;
+      reading = r;
+      point =
+          awaiting left;
+    }) (λ shown. Ends (SideRefuses (place shown)))
+    (stream_next judge reading byte)
 
 abbrev pub side_next : {M : Type 0} → Judge M → (RecordFault → Fault) → Siding M → ℕ
     → Next (Siding M) (SideEnd M)

@@ -49,20 +49,40 @@ abbrev pub measured : ℕ → ℕ → Streams → Side → ℕ → Next Mixing M
 measured at total streams side zero = Ends (MixedRefuses (file_fault at BadMark))
 measured at total streams side (suc left) =
     cond (nat_lt max_bytes (total + suc left)) (Ends (MixedRefuses (file_fault at TooManyBytes)))
-    (Goes (record { at = at + 4 + suc left; total = total + suc left; streams = streams; point =
-        SideChunk side left }))
+    (Goes (record {
+      at = at + 4 + suc left;
+      total = total + suc left;
+      streams = streams;
+      point =
+          SideChunk side left;
+    }))
 
 -- one byte more
 abbrev pub mixed_step : ℕ → ℕ → Streams → MixedPoint → ℕ → Next Mixing MixedEnd
 mixed_step at total streams (SideWord part) byte =
-    within (λ p. record { at = at; total = total; streams = streams; point =
-        SideWord p }) (sided at total streams) (word_next part byte)
+    within (λ p. record {
+      at = at;
+      total = total;
+      streams = streams;
+      point =
+          SideWord p;
+    }) (sided at total streams) (word_next part byte)
 mixed_step at total streams (SideLength side part) byte =
-    within (λ p. record { at = at; total = total; streams = streams; point =
-        SideLength side p }) (measured at total streams side) (word_next part byte)
+    within (λ p. record {
+      at = at;
+      total = total;
+      streams = streams;
+      point =
+          SideLength side p;
+    }) (measured at total streams side) (word_next part byte)
 mixed_step at total streams (SideChunk side left) byte =
-    Goes (record { at = at; total = total; streams = with_more streams side (byte ∷ []); point =
-    awaiting_side side left })
+    Goes (record {
+      at = at;
+      total = total;
+      streams = with_more streams side (byte ∷ []);
+      point =
+          awaiting_side side left;
+    })
 
 -- the same by where the machine stands
 abbrev pub mixed_next : Mixing → ℕ → Next Mixing MixedEnd

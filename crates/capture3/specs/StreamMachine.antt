@@ -24,8 +24,11 @@ recorded judge messages (TooLong at) = Ends (fault_at messages at RecordTooLong)
 
 abbrev pub stream_next : {M : Type 0} → Judge M → Reading M → ℕ → Next (Reading M) RecordFault
 stream_next judge s byte =
-    within (λ j. record { messages = s.messages; joining =
-    j }) (recorded judge s.messages) (join_next s.joining byte)
+    within (λ j. record {
+      messages = s.messages;
+      joining =
+          j;
+    }) (recorded judge s.messages) (join_next s.joining byte)
 
 abbrev pub unread : {M : Type 0} → Reading M
 unread = record { messages = []; joining = Between }

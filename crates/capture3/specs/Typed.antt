@@ -55,8 +55,8 @@ abbrev pub HaveEntries : List Streams → List Entry → Type 0
 HaveEntries [] entries = entries ≡ []
 HaveEntries (streams ∷ connections) entries =
     (calls : List (List Item)) × (replies : List ReplyItems) × (rest : List Entry)
-        × (entries ≡ connection_entries calls replies ++ rest) × Converses streams calls replies
-        × HaveEntries connections rest
+    × (entries ≡ connection_entries calls replies ++ rest) × Converses streams calls replies
+    × HaveEntries connections rest
 
 -- The file is well formed, with these entries.
 pub record Typed (file : List ℕ) (entries : List Entry) : Type 0 where

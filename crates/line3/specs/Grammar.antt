@@ -10,8 +10,10 @@ file_rule id = record (new_rule id) { required = true }
 -- one or more of them
 abbrev pub streams_rule : Rule
 streams_rule =
-    record (file_rule (codes "STREAMS")) { range =
-    Some (record { start_inclusive = 1; end_inclusive = usize_max }) }
+    record (file_rule (codes "STREAMS")) {
+      range =
+          Some (record { start_inclusive = 1; end_inclusive = usize_max });
+    }
 
 -- a command with the name of a file
 abbrev pub one_file : Text → App
@@ -28,15 +30,17 @@ packing_form = with_rule (with_rule (new_app (codes "pack")) (file_rule (codes "
 
 -- the program's name; a command has to follow
 abbrev pub bare : App
-bare = record (new_app (codes "nfs3canon")) { top =
-    record (new_app (codes "nfs3canon")).top { subcommand_required = true } }
+bare = record (new_app (codes "nfs3canon")) {
+  top =
+      record (new_app (codes "nfs3canon")).top { subcommand_required = true };
+}
 
 -- the five commands
 abbrev pub app : App
 app =
     with_subcommand
-        (with_subcommand
-        (with_subcommand
-        (with_subcommand (with_subcommand bare (one_file (codes "check")).top)
-        (one_file (codes "show")).top) (two_files (codes "canon") (codes "IN") (codes "OUT")).top)
-        (two_files (codes "same") (codes "A") (codes "B")).top) packing_form.top
+    (with_subcommand
+    (with_subcommand
+    (with_subcommand (with_subcommand bare (one_file (codes "check")).top)
+    (one_file (codes "show")).top) (two_files (codes "canon") (codes "IN") (codes "OUT")).top)
+    (two_files (codes "same") (codes "A") (codes "B")).top) packing_form.top

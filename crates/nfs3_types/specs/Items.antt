@@ -31,7 +31,7 @@ handle_items h = Opaque Handle names.fh (handle_bytes h) ∷ []
 abbrev pub attributes_items : Fattr → List Item
 attributes_items f =
     Word names.type (file_kind_number f.kind) ∷ Word names.mode f.mode ∷ Word names.nlink f.nlink
-        ∷ Word names.uid f.uid ∷ Word names.gid f.gid
+    ∷ Word names.uid f.uid ∷ Word names.gid f.gid
     ∷ Hyper names.size f.size ∷ Hyper names.used f.used ∷ Word names.rdev1 f.rdev1
     ∷ Word names.rdev2 f.rdev2
     ∷ Hyper names.fsid f.fsid ∷ Hyper names.fileid f.fileid

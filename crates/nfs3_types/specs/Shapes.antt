@@ -33,15 +33,15 @@ time sec nsec = word sec then word nsec
 
 -- the times of a fattr3 (RFC 1813, section 2.5)
 unfoldable pub times : Shape
-times = time names.atime_sec names.atime_nsec then time names.mtime_sec names.mtime_nsec then time
-    names.ctime_sec names.ctime_nsec
+times = time names.atime_sec names.atime_nsec then time names.mtime_sec names.mtime_nsec
+    then time names.ctime_sec names.ctime_nsec
 
 -- fattr3 (RFC 1813, section 2.5)
 unfoldable pub attributes : Shape
 attributes =
     file_kind then word names.mode then word names.nlink then word names.uid then word names.gid
-    then hyper names.size then hyper names.used then word names.rdev1 then word names.rdev2 then
-        hyper names.fsid then hyper names.fileid
+    then hyper names.size then hyper names.used then word names.rdev1 then word names.rdev2
+    then hyper names.fsid then hyper names.fileid
     then times
 
 -- post_op_attr (RFC 1813, section 2.6)
@@ -83,11 +83,11 @@ set_hyper set name = optional set (hyper name)
 -- sattr3 (RFC 1813, section 2.6)
 unfoldable pub settable : Shape
 settable =
-    set_word names.set_mode names.mode then set_word names.set_uid names.uid then set_word
-        names.set_gid names.gid
+    set_word names.set_mode names.mode then set_word names.set_uid names.uid
+    then set_word names.set_gid names.gid
     then set_hyper names.set_size names.size
     then time_how names.set_atime names.atime_sec names.atime_nsec then time_how names.set_mtime
-        names.mtime_sec names.mtime_nsec
+    names.mtime_sec names.mtime_nsec
 
 -- sattrguard3 (RFC 1813, section 3.3.2)
 unfoldable pub guard : Shape

@@ -8,4 +8,4 @@ abbrev pub CountsReadings : {X : Type 0} (old_client client old_server server : 
     → Type 0
 CountsReadings old_client client old_server server result =
     (CountsReading old_client client result × (server ≡ old_server))
-        ⊎ ((client ≡ old_client) × CountsReading old_server server result)
+    ⊎ ((client ≡ old_client) × CountsReading old_server server result)

@@ -67,7 +67,7 @@ module _ {W : Type 0} where
       × IsSpent server × HasAdded written new old (pairs ++ streams ∷ [])
   AddsStreams written new old client server pairs streams (Err error) =
       ((streams ≡ record { client = []; server = [] })
-          × HasNoRoom old (written (sink_of new)) pairs error)
+      × HasNoRoom old (written (sink_of new)) pairs error)
       ⊎ BreaksOff old (written (sink_of new)) (pairs ++ streams ∷ []) error
 
   -- the same, with the streams that the sources gave in the call

@@ -50,5 +50,8 @@ pub record HasNoRoom (old new : Option (List ℕ)) (pairs : List Streams)
   pub appended : Appends old new front
   pub full : length pairs ≡ max_connections
   pub is : error
-      ≡ errors.Refused (record { place = places.File (length front); reason =
-      reasons.TooManyConnections })
+      ≡ errors.Refused (record {
+        place = places.File (length front);
+        reason =
+            reasons.TooManyConnections;
+      })

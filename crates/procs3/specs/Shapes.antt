@@ -43,8 +43,8 @@ write_args =
 
 -- WRITE3resok (RFC 1813, section 3.3.7)
 unfoldable pub write_ok : Shape
-write_ok = wcc then word names.count then listed names.committed stable_words then write_verf
-    names.verf
+write_ok = wcc then word names.count then listed names.committed stable_words
+    then write_verf names.verf
 
 -- COMMIT3resok (RFC 1813, section 3.3.21)
 unfoldable pub commit_ok : Shape
@@ -120,48 +120,48 @@ entry = hyper names.fileid then opaque Text names.name no_maximum then hyper nam
 
 -- READDIR3resok (RFC 1813, section 3.3.16)
 unfoldable pub readdir_ok : Shape
-readdir_ok = post_op_attr then fixed names.cookieverf then linked names.entry entry then boolean
-    names.eof
+readdir_ok = post_op_attr then fixed names.cookieverf then linked names.entry entry
+    then boolean names.eof
 
 -- READDIRPLUS3args (RFC 1813, section 3.3.17)
 unfoldable pub readdirplus_args : Shape
 readdirplus_args =
-    handle then hyper names.cookie then fixed names.cookieverf then word names.dircount then word
-    names.maxcount
+    handle then hyper names.cookie then fixed names.cookieverf then word names.dircount
+    then word names.maxcount
 
 -- entryplus3 (RFC 1813, section 3.3.17)
 unfoldable pub entry_plus : Shape
-entry_plus = hyper names.fileid then opaque Text names.name no_maximum then hyper names.cookie then
-    post_op_attr then post_op_fh
+entry_plus = hyper names.fileid then opaque Text names.name no_maximum then hyper names.cookie
+    then post_op_attr then post_op_fh
 
 -- READDIRPLUS3resok (RFC 1813, section 3.3.17)
 unfoldable pub readdirplus_ok : Shape
 readdirplus_ok =
-    post_op_attr then fixed names.cookieverf then linked names.entry entry_plus then boolean
-    names.eof
+    post_op_attr then fixed names.cookieverf then linked names.entry entry_plus
+    then boolean names.eof
 
 -- FSSTAT3resok (RFC 1813, section 3.3.18)
 unfoldable pub fsstat_ok : Shape
 fsstat_ok =
-    post_op_attr then hyper names.tbytes then hyper names.fbytes then hyper names.abytes then hyper
-        names.tfiles
+    post_op_attr then hyper names.tbytes then hyper names.fbytes then hyper names.abytes
+    then hyper names.tfiles
     then hyper names.ffiles then hyper names.afiles then word names.invarsec
 
 -- FSINFO3resok (RFC 1813, section 3.3.19)
 unfoldable pub fsinfo_ok : Shape
 fsinfo_ok =
-    post_op_attr then word names.rtmax then word names.rtpref then word names.rtmult then word
-        names.wtmax
-    then word names.wtpref then word names.wtmult then word names.dtpref then hyper
-        names.maxfilesize
+    post_op_attr then word names.rtmax then word names.rtpref then word names.rtmult
+    then word names.wtmax
+    then word names.wtpref then word names.wtmult then word names.dtpref
+    then hyper names.maxfilesize
     then time names.delta_sec names.delta_nsec then word names.properties
 
 -- PATHCONF3resok (RFC 1813, section 3.3.20)
 unfoldable pub pathconf_ok : Shape
 pathconf_ok =
     post_op_attr then word names.linkmax then word names.name_max then boolean names.no_trunc
-    then boolean names.chown_restricted then boolean names.case_insensitive then boolean
-        names.case_preserving
+    then boolean names.chown_restricted then boolean names.case_insensitive
+    then boolean names.case_preserving
 
 -- a dirpath of at most 1024 bytes (RFC 1813, sections 5.1.2, 5.2.1 and 5.2.3)
 unfoldable pub dirpath : Shape

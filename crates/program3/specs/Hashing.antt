@@ -25,7 +25,7 @@ read_short bs =
     let n = length bs in
     if nat_le 4 n then bit_or (read_u32 bs 0) (shl (read_u32 bs (n - 4)) 32)
     else (if nat_lt 0 n then bit_or (bit_or (slice_index bs 0) (shl (slice_index bs (n / 2)) 8))
-        (shl (slice_index bs (n - 1)) 16) else 0)
+    (shl (slice_index bs (n - 1)) 16) else 0)
 
 -- the state after the words at i and at j
 abbrev pub mix : List ℕ → ℕ → ℕ → ℕ → ℕ → ℕ
@@ -44,5 +44,5 @@ write h bs =
     let n = length bs in
     let short = folded_multiply (bit_xor h.state (read_short bs)) (bit_xor h.secret (2 * n)) in
     let long = mix bs h.secret (mix_blocks bs h.secret ((h.state + n) % 2 ^ 64) ((n - 1) / 16))
-        (n - 16) (n - 8) in
+    (n - 16) (n - 8) in
     record { state = if nat_le n 8 then short else long; secret = h.secret }

@@ -8,5 +8,5 @@ use Rattle.rpc_head.specs.Names.{head_names}
 abbrev pub call_head_items : CallHead → List Item
 call_head_items h =
     followed_by (Word head_names.rpcvers 2 ∷ Word head_names.prog h.id.prog
-        ∷ Word head_names.vers h.id.vers ∷ Word head_names.proc h.id.proc_no ∷ [])
+    ∷ Word head_names.vers h.id.vers ∷ Word head_names.proc h.id.proc_no ∷ [])
     (followed_by (credential_items h.cred) (verifier_items h.verf))

@@ -12,8 +12,8 @@ use Rattle.rpc_head.specs.Names.{head_names}
 abbrev pub parameter_items : AuthSys → List Item
 parameter_items s =
     followed_by (Word head_names.stamp s.stamp
-        ∷ Opaque Text head_names.machinename s.machinename.now ∷ Word head_names.uid s.uid
-        ∷ Word head_names.gid s.gid ∷ [])
+    ∷ Opaque Text head_names.machinename s.machinename.now ∷ Word head_names.uid s.uid
+    ∷ Word head_names.gid s.gid ∷ [])
     (count_items (groups_of s.gids))
 
 -- after the number of their bytes

@@ -19,7 +19,7 @@ handle_in_one id =
 abbrev pub call_to : ℕ → List Item → List Item
 call_to number more =
     Word head_names.xid 7 ∷ Word head_names.mtype 0 ∷ Word head_names.rpcvers 2
-        ∷ Word head_names.prog 100003 ∷ Word head_names.vers 3 ∷ Word head_names.proc number ∷ more
+    ∷ Word head_names.prog 100003 ∷ Word head_names.vers 3 ∷ Word head_names.proc number ∷ more
 
 abbrev pub no_verifier : List Item → List Item
 no_verifier more = Word head_names.verf_flavor 0 ∷ Opaque Var head_names.verf_body [] ∷ more
@@ -31,16 +31,22 @@ plain_call number = words (7 ∷ 0 ∷ 2 ∷ 100003 ∷ 3 ∷ number ∷ 0 ∷ 0
 abbrev pub system_call : List ℕ
 system_call =
     words (7 ∷ 0 ∷ 2 ∷ 100003 ∷ 3 ∷ 0 ∷ 1 ∷ 28 ∷ 1 ∷ 2 ∷ [])
-        ++ (97 ∷ 98 ∷ 255 ∷ 255 ∷ words (0 ∷ 0 ∷ 1 ∷ 9 ∷ 0 ∷ 0 ∷ []))
+    ++ (97 ∷ 98 ∷ 255 ∷ 255 ∷ words (0 ∷ 0 ∷ 1 ∷ 9 ∷ 0 ∷ 0 ∷ []))
 
 pub record Calls : Type 0 where
   pub no_arguments : reading_layout (call_layout handle_in_one) (plain_call 0) 0
-      ≡ Ok (call_to 0 (Word head_names.cred_flavor 0 ∷ Opaque Var head_names.cred_body []
-          ∷ no_verifier []), 40)
+      ≡ Ok (
+        call_to 0 (Word head_names.cred_flavor 0 ∷ Opaque Var head_names.cred_body []
+            ∷ no_verifier []),
+        40,
+      )
   pub one_argument : reading_layout (call_layout handle_in_one) (plain_call 1
       ++ words (1 ∷ 4278190080 ∷ [])) 0
-      ≡ Ok (call_to 1 (Word head_names.cred_flavor 0 ∷ Opaque Var head_names.cred_body []
-          ∷ no_verifier (Opaque Handle (codes "fh") (255 ∷ []) ∷ [])), 48)
+      ≡ Ok (
+        call_to 1 (Word head_names.cred_flavor 0 ∷ Opaque Var head_names.cred_body []
+            ∷ no_verifier (Opaque Handle (codes "fh") (255 ∷ []) ∷ [])),
+        48,
+      )
   pub by_system : reading_layout (call_layout handle_in_one) system_call 0
       ≡ Ok (
         call_to 0 (Word head_names.cred_flavor 1 ∷ Word head_names.cred_length 28
@@ -62,25 +68,40 @@ reply_to more = Word head_names.xid 7 ∷ Word head_names.mtype 1 ∷ more
 pub record Replies : Type 0 where
   pub success : reading_layout (reply_layout (rest (codes "rest"))) (reply_of (0 ∷ 0 ∷ 0 ∷ 0
       ∷ [])) 0
-      ≡ Ok (reply_to (Word head_names.reply_stat 0
-          ∷ no_verifier (Word head_names.accept_stat 0 ∷ Rest (codes "rest") (1 ∷ 2 ∷ [])
-          ∷ [])), 26)
+      ≡ Ok (
+        reply_to (Word head_names.reply_stat 0
+            ∷ no_verifier (Word head_names.accept_stat 0 ∷ Rest (codes "rest") (1 ∷ 2 ∷ [])
+            ∷ [])),
+        26,
+      )
   pub system_error : reading_layout (reply_layout (rest (codes "rest"))) (reply_of (0 ∷ 0 ∷ 0 ∷ 5
       ∷ [])) 0
-      ≡ Ok (reply_to (Word head_names.reply_stat 0
-          ∷ no_verifier (Word head_names.accept_stat 5 ∷ [])), 24)
+      ≡ Ok (
+        reply_to (Word head_names.reply_stat 0
+            ∷ no_verifier (Word head_names.accept_stat 5 ∷ [])),
+        24,
+      )
   pub program_mismatch : reading_layout (reply_layout (rest (codes "rest"))) (reply_of (0 ∷ 0 ∷ 0
       ∷ 2 ∷ 3 ∷ 3 ∷ [])) 0
-      ≡ Ok (reply_to (Word head_names.reply_stat 0
-          ∷ no_verifier (Word head_names.accept_stat 2 ∷ Word head_names.low 3
-          ∷ Word head_names.high 3 ∷ [])), 32)
+      ≡ Ok (
+        reply_to (Word head_names.reply_stat 0
+            ∷ no_verifier (Word head_names.accept_stat 2 ∷ Word head_names.low 3
+            ∷ Word head_names.high 3 ∷ [])),
+        32,
+      )
   pub version_mismatch : reading_layout (reply_layout (rest (codes "rest"))) (reply_of (1 ∷ 0 ∷ 0
       ∷ 0 ∷ [])) 0
-      ≡ Ok (reply_to (Word head_names.reply_stat 1 ∷ Word head_names.reject_stat 0
-          ∷ Word head_names.low 0 ∷ Word head_names.high 0 ∷ []), 24)
+      ≡ Ok (
+        reply_to (Word head_names.reply_stat 1 ∷ Word head_names.reject_stat 0
+            ∷ Word head_names.low 0 ∷ Word head_names.high 0 ∷ []),
+        24,
+      )
   pub authentication_error : reading_layout (reply_layout (rest (codes "rest"))) (reply_of (1 ∷ 1
       ∷ 0 ∷ [])) 0
-      ≡ Ok (reply_to (Word head_names.reply_stat 1 ∷ Word head_names.reject_stat 1
-          ∷ Word head_names.auth_stat 0 ∷ []), 20)
+      ≡ Ok (
+        reply_to (Word head_names.reply_stat 1 ∷ Word head_names.reject_stat 1
+            ∷ Word head_names.auth_stat 0 ∷ []),
+        20,
+      )
   pub no_call : reading_layout (reply_layout (rest (codes "rest"))) (words (7 ∷ 0 ∷ 0 ∷ 0 ∷ 0 ∷ 0
       ∷ [])) 0 ≡ refused 4 BadEnum

@@ -25,7 +25,7 @@ unfoldable pub ScansCallHead : {V : Type 0} → (V → List Item → Type 0) →
     → V → Type 0
 ScansCallHead stands id old new before after =
     (items : List Item) × (reading call_head old.body old.at ≡ Ok (items, new.at))
-        × (procedure_told items ≡ id) × MovesOn old new
+    × (procedure_told items ≡ id) × MovesOn old new
     × Adds stands before after items
 
 -- A reply's head, of a success or not, stands between two places of one body, and a visitor was
@@ -34,5 +34,5 @@ unfoldable pub ScansReplyHead : {V : Type 0} → (V → List Item → Type 0) �
     → Type 0
 ScansReplyHead stands success old new before after =
     (items : List Item) × (reading reply_head old.body old.at ≡ Ok (items, new.at))
-        × (tells_success items ≡ success) × MovesOn old new
+    × (tells_success items ≡ success) × MovesOn old new
     × Adds stands before after items

@@ -19,8 +19,8 @@ gids = counted head_names.gids 16 (word head_names.group)
 
 -- authsys_parms (RFC 5531, appendix A)
 unfoldable pub parameters : Shape
-parameters = word head_names.stamp then opaque Text head_names.machinename 255 then word
-    head_names.uid then word head_names.gid then gids
+parameters = word head_names.stamp then opaque Text head_names.machinename 255
+    then word head_names.uid then word head_names.gid then gids
 
 -- the body<400> of an AUTH_SYS credential: its length, and the parameters in just that many bytes
 -- (RFC 5531, section 8.2)
@@ -53,8 +53,8 @@ rpc_versions = 2 ∷ []
 unfoldable pub call_head : Shape
 call_head =
     choose head_names.rpcvers (is_listed rpc_versions) RpcVersion (λ version.
-    word head_names.prog then word head_names.vers then word head_names.proc then credential then
-        verifier)
+    word head_names.prog then word head_names.vers then word head_names.proc then credential
+    then verifier)
 
 -- mismatch_info: the lowest and the highest version that is there (RFC 5531, section 9)
 abbrev pub versions : Shape

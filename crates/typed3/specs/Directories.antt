@@ -48,12 +48,12 @@ link_wcc_items l =
 abbrev pub readdir_args_items : ReadDirArgs → List Item
 readdir_args_items r =
     Opaque Handle names.fh (handle_bytes r.handle) ∷ Hyper names.cookie r.cookie
-        ∷ Fixed names.cookieverf r.cookieverf ∷ Word names.count r.count ∷ []
+    ∷ Fixed names.cookieverf r.cookieverf ∷ Word names.count r.count ∷ []
 
 abbrev pub entry_items : Entry → List Item
 entry_items e =
     Hyper names.fileid e.fileid ∷ Opaque Text names.name e.name.now ∷ Hyper names.cookie e.cookie
-        ∷ []
+    ∷ []
 
 abbrev pub readdir_ok_items : ReadDirOk → List Item
 readdir_ok_items r =
@@ -65,13 +65,13 @@ readdir_ok_items r =
 abbrev pub readdirplus_args_items : ReadDirPlusArgs → List Item
 readdirplus_args_items r =
     Opaque Handle names.fh (handle_bytes r.handle) ∷ Hyper names.cookie r.cookie
-        ∷ Fixed names.cookieverf r.cookieverf ∷ Word names.dircount r.dircount
-        ∷ Word names.maxcount r.maxcount ∷ []
+    ∷ Fixed names.cookieverf r.cookieverf ∷ Word names.dircount r.dircount
+    ∷ Word names.maxcount r.maxcount ∷ []
 
 abbrev pub entry_plus_items : EntryPlus → List Item
 entry_plus_items e =
     followed_by (Hyper names.fileid e.fileid ∷ Opaque Text names.name e.name.now
-        ∷ Hyper names.cookie e.cookie ∷ [])
+    ∷ Hyper names.cookie e.cookie ∷ [])
     (followed_by (post_op_attr_items e.attr)
     (post_op_fh_items e.handle))
 

@@ -39,25 +39,25 @@ readlink_ok_items r =
 abbrev pub file_range_items : FileRange → List Item
 file_range_items f =
     Opaque Handle names.fh (handle_bytes f.handle) ∷ Hyper names.offset f.offset
-        ∷ Word names.count f.count ∷ []
+    ∷ Word names.count f.count ∷ []
 
 abbrev pub read_ok_items : ReadOk → List Item
 read_ok_items r =
     followed_by (post_op_attr_items r.attr)
     (Word names.count r.count ∷ Word names.eof (word_of r.eof)
-        ∷ Opaque Var names.«data» r.content.now ∷ [])
+    ∷ Opaque Var names.«data» r.content.now ∷ [])
 
 abbrev pub write_args_items : WriteArgs → List Item
 write_args_items w =
     Opaque Handle names.fh (handle_bytes w.handle) ∷ Hyper names.offset w.offset
-        ∷ Word names.count w.count ∷ Word names.stable (stable_number w.stable)
-        ∷ Opaque Var names.«data» w.content.now ∷ []
+    ∷ Word names.count w.count ∷ Word names.stable (stable_number w.stable)
+    ∷ Opaque Var names.«data» w.content.now ∷ []
 
 abbrev pub write_ok_items : WriteOk → List Item
 write_ok_items w =
     followed_by (wcc_items w.wcc)
     (Word names.count w.count ∷ Word names.committed (stable_number w.committed)
-        ∷ WriteVerf names.verf w.verf ∷ [])
+    ∷ WriteVerf names.verf w.verf ∷ [])
 
 abbrev pub commit_ok_items : CommitOk → List Item
 commit_ok_items c =

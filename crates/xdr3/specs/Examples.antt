@@ -34,28 +34,28 @@ abbrev pub file_type : Shape
 file_type =
     choose (codes "kind") (λ n. nat_lt n 3) BadEnum
     (λ n. if n == 0 then nothing else
-        (if n == 1 then opaque Text (codes "creator") 255 else opaque Text (codes "interpretor")
-        255))
+    (if n == 1 then opaque Text (codes "creator") 255 else opaque Text (codes "interpretor")
+    255))
 
 abbrev pub file : Layout
 file = exactly
-    (opaque Text (codes "filename") 255 then file_type then opaque Text (codes "owner") 32 then
-    opaque Var (codes "data") 65535)
+    (opaque Text (codes "filename") 255 then file_type then opaque Text (codes "owner") 32
+    then opaque Var (codes "data") 65535)
 
 -- the bytes, with residual bytes of this value
 abbrev pub file_bytes : ℕ → List ℕ
 file_bytes b =
     words (9 ∷ [])
-        ++ (codes "sillyprog"
-        ++ (b ∷ b ∷ b ∷ words (2 ∷ 4 ∷ [])
-        ++ (codes "lisp"
-        ++ (words (4 ∷ [])
-        ++ (codes "john" ++ (words (6 ∷ []) ++ (codes "(quit)" ++ b ∷ b ∷ [])))))))
+    ++ (codes "sillyprog"
+    ++ (b ∷ b ∷ b ∷ words (2 ∷ 4 ∷ [])
+    ++ (codes "lisp"
+    ++ (words (4 ∷ [])
+    ++ (codes "john" ++ (words (6 ∷ []) ++ (codes "(quit)" ++ b ∷ b ∷ [])))))))
 
 abbrev pub file_items : List Item
 file_items =
     Opaque Text (codes "filename") (codes "sillyprog") ∷ Word (codes "kind") 2
-        ∷ Opaque Text (codes "interpretor") (codes "lisp")
+    ∷ Opaque Text (codes "interpretor") (codes "lisp")
     ∷ Opaque Text (codes "owner") (codes "john") ∷ Opaque Var (codes "data") (codes "(quit)") ∷ []
 
 pub record File : Type 0 where
@@ -92,7 +92,7 @@ pub record Parts : Type 0 where
   pub two_strings : reading_verdict strings (words (1 ∷ 1 ∷ [])
       ++ (codes "a" ++ (0 ∷ 0 ∷ 0 ∷ words (1 ∷ 0 ∷ 0 ∷ [])))) ≡ Ok (
       Word (codes "next") 1 ∷ Opaque Text (codes "item") (codes "a") ∷ Word (codes "next") 1
-          ∷ Opaque Text (codes "item") [] ∷ Word (codes "next") 0 ∷ [])
+      ∷ Opaque Text (codes "item") [] ∷ Word (codes "next") 0 ∷ [])
   pub open_list : CutsAreShort strings (words (1 ∷ 0 ∷ 0 ∷ [])) 8 (8 ∷ 11 ∷ [])
   pub bad_link : IsRefused strings (words (1 ∷ 0 ∷ 2 ∷ [])) 8 BadBool
   pub two_numbers : reading_verdict numbers (words (2 ∷ 0 ∷ 5 ∷ 1 ∷ 0 ∷ []))

@@ -15,14 +15,14 @@ unfoldable pub Scans : {V : Type 0} → (V → List Item → Type 0) → Shape �
     → Type 0
 Scans stands shape old new before after =
     (items : List Item) × (reading shape old.body old.at ≡ Ok (items, new.at)) × MovesOn old new
-        × Adds stands before after items
+    × Adds stands before after items
 
 -- A word that is accepted stands there, and a visitor was told it.
 unfoldable pub ScansWord : {V : Type 0} → (V → List Item → Type 0) → List ℕ → (ℕ → Bool) → Reason
     → ℕ → View → View → V → V → Type 0
 ScansWord stands name accepted other n old new before after =
     (word_at accepted other old.body old.at ≡ Ok (n, new.at)) × MovesOn old new
-        × Adds stands before after (Word name n ∷ [])
+    × Adds stands before after (Word name n ∷ [])
 
 -- The failure is that of reading the shape there, unless memory ran out.
 unfoldable pub Stops : Shape → View → GetError → Type 0
@@ -36,7 +36,7 @@ unfoldable pub ScansLayout : {V : Type 0} → (V → List Item → Type 0) → L
     → Type 0
 ScansLayout stands layout old new before after =
     (items : List Item) × (reading_layout layout old.body old.at ≡ Ok (items, new.at))
-        × MovesOn old new × Adds stands before after items
+    × MovesOn old new × Adds stands before after items
 
 -- The failure is that of reading the layout there, unless memory ran out.
 unfoldable pub StopsLayout : Layout → View → GetError → Type 0

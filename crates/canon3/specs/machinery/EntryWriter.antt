@@ -41,8 +41,8 @@ module _ {T : Type 0} (form : List Entry → List ℕ) (before : List Entry → 
       → (between new : Option (List ℕ)) → {X : Type 0} → Result X Error → Type 0
   WritesMore was now passed after kind between new result =
       (old : Option (List ℕ)) (entries : List Entry) (one : Entry) → IsOfKind kind one
-          → AreFirst (entries ++ one ∷ []) → length (entries ++ one ∷ []) < 2 ^ 32
-          → ArePassed passed entries
+      → AreFirst (entries ++ one ∷ []) → length (entries ++ one ∷ []) < 2 ^ 32
+      → ArePassed passed entries
       → stands was (before entries ++ items_of one) → Appends old between (form entries)
       → HasMore now after old new (entries ++ one ∷ []) result
 

@@ -39,8 +39,8 @@ pub record HoldsBefore {S H : Type 0} (n : MessageWriter S H) (before : Before) 
 abbrev pub IsWritten : List ℕ → Before → (xs : List ℕ) → List Item → Type 0
 IsWritten bytes before xs items =
     AreFew (before.handles ++ handles_in items) (before.verifiers ++ verifiers_in items)
-        → length xs < 2 ^ 32
-        → bytes ≡ zero_spelling (message_after before.handles before.verifiers xs items)
+    → length xs < 2 ^ 32
+    → bytes ≡ zero_spelling (message_after before.handles before.verifiers xs items)
 
 -- the message up to here, which begins with its xid; nothing is said where it begins with another
 -- item

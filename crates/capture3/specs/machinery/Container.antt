@@ -69,7 +69,7 @@ abbrev pub AreStored : Position → Option Cursor → sided.Streams → Type 0
 AreStored position None streams = StoredAt position.spot position.total streams
 AreStored position (Some cursor) streams =
     (cursor.taken ≤ length (stream_of cursor.side streams)) × (position.records ≤ cursor.taken)
-        × (size streams ≤ position.total) × IsBeforeMark Two position.spot
+    × (size streams ≤ position.total) × IsBeforeMark Two position.spot
 
 -- the same of a container
 abbrev pub IsStored : Container → Type 0
@@ -113,35 +113,44 @@ Recalled cursor old new streams left taking next (Record side) =
     ≡ Stops (Whole (body_of taking))))
 Recalled cursor old new streams left taking next Turn =
     (cursor.side ≡ sides.Client) × (left ≡ streams) × (new ≡ record old { records = 0 })
-        × (next ≡ Some (record { side = sides.Server; taken = 0 })) × (joining_of taking ≡ Between)
-        × (after join_next (Runs Between) (rest_of cursor streams) ≡ Runs Between)
+    × (next ≡ Some (record { side = sides.Server; taken = 0 })) × (joining_of taking ≡ Between)
+    × (after join_next (Runs Between) (rest_of cursor streams) ≡ Runs Between)
 Recalled cursor old new streams left taking next Close =
     (cursor.side ≡ sides.Server) × AreEmpty left × (new ≡ old) × (next ≡ None)
-        × (joining_of taking ≡ Between)
-        × (after join_next (Runs Between) (rest_of cursor streams) ≡ Runs Between)
+    × (joining_of taking ≡ Between)
+    × (after join_next (Runs Between) (rest_of cursor streams) ≡ Runs Between)
 Recalled cursor old new streams left taking next _ = ⊥
 
 -- the stream ends within this record
 abbrev pub IsCutInRecord : Position → Side → Joining → Error → Type 0
 IsCutInRecord position side joining error =
     (joining ≢ Between)
-    × (error ≡ errors.Refused (record { place =
-    places.Record position.connections side (position.records + 1) (length (joined_body joining));
-    reason = RecordCut }))
+    × (error ≡ errors.Refused (record {
+      place =
+          places.Record position.connections side (position.records + 1)
+          (length (joined_body joining));
+      reason = RecordCut;
+    }))
 
 -- the fault of the record after the cursor, unless memory ran out
 abbrev pub RecallFails : Cursor → Position → sided.Streams → Error → Type 0
 RecallFails cursor position streams (errors.Refused fault) =
     ((at : ℕ) × (n : ℕ)
-        × (after join_next (Runs Between) (take n (rest_of cursor streams)) ≡ Stops (TooLong at))
-        × (fault ≡ record { place =
-        places.Record position.connections cursor.side (position.records + 1) at; reason =
-        RecordTooLong }))
+    × (after join_next (Runs Between) (take n (rest_of cursor streams)) ≡ Stops (TooLong at))
+    × (fault ≡ record {
+      place =
+          places.Record position.connections cursor.side (position.records + 1) at;
+      reason =
+          RecordTooLong;
+    }))
     ⊎ ((j : Joining) × (j ≢ Between)
     × (after join_next (Runs Between) (rest_of cursor streams) ≡ Runs j)
-    × (fault ≡ record { place =
-    places.Record position.connections cursor.side (position.records + 1) (length (joined_body j));
-    reason = RecordCut }))
+    × (fault ≡ record {
+      place =
+          places.Record position.connections cursor.side (position.records + 1)
+          (length (joined_body j));
+      reason = RecordCut;
+    }))
 RecallFails cursor position streams errors.Memory = Unit {0}
 RecallFails cursor position streams _ = ⊥
 

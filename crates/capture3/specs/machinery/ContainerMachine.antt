@@ -71,33 +71,68 @@ awaiting_chunk side (suc left) = Chunk side left
 -- in a chunk with so many bytes to come
 abbrev pub in_chunk : (at total connections records : ℕ) → Side → ℕ → Joining → Unpacking
 in_chunk at total connections records side left joining =
-    record { at = at; total = total; connections = connections; records = records; opened =
-        awaiting_chunk side left; joining = joining }
+    record {
+      at = at;
+      total = total;
+      connections = connections;
+      records = records;
+      opened =
+          awaiting_chunk side left;
+      joining = joining;
+    }
 
 -- before a connection word
 abbrev pub before_mark : Version → (at total connections records : ℕ) → Joining → Unpacking
 before_mark version at total connections records joining =
-    record { at = at; total = total; connections = connections; records = records; opened =
-    Mark version []; joining = joining }
+    record {
+      at = at;
+      total = total;
+      connections = connections;
+      records = records;
+      opened =
+          Mark version [];
+      joining = joining;
+    }
 
 -- before a stream's first length word, after a word
 abbrev pub before_stream : (at total connections : ℕ) → Joining → Side → Unpacking
 before_stream at total connections joining side =
-    record { at = at + 4; total = total; connections = connections; records = 0; opened =
-        Length side []; joining = joining }
+    record {
+      at = at + 4;
+      total = total;
+      connections = connections;
+      records = 0;
+      opened =
+          Length side [];
+      joining = joining;
+    }
 
 -- version 2: before a connection's first side word, after a word
 abbrev pub before_sides : (at total connections : ℕ) → Joining → Unpacking
 before_sides at total connections joining =
-    record { at = at + 4; total = total; connections = connections; records = 0; opened =
-        Mixed (gathered []) (SideWord []); joining = joining }
+    record {
+      at = at + 4;
+      total = total;
+      connections = connections;
+      records = 0;
+      opened =
+          Mixed (gathered []) (SideWord []);
+      joining = joining;
+    }
 
 -- version 2: before the length word after a side word
 abbrev pub before_side_length : (at total connections records : ℕ) → Streams → Side → Joining
     → Unpacking
 before_side_length at total connections records streams side joining =
-    record { at = at; total = total; connections = connections; records = records; opened =
-        Mixed streams (mixing.SideLength side []); joining = joining }
+    record {
+      at = at;
+      total = total;
+      connections = connections;
+      records = records;
+      opened =
+          Mixed streams (mixing.SideLength side []);
+      joining = joining;
+    }
 
 -- a connection's first part, by the version
 abbrev pub begun_at : Version → (at total connections : ℕ) → Joining → Unpacking
@@ -108,12 +143,19 @@ begun_at Two at total connections joining = before_sides at total connections jo
 abbrev pub connection_marked : Version → (at total connections records : ℕ) → Joining → ℕ
     → Next Unpacking Unpacked
 connection_marked version at total connections records joining zero =
-    Goes (record { at = at + 4; total = total; connections = connections; records =
-        records; opened = Ended version; joining = joining })
+    Goes (record {
+      at = at + 4;
+      total = total;
+      connections = connections;
+      records =
+          records;
+      opened = Ended version;
+      joining = joining;
+    })
 connection_marked version at total connections records joining (suc zero) =
     cond (nat_lt connections 65535)
-        (Ends (Has Begin [] (begun_at version at total (connections + 1) joining)))
-        (Ends (at_byte at TooManyConnections))
+    (Ends (Has Begin [] (begun_at version at total (connections + 1) joining)))
+    (Ends (at_byte at TooManyConnections))
 connection_marked version at total connections records joining (suc (suc more)) =
     Ends (at_byte at BadMark)
 
@@ -135,8 +177,15 @@ chunk_counted at total connections records side joining zero =
     Ends (stream_ended at total connections records side joining)
 chunk_counted at total connections records side joining (suc left) =
     cond (nat_lt 1073741824 (total + suc left)) (Ends (at_byte at TooManyBytes))
-    (Goes (record { at = at + 4 + suc left; total = total + suc left; connections =
-        connections; records = records; opened = Chunk side left; joining = joining }))
+    (Goes (record {
+      at = at + 4 + suc left;
+      total = total + suc left;
+      connections =
+          connections;
+      records = records;
+      opened = Chunk side left;
+      joining = joining;
+    }))
 
 -- a record has ended
 abbrev pub record_joined : (at total connections records : ℕ) → Side → ℕ → Joined
@@ -149,8 +198,15 @@ record_joined at total connections records side left (TooLong byte) =
 -- version 2: among the chunks of both sides
 abbrev pub mixed_at : (connections records : ℕ) → Joining → Mixing → Unpacking
 mixed_at connections records joining m =
-    record { at = m.at; total = m.total; connections = connections; records = records; opened =
-    Mixed m.streams m.point; joining = joining }
+    record {
+      at = m.at;
+      total = m.total;
+      connections = connections;
+      records = records;
+      opened =
+          Mixed m.streams m.point;
+      joining = joining;
+    }
 
 -- the side word 0 has come, or a fault
 abbrev pub mixed_ended : (connections : ℕ) → Joining → MixedEnd → Next Unpacking Unpacked
@@ -162,8 +218,15 @@ mixed_ended connections joining (MixedRefuses fault) = Ends (Refuses fault)
 abbrev pub in_side_chunk : (at total connections records : ℕ) → Streams → Side → ℕ → Joining
     → Unpacking
 in_side_chunk at total connections records streams side left joining =
-    record { at = at; total = total; connections = connections; records = records; opened =
-        Mixed streams (awaiting_side side left); joining = joining }
+    record {
+      at = at;
+      total = total;
+      connections = connections;
+      records = records;
+      opened =
+          Mixed streams (awaiting_side side left);
+      joining = joining;
+    }
 
 -- a side word has come
 abbrev pub sides_marked : (at total connections records : ℕ) → Streams → Joining → ℕ
@@ -184,29 +247,50 @@ abbrev pub open_step : (at total connections records : ℕ) → Joining → Open
     → Next Unpacking Unpacked
 open_step at total connections records joining (Magic due more) byte =
     cond (nat_eq byte due)
-    (Goes (record { at = at + 1; total = total; connections = connections; records =
-        records; opened = left_of_magic more; joining = joining }))
+    (Goes (record {
+      at = at + 1;
+      total = total;
+      connections = connections;
+      records =
+          records;
+      opened = left_of_magic more;
+      joining = joining;
+    }))
     (Ends (at_byte at BadMagic))
 open_step at total connections records joining Digit byte =
     cond (nat_eq byte (digit One))
-        (Goes (before_mark One (at + 1) total connections records joining))
+    (Goes (before_mark One (at + 1) total connections records joining))
     (cond (nat_eq byte (digit Two))
-        (Goes (before_mark Two (at + 1) total connections records joining))
-        (Ends (at_byte at BadMagic)))
+    (Goes (before_mark Two (at + 1) total connections records joining))
+    (Ends (at_byte at BadMagic)))
 open_step at total connections records joining (Mark version part) byte =
-    within (λ p. record { at = at; total = total; connections = connections; records =
-        records; opened = Mark version p; joining = joining })
+    within (λ p. record {
+      at = at;
+      total = total;
+      connections = connections;
+      records =
+          records;
+      opened = Mark version p;
+      joining = joining;
+    })
     (connection_marked version at total connections records joining) (word_next part byte)
 open_step at total connections records joining (Length side part) byte =
-    within (λ p. record { at = at; total = total; connections = connections; records =
-        records; opened = Length side p; joining = joining })
+    within (λ p. record {
+      at = at;
+      total = total;
+      connections = connections;
+      records =
+          records;
+      opened = Length side p;
+      joining = joining;
+    })
     (chunk_counted at total connections records side joining) (word_next part byte)
 open_step at total connections records joining (Chunk side left) byte =
     within (in_chunk at total connections records side left)
     (record_joined at total connections records side left) (join_next joining byte)
 open_step at total connections records joining (Mixed streams point) byte =
     within (mixed_at connections records joining) (mixed_ended connections joining)
-        (mixed_step at total streams point byte)
+    (mixed_step at total streams point byte)
 open_step at total connections records joining (Ended version) byte = Ends (at_byte at AfterEnd)
 
 -- the same by where the machine stands
@@ -216,5 +300,12 @@ unpack_next u byte = open_step u.at u.total u.connections u.records u.joining u.
 -- before the first byte
 abbrev pub unpacking_start : Unpacking
 unpacking_start =
-    record { at = 0; total = 0; connections = 0; records = 0; opened =
-    left_of_magic MAGIC; joining = Between }
+    record {
+      at = 0;
+      total = 0;
+      connections = 0;
+      records = 0;
+      opened =
+          left_of_magic MAGIC;
+      joining = Between;
+    }

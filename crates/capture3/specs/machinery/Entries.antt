@@ -79,7 +79,7 @@ module _ {R S H : Type 0} {builds : BuildHasher.Ghosts S H} {hashes : Hasher.Gho
       → Result (Option Kind) Error → Type 0
   HandsOutOrGoesOn told stands new was now given handed (Ok (Some kind)) =
       (entry : Entry) × IsOfKind kind entry × Adds stands was now (items_of entry)
-          × StandsFor told new given (handed ++ entry ∷ [])
+      × StandsFor told new given (handed ++ entry ∷ [])
   HandsOutOrGoesOn told stands new was now given handed (Ok None) = StandsFor told new given handed
   HandsOutOrGoesOn told stands new was now given handed (Err error) =
       StandsFor told new given handed

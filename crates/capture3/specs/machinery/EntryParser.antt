@@ -157,7 +157,7 @@ abbrev pub GoesTo : {V : Type 0} → (V → List Item → Type 0) → (was now :
 GoesTo stands was now None container table bytes entries = HasCome container table bytes entries
 GoesTo stands was now (Some kind) container table bytes entries =
     (entry : Entry) × IsHeld kind container.joiner entry × Adds stands was now (items_of entry)
-        × HasCome container table bytes (entries ++ entry ∷ [])
+    × HasCome container table bytes (entries ++ entry ∷ [])
 
 -- one of the bytes shows the fault, and these entries are all that they reach, unless memory ran
 -- out
@@ -191,16 +191,22 @@ pub record JudgesReply {V : Type 0} (stands : V → List Item → Type 0) (was n
 abbrev pub RefusesBody : {X : Type 0} → Position → Side → Result X Stop → Error → Type 0
 RefusesBody position side judged (errors.Refused fault) =
     (stop : Stop) × (judged ≡ Err stop)
-        × (fault ≡ record { place =
-        places.Record position.connections side position.records stop.at; reason = stop.reason })
+    × (fault ≡ record {
+      place =
+          places.Record position.connections side position.records stop.at;
+      reason = stop.reason;
+    })
 RefusesBody position side judged errors.Memory = Unit {0}
 RefusesBody position side judged _ = ⊥
 
 -- the fault of the record that became whole last, or that memory ran out
 abbrev pub error_at : Position → Side → GetError → Error
 error_at position side (gets.Stop stop) =
-    errors.Refused (record { place =
-    places.Record position.connections side position.records stop.at; reason = stop.reason })
+    errors.Refused (record {
+      place =
+          places.Record position.connections side position.records stop.at;
+      reason = stop.reason;
+    })
 error_at position side gets.Memory = errors.Memory
 
 -- the bytes are refused, or memory ran out: no device failed

@@ -38,14 +38,26 @@ pub record Judged : Type 0 where
 -- at a point of a stream of version 1
 abbrev pub siding_at : {M : Type 0} → (at total : ℕ) → List M → Joining → siding.Point → Siding M
 siding_at at total messages joining point =
-    record { at = at; total = total; reading =
-    record { messages = messages; joining = joining }; point = point }
+    record {
+      at = at;
+      total = total;
+      reading =
+          record { messages = messages; joining = joining };
+      point = point;
+    }
 
 -- the machine for the file, at this spot
 abbrev pub parsing_in : Version → (at total connections : ℕ) → List Entry → Spot → Parsing
 parsing_in version at total connections entries spot =
-    record { version = version; at = at; total = total; number = connections; entries =
-    entries; spot = spot }
+    record {
+      version = version;
+      at = at;
+      total = total;
+      number = connections;
+      entries =
+          entries;
+      spot = spot;
+    }
 
 -- the same by the part that is open
 abbrev pub resumed_at : (at total connections : ℕ) → Joining → Opened → Judged → Parsing
@@ -57,21 +69,26 @@ resumed_at at total connections joining (Mark version part) j =
     parsing_in version at total connections j.entries (parsing.Mark part)
 resumed_at at total connections joining (Length Client part) j =
     parsing_in One j.start j.before connections j.entries
-        (parsing.Inside (InClient (siding_at at total j.calls joining (siding.Length part))))
+    (parsing.Inside (InClient (siding_at at total j.calls joining (siding.Length part))))
 resumed_at at total connections joining (Length Server part) j =
     parsing_in One j.start j.before connections j.entries
-        (parsing.Inside
-        (InServer j.calls (siding_at at total j.replies joining (siding.Length part))))
+    (parsing.Inside
+    (InServer j.calls (siding_at at total j.replies joining (siding.Length part))))
 resumed_at at total connections joining (Chunk Client left) j =
     parsing_in One j.start j.before connections j.entries
-        (parsing.Inside (InClient (siding_at at total j.calls joining (siding.Chunk left))))
+    (parsing.Inside (InClient (siding_at at total j.calls joining (siding.Chunk left))))
 resumed_at at total connections joining (Chunk Server left) j =
     parsing_in One j.start j.before connections j.entries
-        (parsing.Inside
-        (InServer j.calls (siding_at at total j.replies joining (siding.Chunk left))))
+    (parsing.Inside
+    (InServer j.calls (siding_at at total j.replies joining (siding.Chunk left))))
 resumed_at at total connections joining (Mixed streams point) j =
-    parsing_in Two j.start j.before connections j.entries (parsing.Inside (InMixed (record { at =
-        at; total = total; streams = streams; point = point })))
+    parsing_in Two j.start j.before connections j.entries (parsing.Inside (InMixed (record {
+      at =
+          at;
+      total = total;
+      streams = streams;
+      point = point;
+    })))
 resumed_at at total connections joining (Ended version) j =
     parsing_in version at total connections j.entries parsing.Ended
 
@@ -118,7 +135,7 @@ reply_judged u j (Err stop) =
 abbrev pub conversed : Unpacking → Judged → Streams → Next Parsing ShownFault
 conversed u j streams =
     within (λ p. parsing_in Two j.start j.before u.connections j.entries (parsing.Inside p))
-        (parsing.closed Two u.connections j.entries)
+    (parsing.closed Two u.connections j.entries)
     (client_said u.connections u.at u.total streams.server (stream_end judge_call streams.client))
 
 -- what the machine for the file comes to. Streams come by HasStreams and as no event, so what is

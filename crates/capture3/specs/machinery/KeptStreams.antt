@@ -29,8 +29,8 @@ between_records messages = record { messages = messages; joining = Between }
 abbrev pub RecallsAt : Side → ℕ → ℕ → Streams → Judged → List Entry → Type 0
 RecallsAt Client taken records streams j handed =
     (stream_end judge_call streams.client
-        ≡ rest_end judge_call (between_records j.calls) (drop taken streams.client))
-        × (records ≡ length j.calls) × (handed ≡ j.entries ++ client_entries j.calls)
+    ≡ rest_end judge_call (between_records j.calls) (drop taken streams.client))
+    × (records ≡ length j.calls) × (handed ≡ j.entries ++ client_entries j.calls)
 RecallsAt Server taken records streams j handed =
     (stream_end judge_call streams.client ≡ Held j.calls)
     × (stream_end (judge_replies j.calls) streams.server

@@ -81,8 +81,15 @@ opened_at streams (Ended version) at = unpacking.Ended (version_of version)
 -- the position, the streams and the open record, as the machine has them
 abbrev pub unpacking_at : Position → sided.Streams → Joining → Unpacking
 unpacking_at p streams joining =
-    record { at = p.at; total = p.total; connections = p.connections; records = p.records; opened =
-        opened_at streams p.spot p.at; joining = joining }
+    record {
+      at = p.at;
+      total = p.total;
+      connections = p.connections;
+      records = p.records;
+      opened =
+          opened_at streams p.spot p.at;
+      joining = joining;
+    }
 
 -- some of the bytes lead the machine to the fault
 abbrev pub ShowsFault : Unpacking → List ℕ → Error → Type 0

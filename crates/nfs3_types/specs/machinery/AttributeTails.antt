@@ -6,8 +6,8 @@ use Rattle.nfs3_types.specs.Shapes.{time_how, times}
 unfoldable pub after_type : Shape
 after_type =
     word names.mode then word names.nlink then word names.uid then word names.gid
-    then hyper names.size then hyper names.used then word names.rdev1 then word names.rdev2 then
-        hyper names.fsid then hyper names.fileid
+    then hyper names.size then hyper names.used then word names.rdev1 then word names.rdev2
+    then hyper names.fsid then hyper names.fileid
     then times
 
 unfoldable pub settable_times : Shape

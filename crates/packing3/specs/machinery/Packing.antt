@@ -15,8 +15,11 @@ module _ {W : Type 0} where
       (old written : Option (List ℕ)) (error : Error) : Type 0 where
     pub full : packing.connections ≡ max_connections
     pub is : error
-        ≡ errors.Refused (record { place = places.File packing.extent.at; reason =
-        reasons.TooManyConnections })
+        ≡ errors.Refused (record {
+          place = places.File packing.extent.at;
+          reason =
+              reasons.TooManyConnections;
+        })
     pub same_client : client ≡ old_client
     pub same_server : server ≡ old_server
     pub same_sink : written ≡ old

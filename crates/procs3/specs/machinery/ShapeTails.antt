@@ -30,10 +30,10 @@ fsstat_parts = post_op_attr then fsstat_numbers
 
 unfoldable pub fsinfo_numbers : Shape
 fsinfo_numbers =
-    word names.rtmax then word names.rtpref then word names.rtmult then word names.wtmax then word
-        names.wtpref then word names.wtmult
+    word names.rtmax then word names.rtpref then word names.rtmult then word names.wtmax
+    then word names.wtpref then word names.wtmult
     then word names.dtpref then hyper names.maxfilesize then time names.delta_sec names.delta_nsec
-        then word names.properties
+    then word names.properties
 
 unfoldable pub fsinfo_parts : Shape
 fsinfo_parts = post_op_attr then fsinfo_numbers

@@ -17,5 +17,5 @@ unfoldable pub ScansAccept : {V : Type 0} → (V → List Item → Type 0) → �
     → Type 0
 ScansAccept stands stat old new before after =
     (items : List Item) × (reading accept old.body old.at ≡ Ok (items, new.at))
-        × (word_in items 0 ≡ stat) × MovesOn old new
+    × (word_in items 0 ≡ stat) × MovesOn old new
     × Adds stands before after items

@@ -12,8 +12,8 @@ use Rattle.xdr3.specs.Visit.{Adds}
 unfoldable pub ScansInside : {V : Type 0} → (V → List Item → Type 0) → Shape → View → V → V → Type 0
 ScansInside stands shape window before after =
     (items : List Item)
-        × (from_window (length window.body) (reading shape window.body window.at)
-        ≡ Ok (items, length window.body)) × Adds stands before after items
+    × (from_window (length window.body) (reading shape window.body window.at)
+    ≡ Ok (items, length window.body)) × Adds stands before after items
 
 unfoldable pub StopsInside : Shape → View → GetError → Type 0
 StopsInside shape window error =
