@@ -15,13 +15,13 @@ null = one (call_of 100003 0 3735928559 [] ∷ []) (success_reply 100003 0 37359
 
 abbrev pub null_call_text : List ℕ
 null_call_text =
-    codes "1 client 1 xid=3735928559 NFSPROC3_NULL mtype=0 rpcvers=2 prog=100003 vers=3 proc=0
-    cred_flavor=0 cred_body= verf_flavor=0 verf_body="
+    codes "1 client 1 xid=3735928559 NFSPROC3_NULL mtype=0 rpcvers=2 prog=100003 vers=3 proc=0"
+    ++ codes " cred_flavor=0 cred_body= verf_flavor=0 verf_body="
 
 abbrev pub null_reply_text : List ℕ
 null_reply_text =
-    codes "1 server 1 xid=3735928559 NFSPROC3_NULL mtype=1 reply_stat=0 verf_flavor=0 verf_body=
-    accept_stat=0"
+    codes "1 server 1 xid=3735928559 NFSPROC3_NULL mtype=1 reply_stat=0 verf_flavor=0 verf_body="
+    ++ codes " accept_stat=0"
 
 pub record ListsNull : Type 0 where
   pub lines : shown null ≡ line_of null_call_text ++ line_of null_reply_text
@@ -30,7 +30,7 @@ pub record ListsNull : Type 0 where
 abbrev pub attributes_reply : List Item
 attributes_reply =
     Word (codes "status") 0 ∷ Word (codes "type") 2 ∷ Word (codes "mode") 493
-        ∷ Word (codes "nlink") 2 ∷ Word (codes "uid") 0 ∷ Word (codes "gid") 0
+    ∷ Word (codes "nlink") 2 ∷ Word (codes "uid") 0 ∷ Word (codes "gid") 0
     ∷ Hyper (codes "size") 4096 ∷ Hyper (codes "used") 4096 ∷ Word (codes "rdev1") 0
     ∷ Word (codes "rdev2") 0 ∷ Hyper (codes "fsid") 1 ∷ Hyper (codes "fileid") 2
     ∷ Word (codes "atime_sec") 1 ∷ Word (codes "atime_nsec") 0 ∷ Word (codes "mtime_sec") 1
@@ -38,10 +38,10 @@ attributes_reply =
 
 abbrev pub getattr_reply_text : List ℕ
 getattr_reply_text =
-    codes "3 server 2 xid=7 NFSPROC3_GETATTR mtype=1 reply_stat=0 verf_flavor=0 verf_body=
-        accept_stat=0 status=0 type=2 mode=493 nlink=2 uid=0 gid=0"
-    ++ codes " size=4096 used=4096 rdev1=0 rdev2=0 fsid=1 fileid=2 atime_sec=1 atime_nsec=0
-    mtime_sec=1 mtime_nsec=0 ctime_sec=1 ctime_nsec=0"
+    codes "3 server 2 xid=7 NFSPROC3_GETATTR mtype=1 reply_stat=0 verf_flavor=0 verf_body="
+    ++ codes " accept_stat=0 status=0 type=2 mode=493 nlink=2 uid=0 gid=0"
+    ++ codes " size=4096 used=4096 rdev1=0 rdev2=0 fsid=1 fileid=2 atime_sec=1 atime_nsec=0"
+    ++ codes " mtime_sec=1 mtime_nsec=0 ctime_sec=1 ctime_nsec=0"
 
 pub record ListsGetattr : Type 0 where
   pub line : entry_line 3 1 (success_reply 100003 1 7 attributes_reply) ≡ line_of getattr_reply_text
@@ -57,8 +57,8 @@ raw =
 
 abbrev pub raw_call_text : List ℕ
 raw_call_text =
-    codes "2 client 1 xid=5 RAW mtype=0 rpcvers=2 prog=100227 vers=3 proc=1 cred_flavor=0 cred_body=
-    verf_flavor=0 verf_body= rest=000000040a0b0c0d00000001"
+    codes "2 client 1 xid=5 RAW mtype=0 rpcvers=2 prog=100227 vers=3 proc=1 cred_flavor=0 cred_body="
+    ++ codes " verf_flavor=0 verf_body= rest=000000040a0b0c0d00000001"
 
 abbrev pub raw_reply_text : List ℕ
 raw_reply_text =
