@@ -41,6 +41,8 @@ def version() -> str:
 def works(place: Place, prefix: pathlib.Path) -> None:
     """What is under a prefix is all that is needed to compare the examples."""
     place.want('the program', place.command(str(prefix / 'bin/nfs3canon'), 'check', str(TOP / 'examples/null.nfs3cap'))[0], 0)
+    form = str(pathlib.Path(place.folder, 'masked'))
+    place.want('nfs3mask', place.command(str(prefix / 'bin/nfs3mask'), str(TOP / 'examples/null.nfs3cap'), form)[0], 0)
     for tool in TOOLS:
         own = str(prefix / 'bin' / ('nfs3-' + tool))
         place.want('version of ' + tool, place.command(own, '--version')[1].split()[1:], [version()])
@@ -49,8 +51,11 @@ def works(place: Place, prefix: pathlib.Path) -> None:
     runs = [str(TOP / ('examples/ganesha_%s.pcap' % name)) for name in 'ab']
     place.want('compare', place.command(str(prefix / 'bin/nfs3-compare'), *runs)[1].splitlines()[-1], 'same')
     place.want('verdicts', place.command(str(prefix / 'bin/nfs3-verdicts'), runs[0])[1].splitlines()[-1], '3 ok, 0 refused, 0 errors')
-    for path in ('bash-completion/completions/nfs3canon', 'zsh/site-functions/_nfs3canon', 'fish/vendor_completions.d/nfs3canon.fish',
-                 'nfs3canon/LICENSE-MIT', 'nfs3canon/LICENSE-APACHE', 'man/man1/nfs3canon.1'):
+    for name in ('nfs3canon', 'nfs3mask'):
+        for path in ('bash-completion/completions/' + name, 'zsh/site-functions/_' + name, 'fish/vendor_completions.d/%s.fish' % name,
+                     'man/man1/%s.1' % name):
+            place.want(path, (prefix / 'share' / path).is_file(), True)
+    for path in ('nfs3canon/LICENSE-MIT', 'nfs3canon/LICENSE-APACHE'):
         place.want(path, (prefix / 'share' / path).is_file(), True)
 
 
@@ -86,7 +91,8 @@ def as_a_release(place: Place) -> None:
 
 
 def version_of_the_launcher(place: Place) -> None:
-    place.want('version', place.command(str(TOP / 'nfs3canon'), '--version'), (0, 'nfs3canon %s\n' % version(), ''))
+    for name in ('nfs3canon', 'nfs3mask'):
+        place.want('version', place.command(str(TOP / name), '--version'), (0, '%s %s\n' % (name, version()), ''))
 
 
 TESTS: list[Callable[[Place], None]] = [under_a_prefix, where_nothing_can_be_written, as_a_release, version_of_the_launcher]

@@ -17,7 +17,7 @@ import subprocess
 import sys
 import tempfile
 
-from running import try_all, words_of
+from running import command_of, try_all, words_of
 
 sys.path.insert(0, str(pathlib.Path(__file__).resolve().parent.parent / 'measure'))
 import make  # noqa: E402
@@ -33,6 +33,8 @@ LIMITS = {
     'show mixed': 22.0,
     'same mixed': 22.3,
     'pack small': 0.39,
+    'nfs3mask small': 20.3,
+    'nfs3mask mixed': 16.4,
 }
 MIXES = {'small': (make.SMALL, 1), 'mixed': (make.MIXED, 4)}
 
@@ -51,6 +53,8 @@ def words_for(command: str, name: str) -> list[str]:
     match command:
         case 'canon':
             return ['canon', name, 'canon-' + name]
+        case 'nfs3mask':
+            return ['nfs3mask', name, 'masked-' + name]
         case 'same':
             return ['same', name, name]
         case 'pack':
@@ -61,7 +65,8 @@ def words_for(command: str, name: str) -> list[str]:
 
 def millions(program: str, folder: pathlib.Path, command: str, name: str) -> float:
     """How many million instructions the run takes; it has to end with status 0."""
-    words = ['valgrind', '--tool=callgrind', '--callgrind-out-file=/dev/null', program, *words_for(command, name)]
+    path, words = command_of(program, words_for(command, name))
+    words = ['valgrind', '--tool=callgrind', '--callgrind-out-file=/dev/null', path, *words]
     run = subprocess.run(words, cwd=folder, stdout=subprocess.DEVNULL, stderr=subprocess.PIPE, text=True, check=True)
     counted = re.search(r'Collected : (\d+)', run.stderr)
     if not counted:

@@ -18,7 +18,7 @@ import crate_pages
 import pages
 from captures import SMALL, capture_in, rows_of
 from rooms import in_the_wrong_room, long_lines, of_private_fields, of_several_meanings
-from running import try_all, words_of
+from running import program_named, try_all, words_of
 from scripts import TOP, Tools
 from traffic import NFS, Names, Traffic, call, messages, success
 from layouts import Message, procedure_of
@@ -131,9 +131,9 @@ def is_printed(wanted, printed):
 def commands_of_the_readme(tools):
     """Each is run, in order, and prints what stands below it. The status is told by what is printed."""
     commands = console_of(README)
-    tools.want('commands', len(commands), 12)
+    tools.want('commands', len(commands), 13)
     for command, wanted in commands:
-        words = command.replace('/tmp/', tools.folder + '/').replace('./nfs3canon', tools.program)
+        words = command.replace('/tmp/', tools.folder + '/').replace('./nfs3canon', tools.program).replace('./nfs3mask', program_named('nfs3mask', tools.program))
         words = re.sub(r'^tools/(verdicts|compare) ', r'tools/\1 --program %s ' % tools.program, words)
         done = subprocess.run(['sh', '-c', words], cwd=TOP, stdout=subprocess.PIPE, stderr=subprocess.STDOUT, text=True)
         printed = done.stdout.splitlines()

@@ -1,8 +1,8 @@
-"""Puts the program, the tools, manual pages and completions under a prefix, or into a tar file.
+"""Puts the programs, the tools, manual pages and completions under a prefix, or into a tar file.
 
 Under the prefix there are
 
-    bin/nfs3canon                                the program
+    bin/nfs3canon, bin/nfs3mask                  the programs
     bin/nfs3-NAME                                a link to each tool, with hyphens in its name
     share/nfs3canon/tools/                       the tools
     share/nfs3canon/{CHANGELOG.md,LICENSE-*}     the version, and the licences
@@ -18,12 +18,15 @@ from collections.abc import Iterator
 from pathlib import Path
 
 from .messages import parser_of
+from .programs import program_beside
 from .version import TOP, version
 
 PROGRAM = TOP / 'crates/nfs3canon/out/nfs3canon'
+PROGRAMS = ('nfs3canon', 'nfs3mask')
 TOOLS = ('from_pcap', 'where', 'verdicts', 'compare', 'explain')
-COMPLETIONS = {'nfs3canon.bash': 'share/bash-completion/completions/nfs3canon', '_nfs3canon': 'share/zsh/site-functions/_nfs3canon',
-               'nfs3canon.fish': 'share/fish/vendor_completions.d/nfs3canon.fish'}
+COMPLETIONS = {file.format(name): place.format(name) for name in PROGRAMS for file, place in (
+    ('{}.bash', 'share/bash-completion/completions/{}'), ('_{}', 'share/zsh/site-functions/_{}'),
+    ('{}.fish', 'share/fish/vendor_completions.d/{}.fish'))}
 HOME = 'share/nfs3canon'
 # The time of each file in a release, so that the same sources give the same bytes.
 RELEASED = 0
@@ -36,11 +39,12 @@ def name_of(tool: str) -> str:
 
 def files(program: Path) -> Iterator[tuple[Path, str]]:
     """Returns each file, and where it goes under the prefix."""
-    yield program, 'bin/nfs3canon'
+    for name in PROGRAMS:
+        yield program if name == 'nfs3canon' else Path(program_beside(str(program), name)), f'bin/{name}'
+        yield TOP / 'man' / f'{name}.1', f'share/man/man1/{name}.1'
     for tool in TOOLS:
         yield TOP / 'tools' / tool, f'{HOME}/tools/{tool}'
         yield TOP / 'man' / f'{tool}.1', f'share/man/man1/{name_of(tool)}.1'
-    yield TOP / 'man/nfs3canon.1', 'share/man/man1/nfs3canon.1'
     yield TOP / 'tools/layouts.py', f'{HOME}/tools/layouts.py'
     for module in sorted((TOP / 'tools/nfs3tools').glob('*.py')):
         yield module, f'{HOME}/tools/nfs3tools/{module.name}'
@@ -94,13 +98,13 @@ def release(folder: Path, program: Path) -> Path:
 
 def words_of(words: list[str], name: str, what: str, target: str, default: str) -> argparse.Namespace:
     parser = parser_of(what, name)
-    parser.add_argument('--program', type=Path, default=PROGRAM, help='the built program')
+    parser.add_argument('--program', type=Path, default=PROGRAM, help='the built nfs3canon; nfs3mask is looked for beside it')
     parser.add_argument('target', nargs='?', type=Path, default=Path(default), metavar=target)
     return parser.parse_args(words)
 
 
 def main_of_install(words: list[str]) -> int:
-    asked = words_of(words, 'install', 'Puts the program, the tools, manual pages and completions under PREFIX.', 'PREFIX',
+    asked = words_of(words, 'install', 'Puts the programs, the tools, manual pages and completions under PREFIX.', 'PREFIX',
                      str(Path.home() / '.local'))
     install(asked.target, asked.program)
     print(f'installed nfs3canon {version()} under {asked.target}')

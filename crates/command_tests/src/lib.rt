@@ -12,6 +12,8 @@ mod lines;
 #[cfg(test)]
 mod listings;
 #[cfg(test)]
+mod mask_lines;
+#[cfg(test)]
 mod masks;
 #[cfg(test)]
 mod packs;

@@ -72,6 +72,17 @@ fn jobs_that_are_done(rt: HostRuntime) -> Result<(), Fail> {
     let alloc = rt.alloc();
     let counts = out(0, "ok connections=3 calls=103 replies=102 handles=9\n");
     ends(&rt, alloc, &Outcome::Counted(Ok(summary())), &counts)?;
+    let mask = String::from_str(alloc, " times=zero")?;
+    let counts_and_mask = out(
+        0,
+        "ok connections=3 calls=103 replies=102 handles=9\nmasked times=zero\n",
+    );
+    ends(
+        &rt,
+        alloc,
+        &Outcome::Masked(summary(), mask),
+        &counts_and_mask,
+    )?;
     ends(&rt, alloc, &Outcome::Listed(Ok(summary())), &out(0, ""))?;
     ends(&rt, alloc, &Outcome::Packed(Ok(())), &out(0, ""))?;
     ends(

@@ -20,7 +20,7 @@ use Rattle.masking3.specs.declared.ways.Way.{Way}
 use Rattle.masking3.specs.declared.class.Class.TheVariants.{Times, Stamps, Space, Ids, Fsids, Cookies, CookieVerifiers, CreateVerifiers, Owners}
 use Rattle.mask_line3.specs.declared.asked.Change.{Change}
 use Rattle.mask_line3.specs.Changes.{change_word}
-use Rattle.mask_line3.specs.Grammar.{mask_app}
+use Rattle.mask_line3.specs.machinery.Grammar.{mask_app}
 use Rattle.mask_line3.specs.MaskLine.{AreMaskWordsRefused, mask_words}
 
 simple : is_simple mask_app ≡ true

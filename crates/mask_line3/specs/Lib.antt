@@ -2,5 +2,4 @@
 pub mod Names
 pub mod Changes
 pub mod MaskLine
-pub mod Grammar
 pub mod machinery

@@ -18,10 +18,10 @@ const COUNTS: Summary = Summary {
 };
 
 /// The answer of a command that may write, and what it wrote.
-type Run = (Result<Summary, Error>, MemSink);
+pub(crate) type Run = (Result<Summary, Error>, MemSink);
 
 /// The same answer and bytes in both runs, or memory ran out in one after a front of what the other wrote.
-fn agree(rt: &impl Abort, first: &Run, second: &Run) {
+pub(crate) fn agree(rt: &impl Abort, first: &Run, second: &Run) {
     let (refused, whole) = if first.0.is_ok() {
         (second, first)
     } else {

@@ -5,6 +5,8 @@
 #[cfg(test)]
 mod commands;
 #[cfg(test)]
+mod masks;
+#[cfg(test)]
 mod parts;
 #[cfg(test)]
 mod readers;

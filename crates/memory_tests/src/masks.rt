@@ -1,0 +1,83 @@
+// The calls of a program that masks. At most one growth is refused in a test, so of two runs one has its
+// whole answer.
+
+use crate::commands::{Run, agree};
+use canon3::MemSink;
+use capture3::MemSource;
+use line3::LineFault;
+use mask_line3::{mask_job, ways_told};
+use masking3::{ClassHashers, MaskHashers, Way, Ways, mask};
+use std::hash::{BuildHasherDefault, FoldHasher};
+use std::test::Fail;
+
+/// A READDIR of the handle aa with xid 5, a cookie and its verifier, and the reply that the handle is stale.
+const READDIR: [u8; 140] = [
+    0x4e, 0x46, 0x53, 0x33, 0x43, 0x41, 0x50, 0x31, 0, 0, 0, 1, 0, 0, 0, 0x48, 0x80, 0, 0, 0x44, 0,
+    0, 0, 5, 0, 0, 0, 0, 0, 0, 0, 2, 0, 1, 0x86, 0xa3, 0, 0, 0, 3, 0, 0, 0, 0x10, 0, 0, 0, 0, 0, 0,
+    0, 0, 0, 0, 0, 0, 0, 0, 0, 0, 0, 0, 0, 4, 0xaa, 0xaa, 0xaa, 0xaa, 0, 0, 0, 0, 0, 0, 2, 0, 9, 8,
+    7, 6, 5, 4, 3, 2, 0, 0, 2, 0, 0, 0, 0, 0, 0, 0, 0, 0x24, 0x80, 0, 0, 0x20, 0, 0, 0, 5, 0, 0, 0,
+    1, 0, 0, 0, 0, 0, 0, 0, 0, 0, 0, 0, 0, 0, 0, 0, 0, 0, 0, 0, 0x46, 0, 0, 0, 0, 0, 0, 0, 0, 0, 0,
+    0, 0,
+];
+
+fn hashers() -> MaskHashers<BuildHasherDefault<FoldHasher>> {
+    MaskHashers {
+        calls: BuildHasherDefault::default(),
+        handles: BuildHasherDefault::default(),
+        classes: ClassHashers {
+            times: BuildHasherDefault::default(),
+            stamps: BuildHasherDefault::default(),
+            space: BuildHasherDefault::default(),
+            ids: BuildHasherDefault::default(),
+            fsids: BuildHasherDefault::default(),
+            cookies: BuildHasherDefault::default(),
+            cookie_verifiers: BuildHasherDefault::default(),
+            create_verifiers: BuildHasherDefault::default(),
+            owners: BuildHasherDefault::default(),
+        },
+    }
+}
+
+fn masked(rt: &HostRuntime, mut sink: MemSink) -> Run {
+    let mut source = MemSource::new(&READDIR, 50, 0);
+    let came = mask(rt.alloc(), hashers(), Ways::usual(), &mut source, &mut sink);
+    (came, sink)
+}
+
+#[test]
+fn a_masked_form_is_written(rt: HostRuntime) {
+    let (Ok(first), Ok(second)) = (
+        MemSink::new(rt.alloc(), 999, 999, 0),
+        MemSink::new(rt.alloc(), 999, 999, 0),
+    ) else {
+        return;
+    };
+    agree(&rt, &masked(&rt, first), &masked(&rt, second));
+}
+
+#[test]
+fn a_line_of_a_mask_is_read(rt: HostRuntime) -> Result<(), Fail> {
+    let mut words = Vec::new(rt.alloc());
+    for word in ["nfs3mask", "a", "b", "owners=number"] {
+        let Ok(word) = String::from_str(rt.alloc(), word) else {
+            return Ok(());
+        };
+        if words.push(word).is_err() {
+            return Ok(());
+        }
+    }
+    match mask_job(rt.alloc(), &words) {
+        Ok(asked) => assert_eq!(rt; asked.ways.owners, Way::Number),
+        Err(fault) => assert!(rt; matches!(fault, LineFault::Memory)),
+    }
+    Ok(())
+}
+
+/// The words are all there, or memory ran out.
+#[test]
+fn a_mask_is_told(rt: HostRuntime) {
+    if let Ok(text) = ways_told(rt.alloc(), &Ways::usual()) {
+        assert!(rt; text.as_str().starts_with(" times=zero "));
+        assert!(rt; text.as_str().ends_with(" owners=keep"));
+    }
+}
