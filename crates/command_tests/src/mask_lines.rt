@@ -1,4 +1,4 @@
-// Command lines of nfs3mask, and what is made of them.
+//! Command lines of nfs3mask, and what is made of them.
 
 use line3::LineFault;
 use mask_line3::{MaskJob, mask_job, ways_told};

@@ -57,8 +57,8 @@ raw =
 
 abbrev pub raw_call_text : List ℕ
 raw_call_text =
-    codes "2 client 1 xid=5 RAW mtype=0 rpcvers=2 prog=100227 vers=3 proc=1 cred_flavor=0 cred_body="
-    ++ codes " verf_flavor=0 verf_body= rest=000000040a0b0c0d00000001"
+    codes "2 client 1 xid=5 RAW mtype=0 rpcvers=2 prog=100227 vers=3 proc=1 cred_flavor=0"
+    ++ codes " cred_body= verf_flavor=0 verf_body= rest=000000040a0b0c0d00000001"
 
 abbrev pub raw_reply_text : List ℕ
 raw_reply_text =

@@ -1,5 +1,5 @@
-// The calls of a program that masks. At most one growth is refused in a test, so of two runs one has its
-// whole answer.
+//! The calls of a program that masks. At most one growth is refused in a test, so of two runs one has its
+//! whole answer.
 
 use crate::commands::{Run, agree};
 use canon3::MemSink;
