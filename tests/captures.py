@@ -14,7 +14,7 @@ import subprocess
 import tempfile
 
 from containers import Container
-from running import try_all, words_of
+from running import command_of, try_all, words_of
 from texts import bytes_of, capture_of, chunk, fragment, mixed, mixed_of, one_fragment, records_of, word
 
 HERE = pathlib.Path(__file__).resolve().parent
@@ -79,7 +79,8 @@ class Runs:
             return file.read()
 
     def run(self, *words, stdin=None):
-        done = subprocess.run([self.program, *words], cwd=self.folder, input=stdin, timeout=TIMEOUT,
+        program, words = command_of(self.program, words)
+        done = subprocess.run([program, *words], cwd=self.folder, input=stdin, timeout=TIMEOUT,
                               stdout=subprocess.PIPE, stderr=subprocess.PIPE)
         return done.returncode, done.stdout.decode(), done.stderr.decode()
 

@@ -22,7 +22,7 @@ import time
 
 from captures import Runs
 from outputs import PART
-from running import try_all, words_of
+from running import command_of, try_all, words_of
 from texts import fragment, mixed
 from traffic import (
     CLIENT, MAGIC_2, NFS, NFSACL, call, dirop, fh, hyper, in_turn, interleaved, messages, success, word)
@@ -52,7 +52,8 @@ class Place(Runs):
         return self.run_by(self.under(limit, *words))
 
     def under(self, limit, *words):
-        return ['sh', '-c', 'trap "" XFSZ; ulimit %s; exec "$@"' % limit, 'sh', self.program, *words]
+        program, words = command_of(self.program, words)
+        return ['sh', '-c', 'trap "" XFSZ; ulimit %s; exec "$@"' % limit, 'sh', program, *words]
 
     def run_by(self, words, **options):
         done = subprocess.run(words, cwd=self.folder, stdin=subprocess.DEVNULL, stdout=subprocess.PIPE,
@@ -133,9 +134,11 @@ def memory_that_is_refused_to_version_2(place):
 
 def refuse_memory(place, capture):
     place.write('a', capture)
-    commands = {'check': ['a'], 'show': ['a'], 'same': ['a', 'a'], 'canon': ['a', 'out']}
-    plenty = {command: place.run(command, *names) for command, names in commands.items()}
-    form, refused = place.read('out'), set()
+    commands = {'check': ['a'], 'show': ['a'], 'same': ['a', 'a'], 'canon': ['a', 'out'], 'nfs3mask': ['a', 'out', 'ids=keep']}
+    plenty, forms, refused = {}, {}, set()
+    for command, names in commands.items():
+        plenty[command] = place.run(command, *names)
+        forms[command] = place.read('out') if 'out' in names else b'as it was'
     for limit in range(place.least_memory(), 32_768, 384):
         for command, names in commands.items():
             place.write('out', b'as it was')
@@ -144,7 +147,7 @@ def refuse_memory(place, capture):
             refused |= {command} if is_refused else set()
             if not is_refused:
                 place.want('%s with %d KiB' % (command, limit), answer, plenty[command])
-            wanted = form if command == 'canon' and not is_refused else b'as it was'
+            wanted = b'as it was' if is_refused else forms[command]
             place.want('out is right after %s with %d KiB' % (command, limit), place.read('out') == wanted, True)
     place.want('commands that were refused memory', sorted(refused), sorted(commands))
     place.want('files', sorted(os.listdir(place.folder)), ['a', 'out', 'small'])

@@ -11,6 +11,12 @@ use Rattle.nfs3canon.specs.Files.{ComparesFiles, CountsFile}
 
 counts_none : (name bytes : List ℕ) (outcome : Outcome) → IsOfName name outcome → CountsFile name bytes outcome
 counts_none name bytes (outcomes.Unopened text) named = named
+counts_none name bytes (outcomes.Counted came) named = absurd named
+counts_none name bytes (outcomes.Masked summary told) named = absurd named
+counts_none name bytes (outcomes.Listed came) named = absurd named
+counts_none name bytes (outcomes.Compared came) named = absurd named
+counts_none name bytes (outcomes.Packed came) named = absurd named
+counts_none name bytes (outcomes.Line fault) named = absurd named
 
 pub uncounted_tells : (name bytes : List ℕ) (error : OpenError) (outcome : Outcome)
     → TellsOf name error (outcomes.Counted (Err errors.Memory)) outcome → CountsFile name bytes outcome
@@ -20,9 +26,21 @@ uncounted_tells name bytes causes.Memory outcome is = subst (CountsFile name byt
 
 first_unopened : (first second file other : List ℕ) (outcome : Outcome) → IsOfName first outcome → ComparesFiles first second file other outcome
 first_unopened first second file other (outcomes.Unopened text) named = inl named
+first_unopened first second file other (outcomes.Counted came) named = absurd named
+first_unopened first second file other (outcomes.Masked summary told) named = absurd named
+first_unopened first second file other (outcomes.Listed came) named = absurd named
+first_unopened first second file other (outcomes.Compared came) named = absurd named
+first_unopened first second file other (outcomes.Packed came) named = absurd named
+first_unopened first second file other (outcomes.Line fault) named = absurd named
 
 second_unopened : (first second file other : List ℕ) (outcome : Outcome) → IsOfName second outcome → ComparesFiles first second file other outcome
 second_unopened first second file other (outcomes.Unopened text) named = inr named
+second_unopened first second file other (outcomes.Counted came) named = absurd named
+second_unopened first second file other (outcomes.Masked summary told) named = absurd named
+second_unopened first second file other (outcomes.Listed came) named = absurd named
+second_unopened first second file other (outcomes.Compared came) named = absurd named
+second_unopened first second file other (outcomes.Packed came) named = absurd named
+second_unopened first second file other (outcomes.Line fault) named = absurd named
 
 module _ (first second file other : List ℕ) (which : Which) where
   no_memory : (outcome : Outcome) → outcome ≡ outcomes.Compared (Err (record { which = which; error = errors.Memory }))
