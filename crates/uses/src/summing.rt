@@ -111,12 +111,12 @@ pub fn bytes_to_write<R: Source, S: BuildHasher + Drop>(
 }
 
 /// Adds what an entry of this kind has, whose items were visited.
-fn with_entry(sum: u64, kind: Kind, data: &DataBytes) -> u64
+fn with_entry(sum: u64, kind: Kind, visitor: &DataBytes) -> u64
     ensures { (entries : List Entry) (entry : Entry) → IsSum sum entries → IsOfKind kind entry
-        → HasSummed data.now (items_of entry) → IsSum result (entries ++ entry ∷ []) }
+        → HasSummed visitor.now (items_of entry) → IsSum result (entries ++ entry ∷ []) }
 {
     if is_call(kind, WRITE) {
-        sum.saturating_add(data.sum)
+        sum.saturating_add(visitor.sum)
     } else {
         sum
     }
