@@ -1,5 +1,5 @@
 -- A loop over the entries of a reader: what it has read so far, and what follows at its end.
-use Rattle.std.proofs.Common.{◌≡◌, ℕ, Option, Some, None, Ok, Err, List, [], ◌∷◌, ◌++◌, subst, inl, inr, refl}
+use Rattle.std.proofs.Common.{◌≡◌, ℕ, Option, Some, None, Ok, Err, List, [], ◌∷◌, ◌++◌, subst, refl}
 use Rattle.capture3.specs.Told.{Told, Gave}
 use Rattle.capture3.proofs.ToldLemmas.{gave_both, prefix_of_told, shown_of_all}
 use Rattle.std.specs.declared.hash.BuildHasher as BuildHasher
@@ -10,8 +10,7 @@ use Rattle.capture3.specs.declared.reader.entries.Entries.{Entries}
 use Rattle.capture3.specs.declared.reader.entry.Kind.{Kind}
 use Rattle.capture3.specs.declared.fault.Error.{Error}
 use Rattle.capture3.specs.declared.fault.Error.TheVariants as errors
-use Rattle.capture3.specs.declared.fault.Fault.{Fault}
-use Rattle.capture3.specs.Entries.{IsMetBy, OnRefused, source_of}
+use Rattle.capture3.specs.Entries.{OnRefused, source_of}
 use Rattle.capture3.specs.machinery.Entries.{StandsFor}
 use Rattle.capture3.specs.Entry.{Entry, items_of}
 use Rattle.capture3.specs.FirstFault.{FirstFault}
