@@ -1,14 +1,14 @@
--- A table of calls that is hashed by their xids, as the list of its calls.
-use Rattle.std.proofs.Common.{◌≡◌, ◌⊎◌, inl, inr, ℕ, Bool, true, false, cond, if◌then◌else◌, is_some, nat_eq, Option, Some, None, List, [], ◌∷◌, ◌++◌, refl, sym, ap, ◌∙◌, eq-eqb}
+-- Calls that are hashed by their xids, as a list.
+use Rattle.std.proofs.Common.{◌≡◌, ◌⊎◌, inl, inr, ℕ, ◌==◌, ◌<◌, ◌≤◌, Bool, true, false, cond, if◌then◌else◌, is_some, nat_eq, Option, Some, None, Result, Ok, Err, List, [], ◌∷◌, ◌++◌, refl, sym, ap, subst, ◌∙◌, eq-eqb, arith}
 use Rattle.std.proofs.lemmas.Bool.{eqb-true}
-use Rattle.std.proofs.lemmas.List.{map-append}
 use Rattle.std.specs.Map.{lookup}
-use Rattle.indexmap.specs.IndexMap.{IndexMap, get, insert_entry}
-use Rattle.indexmap.proofs.CallerLemmas.{insert_entry-new}
+use Rattle.std.specs.Result.{OnOk, OnErr}
+use Rattle.indexmap.specs.IndexMap.{IndexMap, get, IsUnchanged, Updates}
 use Rattle.rpc_head.specs.declared.call.ProcId.{ProcId}
 use Rattle.capture3.specs.declared.message.calls.NumberedCall.{NumberedCall}
-use Rattle.capture3.specs.machinery.Calls.{found, numbered_calls, with_numbered_call}
+use Rattle.capture3.specs.machinery.Calls.{found, numbered_calls, AreAbove, FindsSame, Gains, Puts}
 use Rattle.capture3.specs.BodyProgram.{agrees}
+use Rattle.capture3.proofs.LineLemmas.{found_behind, gains_known, gains_put, puts_behind}
 use Rattle.capture3.proofs.BodiesLemmas.{same_is}
 
 same_either_way : (a b : ℕ) → nat_eq a b ≡ nat_eq b a
@@ -25,41 +25,50 @@ looked_up xid [] = refl
 looked_up xid (pair ∷ pairs) =
     ap (λ (b : Bool). cond b (Some pair.1) (lookup (nat_eq xid) pairs)) (same_either_way xid pair.0) ∙ ap (λ (rest : Option ProcId). cond (nat_eq pair.0 xid) (Some pair.1) rest) (looked_up xid pairs)
 
-some_is : {x y : ProcId} → Some x ≡ Some y → x ≡ y
-some_is e = cc
-
--- a call in the place of one with its xid and its procedure changes nothing
-put_over : (pairs : List (ℕ × ProcId)) (xid : ℕ) (id : ProcId) → lookup (nat_eq xid) pairs ≡ Some id → insert_entry nat_eq pairs xid id ≡ pairs
-put_over [] xid id is = absurd (cc)
-put_over (pair ∷ pairs) xid id is = by_test (nat_eq xid pair.0) (put_over pairs xid id) is
-  where
-    by_test : (b : Bool) → (lookup (nat_eq xid) pairs ≡ Some id → insert_entry nat_eq pairs xid id ≡ pairs) → cond b (Some pair.1) (lookup (nat_eq xid) pairs) ≡ Some id
-        → cond b ((pair.0, id) ∷ pairs) (pair ∷ insert_entry nat_eq pairs xid id) ≡ pair ∷ pairs
-    by_test true further here = ap (λ (p : ProcId). (pair.0, p) ∷ pairs) (sym (some_is here))
-    by_test false further here = ap (λ (rest : List (ℕ × ProcId)). pair ∷ rest) (further here)
-
 agreed : (other : Option ProcId) (id : ProcId) → agrees other id ≡ true → (other ≡ None) ⊎ (other ≡ Some id)
 agreed None id h = inl refl
 agreed (Some other) id h = inr (ap (λ (p : ProcId). Some p) (same_is other id h))
 
--- a new xid goes last
-added_last : {S : Type 0} (old new : IndexMap ℕ ProcId S) (list : List NumberedCall) (xid : ℕ) (id : ProcId) → list ≡ numbered_calls old.entries → found list xid ≡ None → new.entries ≡ insert_entry nat_eq old.entries xid id
-    → numbered_calls new.entries ≡ with_numbered_call list xid id
-added_last {S} old new list xid id view none is =
-    let absent : get nat_eq old xid ≡ None = looked_up xid old.entries ∙ ap (λ (l : List NumberedCall). found l xid) (sym view) ∙ none in
-    ap numbered_calls (is ∙ insert_entry-new nat_eq old xid id absent)
-    ∙ map-append (λ (pair : ℕ × ProcId). record { xid = pair.0; id = pair.1 }) old.entries ((xid, id) ∷ [])
-    ∙ ap (λ (l : List NumberedCall). l ++ record { xid = xid; id = id } ∷ []) (sym view)
-    ∙ sym (ap (λ (o : Option ProcId). if is_some o then list else list ++ record { xid = xid; id = id } ∷ []) none)
+-- a pair that was put into a table
+pub puts_pair : {S : Type 0} (old new : IndexMap ℕ ProcId S) (xid : ℕ) (id : ProcId) → ((q : ℕ) → get nat_eq new q ≡ cond (nat_eq xid q) (Some id) (get nat_eq old q)) → Puts (numbered_calls old.entries) xid id (numbered_calls new.entries)
+puts_pair {S} old new xid id updates q =
+    sym (looked_up q new.entries) ∙ updates q ∙ ap (λ (o : Option ProcId). if xid == q then Some id else o) (looked_up q old.entries)
 
--- a call that agrees with those of the table, put into it
-pub admitted : {S : Type 0} (old new : IndexMap ℕ ProcId S) (list : List NumberedCall) (xid : ℕ) (id : ProcId) → list ≡ numbered_calls old.entries → agrees (found list xid) id ≡ true → new.entries ≡ insert_entry nat_eq old.entries xid id
-    → numbered_calls new.entries ≡ with_numbered_call list xid id
-admitted {S} old new list xid id view agree is = by_found (agreed (found list xid) id agree)
+-- the same pair once more
+same_put : (old new : List NumberedCall) (xid : ℕ) (id : ProcId) → found old xid ≡ Some id → Puts old xid id new → FindsSame old new
+same_put old new xid id known puts q = puts q ∙ by_test (nat_eq xid q) refl
   where
-    by_found : (found list xid ≡ None) ⊎ (found list xid ≡ Some id) → numbered_calls new.entries ≡ with_numbered_call list xid id
-    by_found (inl none) = added_last old new list xid id view none is
+    by_test : (b : Bool) → nat_eq xid q ≡ b → cond b (Some id) (found old q) ≡ found old q
+    by_test true is = sym (ap (found old) (sym (eqb-true xid q is)) ∙ known)
+    by_test false is = refl
+
+-- a call that agrees with the others, put among them
+pub admitted : (line old new : List NumberedCall) (xid : ℕ) (id : ProcId) → found line xid ≡ None → Puts old xid id new → agrees (found (line ++ old) xid) id ≡ true → Gains (line ++ old) xid id (line ++ new)
+admitted line old new xid id none puts agree = by_found (agreed (found (line ++ old) xid) id agree)
+  where
+    by_found : (found (line ++ old) xid ≡ None) ⊎ (found (line ++ old) xid ≡ Some id) → Gains (line ++ old) xid id (line ++ new)
+    by_found (inl absent) = gains_put (line ++ old) (line ++ new) xid id absent (puts_behind line old new xid id none puts)
     by_found (inr known) =
-        ap numbered_calls (is ∙ put_over old.entries xid id (looked_up xid old.entries ∙ ap (λ (l : List NumberedCall). found l xid) (sym view) ∙ known))
-        ∙ sym view
-        ∙ sym (ap (λ (o : Option ProcId). if is_some o then list else list ++ record { xid = xid; id = id } ∷ []) known)
+        gains_known (line ++ old) (line ++ new) xid id (ap is_some known)
+        (same_put (line ++ old) (line ++ new) xid id known (puts_behind line old new xid id none puts))
+
+-- ---- homes below those of all pairs
+
+pub above_lower : (home : ℕ → ℕ) (nearest lower : ℕ) (pairs : List (ℕ × ProcId)) → AreAbove home nearest pairs → lower ≤ nearest → AreAbove home lower pairs
+above_lower home nearest lower pairs above low xid below = above xid (omega arith)
+
+pub above_put : (home : ℕ → ℕ) (nearest : ℕ) (old new : List (ℕ × ProcId)) (xid : ℕ) (id : ProcId) → AreAbove home nearest old → nearest ≤ home xid → Puts (numbered_calls old) xid id (numbered_calls new) → AreAbove home nearest new
+above_put home nearest old new xid id above far puts q below = puts q ∙ by_test (nat_eq xid q) refl
+  where
+    by_test : (b : Bool) → nat_eq xid q ≡ b → cond b (Some id) (found (numbered_calls old) q) ≡ None
+    by_test false is = above q below
+    by_test true is = let place = ap home (eqb-true xid q is) in absurd (omega arith)
+
+-- after a call was put among the others, or memory ran out
+pub above_inserted : {S E : Type 0} (home : ℕ → ℕ) (nearest : ℕ) (old new : IndexMap ℕ ProcId S) (xid : ℕ) (id : ProcId) (r : Result (Option ProcId) E) → AreAbove home nearest old.entries → nearest ≤ home xid → OnOk r (Updates nat_eq old new xid (Some id)) → OnErr r (IsUnchanged old new)
+    → AreAbove home nearest new.entries
+above_inserted home nearest old new xid id (Ok other) above far updates same = above_put home nearest old.entries new.entries xid id above far (puts_pair old new xid id updates.0)
+above_inserted home nearest old new xid id (Err e) above far updates same = subst (λ (pairs : List (ℕ × ProcId)). AreAbove home nearest pairs) (sym same) above
+
+pub none_anywhere : (line others : List NumberedCall) (xid : ℕ) → found line xid ≡ None → found others xid ≡ None → found (line ++ others) xid ≡ None
+none_anywhere line others xid none absent = found_behind line others xid none ∙ absent

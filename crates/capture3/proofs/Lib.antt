@@ -33,6 +33,7 @@ pub mod Growing
 pub mod KeptStreamsLemmas
 pub mod ReachedBeforeFaults
 pub mod EntryParserLemmas
+pub mod LineLemmas
 pub mod HashedCallsLemmas
 pub mod EndedMachines
 pub mod SideRules

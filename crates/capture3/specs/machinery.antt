@@ -1,6 +1,7 @@
 -- What clauses inside the crate and proofs name, and no reader of a public clause has to believe.
 pub mod Calls
 pub mod Container
+pub mod Counting
 pub mod Entries
 pub mod EntryParser
 pub mod MessageScan

@@ -1,6 +1,8 @@
 //! Refusals of messages.
 
 pub(crate) mod calls;
+pub(crate) mod counted_calls;
+pub(crate) mod counting;
 pub(crate) mod scan;
 pub(crate) mod silent;
 

@@ -1,10 +1,10 @@
 //! The calls of a connection.
 
-ghost use Rattle.std.specs.Prelude.{◌≡◌, [], IfOk, IfSome, IsTrue, Some};
-ghost use Rattle.capture3.specs.machinery.Calls.{found, numbered_calls, with_numbered_call};
+ghost use Rattle.std.specs.Prelude.{◌≡◌, [], IfOk, IsTrue};
+ghost use Rattle.capture3.specs.machinery.Calls.{found, Gains};
 ghost use Rattle.capture3.specs.BodyProgram.{agrees};
 
-use indexmap::IndexMap;
+use crate::message::counted_calls::CountedCalls;
 use rpc_head::ProcId;
 use std::alloc::{AllocError, Global};
 use std::hash::BuildHasher;
@@ -21,7 +21,7 @@ pub(crate) trait KnownCalls {
     ghost use Rattle.std.specs.Prelude.{List};
     ghost use Rattle.capture3.specs.declared.message.calls.NumberedCall.{NumberedCall};
 
-    // The xids, each once and with its procedure, in the order of their first appearance.
+    // The xids, each with its procedure. Which of them stands before which, and how often one does, says nothing.
     ghost calls: { Self → List NumberedCall };
 
     /// Returns the procedure of the calls with this xid. The calls stay.
@@ -40,18 +40,7 @@ pub(crate) trait CallTable: KnownCalls {
     fn admit(&mut self, xid: u32, id: ProcId) -> Result<bool, AllocError>
         ensures agrees { IfOk result (λ is. is ≡ agrees (found (Self.calls self.old) xid) id) }
         ensures added { IfOk result
-            (λ is. IsTrue is
-            → Self.calls self.new ≡ with_numbered_call (Self.calls self.old) xid id) };
-}
-
-/// Returns whether there is no procedure, or it is this one.
-fn is_none_or(other: Option<ProcId>, id: ProcId) -> bool
-    ensures { result ≡ agrees other id }
-{
-    match other {
-        None => true,
-        Some(other) => other == id,
-    }
+            (λ is. IsTrue is → Gains (Self.calls self.old) xid id (Self.calls self.new)) };
 }
 
 /// A plain list of calls, which is searched from its front.
@@ -114,22 +103,20 @@ impl CallTable for CallList {
     }
 }
 
-/// The calls, hashed by their xids. The hasher affects no result.
+/// Calls that are found by their xids at once. The hasher affects no result.
 #[derive(Drop)]
 pub(crate) struct HashedCalls<S: BuildHasher + Drop> {
-    calls: IndexMap<u32, ProcId, S>,
-    // Where the call stands whose reply is expected next.
-    next: usize,
+    table: CountedCalls<S>,
 }
 
 impl<S: BuildHasher + Drop> Model for HashedCalls<S> {
     ghost use Rattle.std.specs.Prelude.{List};
-    ghost use Rattle.capture3.specs.machinery.Calls.{numbered_calls};
+    ghost use Rattle.capture3.specs.machinery.Calls.{all_calls};
     ghost use Rattle.capture3.specs.declared.message.calls.NumberedCall.{NumberedCall};
 
     ghost Value = { List NumberedCall };
 
-    ghost view = { λ table. numbered_calls table.calls.entries };
+    ghost view = { λ calls. all_calls calls.table.line.items calls.table.others.entries };
 }
 
 impl<S: BuildHasher + Drop> HashedCalls<S> {
@@ -137,18 +124,7 @@ impl<S: BuildHasher + Drop> HashedCalls<S> {
         ensures { result ≡ [] }
     {
         HashedCalls {
-            calls: IndexMap::with_hasher(alloc, hasher),
-            next: 0,
-        }
-    }
-
-    /// Returns the procedure of the call that is expected next, if it has this xid.
-    fn expected(&self, xid: u32) -> Option<ProcId>
-        ensures { IfSome result (λ id. found self.now xid ≡ Some id) }
-    {
-        match self.calls.get_index(self.next) {
-            Some((next, id)) if *next == xid => Some(*id),
-            _ => None,
+            table: CountedCalls::new(alloc, hasher),
         }
     }
 }
@@ -156,35 +132,20 @@ impl<S: BuildHasher + Drop> HashedCalls<S> {
 impl<S: BuildHasher + Drop> KnownCalls for HashedCalls<S> {
     ghost calls = { λ table. table };
 
-    // Most replies come in the order of their calls, which takes no look-up.
+    #[inline(always)]
     fn procedure_of(&mut self, xid: u32) -> Option<ProcId> {
-        if let Some(id) = self.expected(xid) {
-            self.next = self.next.saturating_add(1);
-            return Some(id);
-        }
-        match self.calls.get_full(&xid) {
-            Some((index, _, id)) => {
-                let id = *id;
-                self.next = index.saturating_add(1);
-                Some(id)
-            }
-            None => None,
-        }
+        self.table.procedure_of(xid)
     }
 }
 
 impl<S: BuildHasher + Drop> CallTable for HashedCalls<S> {
-    // `IndexMap::clear` costs what the table has room for, `truncate` what it holds. A connection of few
-    // calls may follow one of a million.
     fn clear(&mut self) {
-        self.calls.truncate(0);
-        self.next = 0;
+        self.table.clear();
     }
 
-    // One look-up: the call takes the place of one with its xid, which is the same unless they are at odds.
+    #[inline(always)]
     fn admit(&mut self, xid: u32, id: ProcId) -> Result<bool, AllocError> {
-        let other = self.calls.insert(xid, id)?;
-        Ok(is_none_or(other, id))
+        self.table.admit(xid, id)
     }
 }
 

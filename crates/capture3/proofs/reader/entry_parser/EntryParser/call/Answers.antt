@@ -15,8 +15,9 @@ returns-then-branch-clause-ok g c calls table =
       is_call = subst (λ (body : List ℕ). IsCall body scanned.items) c.body.ensures.body scanned.is_call;
       id_is = sym scanned.procedure_is;
       added =
-          rw (c.in_ok-admit.ensures.added c.if-branch.true)
-          (table_added (g.C.KnownCalls.calls c.args.self.now.calls) calls scanned.items c.in-Ok.call.xid c.in-Ok.call.id scanned.xid_is scanned.procedure_is table);
+          λ q.
+          c.in_ok-admit.ensures.added c.if-branch.true q
+          ∙ table_added (g.C.KnownCalls.calls c.args.self.now.calls) calls scanned.items c.in-Ok.call.xid c.in-Ok.call.id scanned.xid_is scanned.procedure_is table q;
       adds = scanned.adds;
     }
 

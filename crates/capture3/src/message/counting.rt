@@ -1,0 +1,32 @@
+//! How the xids of a connection count up.
+
+ghost use Rattle.std.specs.Prelude.{◌≡◌};
+ghost use Rattle.capture3.specs.machinery.Counting.{home_of};
+
+/// A client mostly counts its xids up by one, either as words or with their bytes in the other
+/// order, as a little-endian host keeps them.
+#[derive(Clone, Copy)]
+pub(crate) struct Counting {
+    // The first xid, in the order of bytes in which the xids count.
+    first: u32,
+    swapped: bool,
+}
+
+impl Counting {
+    /// Counts from this xid on.
+    pub(crate) fn from(xid: u32, swapped: bool) -> Counting
+        ensures { home_of result xid ≡ 0 }
+    {
+        let first = if swapped { xid.swap_bytes() } else { xid };
+        Counting { first, swapped }
+    }
+
+    /// Returns how far the xid is above the first, where it belongs.
+    #[inline(always)]
+    pub(crate) fn home(self, xid: u32) -> usize
+        ensures { result ≡ home_of self xid }
+    {
+        let number = if self.swapped { xid.swap_bytes() } else { xid };
+        number.wrapping_sub(self.first) as usize
+    }
+}
