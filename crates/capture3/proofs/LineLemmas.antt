@@ -45,7 +45,7 @@ not_found_at (one ∷ line) xid none i call at = by_test (λ rest j. not_found_a
     by_test later false is none (suc i) at = later none i at
 
 -- a line finds an xid at its home
-pub found_home : (home : ℕ → ℕ) (line : List NumberedCall) (xid : ℕ) → IsLine home line → found line xid ≡ named (slice_get line (home xid)) xid
+found_home : (home : ℕ → ℕ) (line : List NumberedCall) (xid : ℕ) → IsLine home line → found line xid ≡ named (slice_get line (home xid)) xid
 found_home home line xid lined = by_found (found line xid) refl
   where
     at_none : (o : Option NumberedCall) → slice_get line (home xid) ≡ o → found line xid ≡ None → None ≡ named o xid
@@ -58,6 +58,9 @@ found_home home line xid lined = by_found (found line xid) refl
         let f = found_at line xid id is in
         let at : slice_get line (home xid) ≡ Some f.call = ap (λ (k : ℕ). slice_get line (home k)) (sym f.xid_is) ∙ lined f.at f.call f.is in
         sym (ap (λ (o : Option NumberedCall). named o xid) at ∙ ap (λ b. cond b (Some f.call.id) None) (eq-eqb f.call.xid xid f.xid_is) ∙ ap (λ (p : ProcId). Some p) f.id_is)
+
+pub found_there : (home : ℕ → ℕ) (line : List NumberedCall) (xid : ℕ) (there : Option NumberedCall) → IsLine home line → slice_get line (home xid) ≡ there → found line xid ≡ named there xid
+found_there home line xid there lined is = found_home home line xid lined ∙ ap (λ (o : Option NumberedCall). named o xid) is
 
 pub found_append : (front back : List NumberedCall) (xid : ℕ) → found (front ++ back) xid ≡ over (found front xid) (found back xid)
 found_append [] back xid = refl

@@ -21,7 +21,7 @@ pub(crate) trait KnownCalls {
     ghost use Rattle.std.specs.Prelude.{List};
     ghost use Rattle.capture3.specs.declared.message.calls.NumberedCall.{NumberedCall};
 
-    // The xids, each with its procedure. Which of them stands before which, and how often one does, says nothing.
+    // The xids, each with its procedure. Their order has no meaning, and one may be there twice.
     ghost calls: { Self → List NumberedCall };
 
     /// Returns the procedure of the calls with this xid. The calls stay.

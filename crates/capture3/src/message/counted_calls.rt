@@ -30,13 +30,13 @@ fn is_none_or(other: Option<ProcId>, id: ProcId) -> bool
 #[derive(Drop)]
 pub(crate) struct CountedCalls<S: BuildHasher + Drop> {
     counting: Counting,
-    // Each call at the home of its xid. At an empty home is a copy of the first call.
+    // Each call is at the home of its xid. An empty home has a copy of the first call.
     line: Vec<NumberedCall>,
     empty_homes: usize,
     others: IndexMap<u32, ProcId, S>,
     // No other call has its home below.
     nearest: usize,
-    // Where the other call stands whose reply is expected next.
+    // The index of the other call whose reply is expected next.
     next: usize,
     ghost lined: { IsLine (home_of counting) line.items },
     ghost above: { AreAbove (home_of counting) nearest others.entries },
@@ -62,14 +62,15 @@ impl<S: BuildHasher + Drop> CountedCalls<S> {
         ensures { result ≡ found self.now.line.items xid }
     {
         match self.line.get(self.counting.home(xid)) {
-            Some(call) if call.xid == xid => Some(call.id),
-            _ => None,
+            Some(call) => { if call.xid == xid { Some(call.id) } else { None } }
+            None => None,
         }
     }
 
     /// Returns the procedure of the other call that is expected next, if it has this xid.
     fn expected(&self, xid: u32) -> Option<ProcId>
-        ensures { IfSome result (λ id. found (numbered_calls self.now.others.entries) xid ≡ Some id) }
+        ensures { IfSome result
+            (λ id. found (numbered_calls self.now.others.entries) xid ≡ Some id) }
     {
         match self.others.get_index(self.next) {
             Some((next, id)) if *next == xid => Some(*id),
@@ -97,8 +98,8 @@ impl<S: BuildHasher + Drop> CountedCalls<S> {
         }
     }
 
-    /// Adds a call, or returns `false` as `admit` does. One look-up: the call takes the place of one with its xid,
-    /// which is the same unless they are at odds.
+    /// Adds a call that is not in the line to the others, as `admit` does. It takes the place of one
+    /// with its xid, which is the same unless they are at odds, so one look-up is enough.
     fn admit_other(&mut self, xid: u32, id: ProcId) -> Result<bool, AllocError>
         requires new { found self.old.line.items xid ≡ None }
         ensures agrees { IfOk result (λ is. is ≡ agrees (found
