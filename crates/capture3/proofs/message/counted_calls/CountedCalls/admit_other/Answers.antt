@@ -1,5 +1,5 @@
 use Rattle.std.proofs.Math.Nat.{min-le_left, min-le_right}
-use Rattle.std.proofs.Common.{◌≡◌, arith, ap, sym, ◌∙◌, Option}
+use Rattle.std.proofs.Common.{arith, ap, sym, ◌∙◌, Option}
 use Rattle.rpc_head.specs.declared.call.ProcId.{ProcId}
 use Rattle.capture3.specs.machinery.Calls.{numbered_calls}
 use Rattle.capture3.specs.machinery.Counting.{home_of}

@@ -1,4 +1,4 @@
-use Rattle.std.proofs.Common.{◌≡◌, ap, sym, ◌∙◌, refl, ℕ, Bool, false, Some, length, nat_eq}
+use Rattle.std.proofs.Common.{◌≡◌, sym, ◌∙◌, refl, Some, length}
 use Rattle.std.specs.List.{slice_get}
 use Rattle.std.proofs.lemmas.Option.{slice_get_read}
 use Rattle.capture3.specs.machinery.Counting.{home_of}

@@ -1,4 +1,4 @@
-use Rattle.std.proofs.Common.{◌≡◌, ◌<◌, ap, sym, ◌∙◌, ℕ, Bool, cond, nat_eq, Option, Some, None, List, length, get_or, refl, eq-eqb, arith}
+use Rattle.std.proofs.Common.{◌≡◌, ◌<◌, ap, sym, ◌∙◌, ℕ, Bool, cond, Some, None, List, length, get_or, refl, eq-eqb, arith}
 use Rattle.std.specs.List.{slice_get}
 use Rattle.std.proofs.lemmas.Option.{MatchOption-at_none, slice_get_past, slice_get_read}
 use Rattle.capture3.specs.declared.message.calls.NumberedCall.{NumberedCall}

@@ -1,4 +1,4 @@
-use Rattle.std.proofs.Common.{◌≡◌, ◌-◌, ◌++◌, ap, sym, ◌∙◌, refl, ℕ, Some, List, length, replicate, arith}
+use Rattle.std.proofs.Common.{◌≡◌, ap, sym, ◌∙◌, Some, List}
 use Rattle.std.specs.List.{slice_get}
 use Rattle.capture3.specs.declared.message.calls.NumberedCall.{NumberedCall}
 use Rattle.capture3.specs.machinery.Calls.{found}

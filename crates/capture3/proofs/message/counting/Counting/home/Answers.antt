@@ -1,4 +1,4 @@
-use Rattle.std.proofs.Common.{◌≡◌, ℕ, ◌+◌, ◌-◌, ◌%◌, ◌^◌, Bool, if◌then◌else◌, ap, sym, ◌∙◌}
+use Rattle.std.proofs.Common.{◌≡◌, ℕ, ◌+◌, ◌-◌, ◌%◌, Bool, if◌then◌else◌, ap, sym, ◌∙◌}
 use Rattle.std.specs.Int.{w32, swap_bytes}
 use Rattle.capture3.specs.machinery.Counting.{home_of}
 use Rattle.capture3.proofs.message.counting.Counting.home.Goals as goal
