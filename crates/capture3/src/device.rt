@@ -6,5 +6,6 @@ pub(crate) mod source;
 pub(crate) mod trail;
 
 /// A read, a write or a flush failed.
-#[derive(Clone, Copy, Debug, PartialEq, Eq)]
+#[derive(Clone, Copy, Debug, PartialEq, Eq, thiserror::Error)]
+#[error("the device failed")]
 pub struct DeviceFailed;

@@ -1,6 +1,7 @@
 //! Where a capture is refused, and why reading one fails.
 
 use std::alloc::{AllocError, AllocFailed};
+use std::fmt;
 use xdr3::Reason;
 
 /// One of the two streams of a connection.
@@ -10,6 +11,15 @@ pub enum Side {
     Client,
     /// The server's stream, with its replies.
     Server,
+}
+
+impl fmt::Display for Side {
+    fn fmt<W: fmt::Write>(&self, f: &mut fmt::Formatter<W>) -> fmt::Result {
+        match self {
+            Side::Client => f.write_str("client"),
+            Side::Server => f.write_str("server"),
+        }
+    }
 }
 
 /// A position in a capture. Connections, and the records of each stream, are counted from 1; bytes
@@ -29,23 +39,42 @@ pub enum Place {
     },
 }
 
+impl fmt::Display for Place {
+    fn fmt<W: fmt::Write>(&self, f: &mut fmt::Formatter<W>) -> fmt::Result {
+        match self {
+            Place::File { at } => write!(f, "file {at}"),
+            Place::Record {
+                conn,
+                side,
+                rec_no,
+                byte,
+            } => write!(f, "connection {conn} {side} record {rec_no} byte {byte}"),
+        }
+    }
+}
+
 /// The first fault of a capture: its position and its reason.
-#[derive(Clone, Copy, Debug, PartialEq, Eq)]
+#[derive(Clone, Copy, Debug, PartialEq, Eq, thiserror::Error)]
+#[error("{place}: {reason}")]
 pub struct Fault {
     pub place: Place,
     pub reason: Reason,
 }
 
 /// Why a capture could not be read or written.
-#[derive(Clone, Copy, Debug, PartialEq, Eq)]
+#[derive(Clone, Copy, Debug, PartialEq, Eq, thiserror::Error)]
 pub enum Error {
     /// The capture is not well formed.
+    #[error("{0}")]
     Refused(Fault),
     /// A read failed.
+    #[error("read failed")]
     Read,
     /// A write or a flush failed.
+    #[error("write failed")]
     Write,
     /// An allocation failed.
+    #[error("out of memory")]
     Memory,
 }
 
