@@ -10,14 +10,16 @@ use Rattle.capture3.specs.Entry.{Entry, Begin, Call, Turn, Reply, Close, End}
 use Rattle.canon3.specs.declared.message_writer.MessageWriter.{MessageWriter}
 use Rattle.canon3.specs.Bytes.{bytes_of}
 use Rattle.canon3.specs.Canonical.{canonical}
-use Rattle.canon3.specs.EntryWriter.{HasWrittenOrCut}
+use Rattle.canon3.specs.declared.summary.Summary.{Summary}
+use Rattle.canon3.specs.EntryWriter.{HasWrittenOrCut, WritesAll}
 use Rattle.canon3.specs.Laws.{AreFirst}
 use Rattle.canon3.specs.machinery.MessageWriter.{IsGoing, WriterStands}
 use Rattle.canon3.specs.Parting.{connections}
-use Rattle.canon3.specs.CanonicalForm.{canonical_bytes}
+use Rattle.canon3.specs.CanonicalForm.{canonical_bytes, WritesNoMore}
 use Rattle.canon3.specs.machinery.CanonicalForm.{are_some, Follows, magic_before, magic_unless, values_before}
 use Rattle.canon3.specs.machinery.Spelling.{bytes_after}
 use Rattle.canon3.specs.SinkWrites.{AppendsFront}
+use Rattle.canon3.proofs.Files.{canonical_is_file}
 use Rattle.canon3.proofs.First.{first_in_order}
 use Rattle.canon3.proofs.Growing.{form_grows}
 use Rattle.canon3.proofs.Order.{Stage, Between, Over, end, Runs, steps}
@@ -76,3 +78,9 @@ module _ {S H : Type 0} (n : MessageWriter S H) (old before between after : Opti
       front_of_first old between (bytes_of (canonical entries) ++ magic_unless (are_some entries)) (bytes_after entries (one ∷ [])) (bytes_of (canonical (entries ++ one ∷ []))) (form_grows entries one first)
       (front_of_second old before between (bytes_of (canonical entries)) (magic_unless (are_some entries)) (bytes_of (canonical entries) ++ magic_unless (are_some entries)) refl so_far
       (subst (AppendsFront before between) (the_magic entries one count first counted) cut))
+
+-- ---- its stream bytes
+
+pub written_no_more : (bytes : List ℕ) (old new : Option (List ℕ)) (result : Result Summary Error) → WritesAll canonical_bytes bytes old new result → WritesNoMore bytes old new result
+written_no_more bytes old new (Ok summary) (entries, typed, is, written) = (entries, typed, written, canonical_is_file bytes entries typed)
+written_no_more bytes old new (Err error) w = tt

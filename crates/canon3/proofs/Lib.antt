@@ -29,6 +29,7 @@ pub mod Ends
 pub mod PartingLemmas
 pub mod SinkWritesLemmas
 pub mod Tables
+pub mod XidNumbersLemmas
 pub mod Visiting
 pub mod Opening
 pub mod Growing

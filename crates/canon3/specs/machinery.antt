@@ -11,3 +11,4 @@ pub mod Spelling
 pub mod Summary
 pub mod Tally
 pub mod WaitingHandles
+pub mod XidNumbers

@@ -7,7 +7,7 @@ ghost use Rattle.capture3.specs.Entry as spec;
 ghost use Rattle.canon3.specs.Laws.{AreFirst};
 ghost use Rattle.canon3.specs.machinery.MessageWriter.{WriterStands, told_after, values_of};
 ghost use Rattle.capture3.specs.Told.{GavePrefix};
-ghost use Rattle.canon3.specs.CanonicalForm.{canonical_bytes, RewritesGiven};
+ghost use Rattle.canon3.specs.CanonicalForm.{canonical_bytes, RewritesGiven, WritesNoMore};
 ghost use Rattle.canon3.specs.EntryWriter.{WritesAll};
 ghost use Rattle.canon3.specs.machinery.CanonicalForm.{Follows, magic_before};
 ghost use Rattle.canon3.specs.Passed.{connections_in};
@@ -31,7 +31,8 @@ use std::hash::BuildHasher;
 /// Reads a capture to its end, writes its canonical form as it comes, and flushes the sink. Each
 /// file handle that is not empty (RFC 1813, section 2.5), write verifier and xid (RFC 5531, section
 /// 9) is written as its number. It keeps one block of the source's bytes, one record, the calls of
-/// the open connection, and the values that have numbers.
+/// the open connection, and the values that have numbers. What is written of a whole capture has no
+/// more stream bytes than the capture.
 ///
 /// # Errors
 ///
@@ -52,6 +53,9 @@ pub fn canon<R: Source, W: Sink, S: BuildHasher + Drop>(
         (W.written sink.new) result }
     ensures whole { (bytes : List ℕ) → GavePrefix (R.told source.old) (R.told source.new) bytes
         → WritesAll canonical_bytes bytes (W.written sink.old) (W.written sink.new) result }
+    ensures no_longer { (bytes : List ℕ)
+        → GavePrefix (R.told source.old) (R.told source.new) bytes
+        → WritesNoMore bytes (W.written sink.old) (W.written sink.new) result }
     ensures flushes { OnOk result (IsFlushed (W.written sink.new) (W.flushed sink.new)) }
     ensures read { CountsReading (R.failures source.old) (R.failures source.new) result }
     ensures write { CountsWriting (W.failures sink.old) (W.failures sink.new) result }

@@ -20,6 +20,7 @@ mod traced;
 mod verdict;
 mod waiting_handles;
 mod whole_writes;
+mod xid_numbers;
 
 pub use canonical_form::canon;
 pub use comparison::same;

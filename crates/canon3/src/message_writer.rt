@@ -9,6 +9,7 @@ ghost use Rattle.canon3.specs.machinery.MessageWriter.{Before, HoldsBefore, IsGo
 ghost use Rattle.canon3.specs.Rank.{number_limit, rank};
 
 use crate::numbers::Numbers;
+use crate::xid_numbers::XidNumbers;
 use byteorder::{BigEndian, ByteOrder};
 use capture3::pack_chunk;
 use nfs3_types::Handle;
@@ -32,7 +33,7 @@ pub(crate) enum Stage {
 pub(crate) struct MessageWriter<S: BuildHasher + Drop> {
     pub(crate) handles: Numbers<Handle, S>,
     pub(crate) verfs: Numbers<[u8; 8], S>,
-    pub(crate) xids: Numbers<u32, S>,
+    pub(crate) xids: XidNumbers<S>,
     pub(crate) writer: Writer,
     pub(crate) stage: Stage,
 }
@@ -70,7 +71,7 @@ impl<S: BuildHasher + Drop> MessageWriter<S> {
         MessageWriter {
             handles: Numbers::new(alloc, handles),
             verfs: Numbers::new(alloc, verfs),
-            xids: Numbers::new(alloc, xids),
+            xids: XidNumbers::new(alloc, xids),
             writer: Writer::new(alloc),
             stage: Stage::Begins,
         }
