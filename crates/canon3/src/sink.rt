@@ -69,6 +69,13 @@ impl<W: Write> ToWrite<W> {
     {
         &self.writer
     }
+
+    /// Gives the writer back.
+    pub fn into_inner(self) -> W
+        ensures { result ≡ self.device }
+    {
+        self.writer
+    }
 }
 
 impl<W: Write> Sink for ToWrite<W> {

@@ -33,6 +33,13 @@ impl<W: Write> Traced<W> {
             taken: Trail::new(),
         }
     }
+
+    /// Returns the writer.
+    pub fn inner(&self) -> &W
+        ensures { result.now ≡ self.now.device }
+    {
+        &self.writer
+    }
 }
 
 impl<W: Write> Write for Traced<W> {

@@ -1,6 +1,6 @@
-//! Where files are opened by their names, and what is said of them.
+//! What each job does with files, and what is said of them.
 
-ghost use Rattle.std.specs.Prelude.{◌≡◌, ℕ, List, Option, None, Some, Err, IfOk};
+ghost use Rattle.std.specs.Prelude.{◌≡◌, ℕ, List, Some, Err};
 ghost use Rattle.capture3.specs.declared.fault.Error.TheVariants as errors;
 ghost use Rattle.program3.specs.Opening.{TellsOf};
 ghost use Rattle.program3.specs.declared.outcome.Outcome.TheVariants.{Compared};
@@ -8,35 +8,9 @@ ghost use Rattle.nfs3canon.specs.Files.{ComparesFiles, CountsFile};
 
 use canon3::{SameError, Which, check, same};
 use capture3::{Error, FromRead, Hashers};
-use program3::{OpenError, Outcome, uncounted, unopened};
+use program3::{Files, OpenError, Outcome, uncounted, unopened};
 use std::alloc::Global;
-use std::fs::File;
 use std::hash::BuildHasher;
-use std::io::Read;
-use std::{fs, io};
-
-/// Where files are opened by their names.
-pub trait Files {
-    type File: Read + Drop;
-
-    // The bytes of the file of this name, if they are known.
-    ghost holds: { Self → List ℕ → Option (List ℕ) };
-
-    /// Opens a file, whose reads give its bytes from the first on.
-    fn open(&self, name: &str) -> io::Result<Self::File>
-        ensures held { IfOk result (λ file. Self.File.remaining file ≡ holds self.now name.now) };
-}
-
-/// The system's files: no contract tells their bytes.
-impl Files for HostRuntime {
-    type File = File;
-
-    ghost holds = { λ _ _. None };
-
-    fn open(&self, name: &str) -> io::Result<File> {
-        fs::open(self, name)
-    }
-}
 
 /// Checks the file of this name. The code cannot tell which files it has, so it says of the system's what
 /// it says of any that hold the same bytes.

@@ -2,9 +2,13 @@
 #![tactic(auto)]
 
 mod files;
+mod forms;
 mod jobs;
+mod listing;
+mod packing;
+#[cfg(test)]
+mod tests;
 
-use jobs::{checked, compared, listed, packed, rewritten};
 use line3::{Job, job};
 use program3::{Ended, Outcome, print_ended, words};
 use std::process::ExitCode;
@@ -22,11 +26,11 @@ fn run(rt: &HostRuntime) -> Ended {
 
 fn done(rt: &HostRuntime, job: Job<'_>) -> Ended {
     match job {
-        Job::Check(name) => Ended::printing(checked(rt, name)),
-        Job::Show(name) => Ended::printing(listed(rt, name)),
-        Job::Canon(input, output) => rewritten(rt, input, output),
-        Job::Same(first, second) => Ended::printing(compared(rt, first, second)),
-        Job::Pack(output, streams) => packed(rt, output, streams),
+        Job::Check(name) => Ended::printing(jobs::check(rt, name)),
+        Job::Show(name) => Ended::printing(jobs::show(rt, name)),
+        Job::Canon(input, output) => jobs::canon(rt, input, output),
+        Job::Same(first, second) => Ended::printing(jobs::same(rt, first, second)),
+        Job::Pack(output, streams) => jobs::pack(rt, output, streams),
     }
 }
 

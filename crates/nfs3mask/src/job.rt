@@ -1,60 +1,65 @@
-//! What the job does with its files.
+//! What the job does with files.
 
-use crate::hashers::mask_hashers;
-use canon3::{Summary, ToWrite, Traced};
-use capture3::{Error, FromRead};
+ghost use Rattle.std.specs.Prelude.{◌≡◌, ℕ, List, Some};
+ghost use Rattle.nfs3mask.specs.Masking.{MasksFile};
+
+use canon3::{Sink, Summary};
+use capture3::{Error, Source};
 use mask_line3::{MaskJob, ways_told};
 use masking3::{MaskHashers, Ways, mask};
-use program3::{Ended, Outcome, SecretHasher, WRITTEN_AT_ONCE, both_opened, written_out};
-use std::fs::File;
-use std::io::BufWriter;
+use program3::{Ended, Files, Outcome, Rewriting, rewritten};
+use std::alloc::Global;
+use std::hash::BuildHasher;
 
-/// The output is made once the input is open, and there is memory for the words that tell the mask.
-pub fn masked(rt: &HostRuntime, job: MaskJob<'_>) -> Ended {
-    let Ok(hashers) = mask_hashers(rt) else {
-        return Ended::printing(Outcome::Counted(Err(Error::Read)));
-    };
-    let Ok(told) = ways_told(rt.alloc(), &job.ways) else {
+/// The masked form.
+#[derive(Drop)]
+struct MaskedForm<S: BuildHasher + Drop> {
+    hashers: MaskHashers<S>,
+    ways: Ways,
+}
+
+impl<S: BuildHasher + Drop> Rewriting for MaskedForm<S> {
+    ghost use Rattle.masking3.specs.Masked.{masked_bytes};
+
+    ghost form = { λ m. masked_bytes m.ways };
+
+    fn rewrite<R: Source, W: Sink>(
+        self,
+        alloc: Global,
+        source: &mut R,
+        sink: &mut W,
+    ) -> Result<Summary, Error> {
+        mask(alloc, self.hashers, self.ways, source, sink)
+    }
+}
+
+/// Masks the capture of one name into the file of another. The output is made once the input is open, and
+/// there is memory for the words that tell the mask.
+pub fn masked<F: Files, S: BuildHasher + Drop>(
+    alloc: Global,
+    hashers: MaskHashers<S>,
+    files: &mut F,
+    job: MaskJob<'_>,
+) -> Ended
+    ensures masks { (bytes : List ℕ) → F.holds files.old job.input.now ≡ Some bytes
+        → MasksFile job.ways job.input.now job.output.now bytes
+        (F.finished files.old) (F.finished files.new) result.outcome }
+{
+    let ways = job.ways;
+    let Ok(told) = ways_told(alloc, &ways) else {
         return Ended::printing(Outcome::Counted(Err(Error::Memory)));
     };
-    match both_opened(rt, job.input, job.output) {
-        Ok((source, made)) => {
-            let came = form_written(rt, hashers, job.ways, source, &made.file);
-            Ended {
-                is_aside: made.is_standard_output(),
-                outcome: counted(made.keep_if_ok(rt, came), told),
-            }
-        }
-        Err(outcome) => Ended::printing(outcome),
+    let form = MaskedForm { hashers, ways };
+    let ended = rewritten(alloc, form, files, job.input, job.output);
+    Ended {
+        is_aside: ended.is_aside,
+        outcome: with_mask_told(ended.outcome, told),
     }
 }
 
-fn counted(came: Result<Summary, Error>, told: String) -> Outcome {
-    match came {
-        Ok(summary) => Outcome::Masked(summary, told),
-        Err(error) => Outcome::Counted(Err(error)),
+fn with_mask_told(outcome: Outcome, told: String) -> Outcome {
+    match outcome {
+        Outcome::Counted(Ok(summary)) => Outcome::Masked(summary, told),
+        outcome => outcome,
     }
-}
-
-fn form_written(
-    rt: &HostRuntime,
-    hashers: MaskHashers<SecretHasher>,
-    ways: Ways,
-    source: File,
-    output: &File,
-) -> Result<Summary, Error> {
-    let output = Traced::new(output);
-    let Ok(mut buffer) = BufWriter::with_capacity(rt.alloc(), WRITTEN_AT_ONCE, output) else {
-        return Err(Error::Memory);
-    };
-    let mut sink = ToWrite::new(&mut buffer);
-    let came = mask(
-        rt.alloc(),
-        hashers,
-        ways,
-        &mut FromRead::new(source),
-        &mut sink,
-    );
-    let (came, _output) = written_out(came, buffer);
-    came
 }

@@ -4,9 +4,11 @@
 mod hashers;
 mod job;
 
+use capture3::Error;
+use hashers::mask_hashers;
 use job::masked;
-use mask_line3::mask_job;
-use program3::{Ended, Outcome, print_ended, words};
+use mask_line3::{MaskJob, mask_job};
+use program3::{Ended, Outcome, System, print_ended, words};
 use std::process::ExitCode;
 
 fn run(rt: &HostRuntime) -> Ended {
@@ -15,8 +17,15 @@ fn run(rt: &HostRuntime) -> Ended {
         Err(fault) => return Ended::printing(Outcome::Line(fault)),
     };
     match mask_job(rt.alloc(), &words) {
-        Ok(job) => masked(rt, job),
+        Ok(job) => done(rt, job),
         Err(fault) => Ended::printing(Outcome::Line(fault)),
+    }
+}
+
+fn done(rt: &HostRuntime, job: MaskJob<'_>) -> Ended {
+    match mask_hashers(rt) {
+        Ok(hashers) => masked(rt.alloc(), hashers, &mut System::new(rt), job),
+        Err(_) => Ended::printing(Outcome::Counted(Err(Error::Read))),
     }
 }
 

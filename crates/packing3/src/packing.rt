@@ -79,6 +79,13 @@ impl<W: Sink> Packing<W> {
         &self.sink
     }
 
+    /// Gives the sink back.
+    pub fn into_sink(self) -> W
+        ensures { result ≡ sink_of self }
+    {
+        self.sink
+    }
+
     /// Writes one connection: the bytes of both sources, to their ends.
     ///
     /// # Errors

@@ -1,4 +1,7 @@
+pub mod Files
 pub mod Hashing
 pub mod Opening
+pub mod Places
 pub mod Printed
+pub mod Systems
 pub mod Writing

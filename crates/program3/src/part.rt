@@ -101,15 +101,19 @@ impl Part {
         }
     }
 
-    /// Gives the whole file its owner, its mode and its name, once its bytes are safe on the disk.
-    pub fn keep(&self, rt: &HostRuntime, file: &File) -> io::Result<()> {
+    /// Gives the whole file its owner and its mode, and makes its bytes safe on the disk.
+    pub fn make_safe(&self, file: &File) -> io::Result<()> {
         let mode = self.mode_at_last(file)?;
         // A file system with one mode for all files need not be able to change it.
         if file.metadata()?.mode() & PERMISSIONS != mode {
             file.set_permissions(Permissions::from_mode(mode))?;
         }
         // A server of files may tell of a full disk only when the data is to be safe.
-        file.sync_all()?;
+        file.sync_all()
+    }
+
+    /// Gives the file its name.
+    pub fn give_name(&self, rt: &HostRuntime) -> io::Result<()> {
         match &self.replaced {
             Some(replaced) => self.replace(rt, replaced.id),
             None => self.appear(rt),

@@ -1,52 +1,133 @@
-//! The files of a command that reads one capture and writes another.
+//! A form of a capture's entries, written to a file.
 
-use crate::destination::Destination;
-use crate::identity::{FileId, standard_output};
-use crate::opening::{OpenError, opened, uncounted};
-use crate::outcome::Outcome;
-use crate::output::OutputFile;
-use line3::LineFault;
-use std::fs::{File, Metadata};
-use std::io;
+ghost use Rattle.std.specs.Prelude.{◌≡◌, ◌∷◌, ℕ, List, [], Some, IfErr, IfOk, OnErr, OnOk};
+ghost use Rattle.capture3.specs.Entry as spec;
+ghost use Rattle.capture3.specs.Told.{GavePrefix};
+ghost use Rattle.canon3.specs.EntryWriter.{WritesAll, WritesGiven};
+ghost use Rattle.canon3.specs.WriteErrors.{IsOfWriting};
+ghost use Rattle.program3.specs.Files.{KeepsForm, RewritesFile};
 
-/// Opens the input, and then makes the output.
-///
-/// # Errors
-///
-/// No output is left behind.
-/// - `Outcome::Unopened` with the name of the file that cannot be opened or made.
-/// - `Outcome::Line(LineFault::SameName)` if the output is the input, also under another name.
-/// - `Outcome::Counted(Err(Error::Memory))` if memory ran out.
-pub fn both_opened(
-    rt: &HostRuntime,
+use crate::files::{Files, Made};
+use crate::outcome::{Ended, Outcome};
+use crate::writing::{WRITTEN_AT_ONCE, written_out};
+use canon3::{Sink, Summary, ToWrite};
+use capture3::{Error, FromRead, Source};
+use std::alloc::{AllocError, Global};
+use std::io::{BufWriter, Read, Write};
+
+/// What reads a capture and writes a form of its entries.
+pub trait Rewriting {
+    // What the entries are written as.
+    ghost form: { Self → List spec.Entry → List ℕ };
+
+    /// Reads a capture to its end, and writes the form of its entries as they come.
+    fn rewrite<R: Source, W: Sink>(
+        self,
+        alloc: Global,
+        source: &mut R,
+        sink: &mut W,
+    ) -> Result<Summary, Error>
+        ensures writes { WritesGiven (form self) (R.told source.old) (R.told source.new)
+            (W.written sink.old) (W.written sink.new) result }
+        ensures whole { (bytes : List ℕ)
+            → GavePrefix (R.told source.old) (R.told source.new) bytes
+            → WritesAll (form self) bytes (W.written sink.old) (W.written sink.new) result };
+}
+
+/// Reads the capture of one name, and writes the form of its entries to the file of another. The file gets
+/// its name once the form is whole and safe, and at no other end.
+pub fn rewritten<F: Files, J: Rewriting + Drop>(
+    alloc: Global,
+    rewriting: J,
+    files: &mut F,
     input: &str,
     output: &str,
-) -> Result<(File, OutputFile), Outcome> {
-    let own = standard_output(rt);
-    let (source, read) = opened(rt, input).map_err(|error| uncounted(rt.alloc(), input, error))?;
-    match made_apart(rt, output, own, &read) {
-        Ok(Some(made)) => Ok((source, made)),
-        Ok(None) => Err(Outcome::Line(LineFault::SameName)),
-        Err(error) => Err(uncounted(rt.alloc(), output, error)),
+) -> Ended
+    ensures rewrites { (bytes : List ℕ) → F.holds files.old input.now ≡ Some bytes
+        → RewritesFile (J.form rewriting) input.now output.now bytes
+        (F.finished files.old) (F.finished files.new) result.outcome }
+{
+    match files.both_opened(input, output) {
+        Ok((source, made)) => Ended {
+            is_aside: files.is_standard_output(&made.place),
+            outcome: Outcome::Counted(kept(alloc, rewriting, files, source, made)),
+        },
+        Err(outcome) => Ended::printing(outcome),
     }
 }
 
-/// Makes the output, unless it is the input, of which the system says `read`. The name may lead to another
-/// file once it is open, so it is compared again.
-fn made_apart(
-    rt: &HostRuntime,
-    output: &str,
-    own: io::Result<Option<FileId>>,
-    read: &Metadata,
-) -> Result<Option<OutputFile>, OpenError> {
-    let destination = Destination::of(rt, output, own?)?;
-    if destination.is_regular(read) {
-        return Ok(None);
+fn kept<F: Files, J: Rewriting + Drop>(
+    alloc: Global,
+    rewriting: J,
+    files: &mut F,
+    source: F::Input,
+    made: Made<F::Output, F::Place>,
+) -> Result<Summary, Error>
+    ensures keeps { (bytes : List ℕ) → F.Input.remaining source ≡ Some bytes
+        → F.Output.contents made.file ≡ Some []
+        → KeepsForm (J.form rewriting) (F.name_of made.place) bytes
+        (F.finished files.old) (F.finished files.new) result }
+{
+    let Made { file, place } = made;
+    match form_written(alloc, rewriting, source, file) {
+        Ok((Ok(summary), file)) => {
+            named(files, file, place)?;
+            Ok(summary)
+        }
+        Ok((Err(error), _file)) => {
+            files.remove(&place);
+            Err(error)
+        }
+        Err(_) => {
+            files.remove(&place);
+            Err(Error::Memory)
+        }
     }
-    let made = OutputFile::make(rt, output, &destination)?;
-    if made.is_regular(read) {
-        made.discard(rt);
-        return Ok(None);
+}
+
+/// Makes a whole file safe, and gives it its name.
+///
+/// # Errors
+///
+/// It is removed, and what has the name is unchanged.
+/// - `Write` if its bytes cannot be made safe, or it cannot have the name.
+/// - `Memory` if memory ran out.
+pub fn named<F: Files>(files: &mut F, file: F::Output, place: F::Place) -> Result<(), Error>
+    ensures ok { OnOk result
+        (F.finished files.new
+        ≡ record { name = F.name_of place; bytes = F.Output.contents file }
+        ∷ F.finished files.old) }
+    ensures err { OnErr result (F.finished files.new ≡ F.finished files.old) }
+    ensures error { IfErr result IsOfWriting }
+{
+    match files.make_safe(file, &place) {
+        Ok(safe) => files.give_name(safe, place),
+        Err(_) => {
+            files.remove(&place);
+            Err(Error::Write)
+        }
     }
-    Ok(Some(made))
+}
+
+/// Lists the capture of one name, or writes another form of its entries. Returns what came of it, and the
+/// writer.
+///
+/// # Errors
+///
+/// If memory ran out before anything was read.
+pub fn form_written<R: Read + Drop, W: Write + Drop, J: Rewriting + Drop>(
+    alloc: Global,
+    rewriting: J,
+    source: R,
+    output: W,
+) -> Result<(Result<Summary, Error>, W), AllocError>
+    ensures writes { IfOk result (λ done. (bytes : List ℕ) → R.remaining source ≡ Some bytes
+        → WritesAll (J.form rewriting) bytes (W.contents output) (W.contents done.1) done.0) }
+{
+    let Ok(buffer) = BufWriter::with_capacity(alloc, WRITTEN_AT_ONCE, output) else {
+        return Err(AllocError);
+    };
+    let mut sink = ToWrite::new(buffer);
+    let came = rewriting.rewrite(alloc, &mut FromRead::new(source), &mut sink);
+    Ok(written_out(came, sink.into_inner()))
 }

@@ -1,0 +1,156 @@
+//! The place of a file that a command writes.
+
+ghost use Rattle.std.specs.Prelude.{◌≡◌, IfOk, string_bytes};
+ghost use Rattle.program3.specs.Places.{IsMade};
+
+use crate::destination::Destination;
+use crate::files::Made;
+use crate::identity::FileId;
+use crate::opening::OpenError;
+use crate::part::Part;
+use canon3::Traced;
+use std::fs::{File, Metadata, OpenOptions};
+use std::io;
+
+/// Where the file that a command writes will stand. A regular file is written beside its name, and gets the
+/// name once it is whole: until then, and if the command fails, what has the name stays as it is. A device, a
+/// pipe and the program's own standard output are written as they are.
+#[derive(Drop)]
+pub struct Place {
+    name: String,
+    id: FileId,
+    part: Option<Part>,
+    is_standard_output: bool,
+}
+
+impl Place {
+    /// Opens or makes the file of this name. `destination` is what the name leads to.
+    ///
+    /// # Errors
+    ///
+    /// Nothing is left behind, and what has the name is unchanged.
+    /// - `Unopened` if the file cannot be opened or made, is not writable or has something mounted on it, or
+    ///   if the name leads to another device or pipe by now.
+    /// - `Memory` if memory ran out.
+    pub fn make(
+        rt: &HostRuntime,
+        name: &str,
+        destination: &Destination,
+    ) -> Result<Made<Traced<File>, Place>, OpenError>
+        ensures { IfOk result (λ made. IsMade made name.now) }
+    {
+        let word = String::from_str(rt.alloc(), name)?;
+        match destination {
+            Destination::New => beside(rt, word, Part::of_new(rt, name)?),
+            Destination::Replaced(found) if found.permissions().readonly() => {
+                Err(OpenError::Unopened)
+            }
+            Destination::Replaced(_) => beside(rt, word, Part::of_replaced(rt, name)?),
+            Destination::AsItIs {
+                found,
+                is_standard_output,
+            } => as_it_is(rt, word, found, *is_standard_output),
+        }
+    }
+
+    /// Whether the program prints to this file, too.
+    pub fn is_standard_output(&self) -> bool {
+        self.is_standard_output
+    }
+
+    /// Whether `data` is what the system says of the regular file that is written, or that is replaced.
+    pub fn is_regular(&self, data: &Metadata) -> bool {
+        self.id.is_regular(data) || self.replaces(data)
+    }
+
+    fn replaces(&self, data: &Metadata) -> bool {
+        match &self.part {
+            Some(part) => part.replaces(FileId::of(data)),
+            None => false,
+        }
+    }
+
+    /// Gives the whole file its owner and its permissions, and makes its bytes safe on the disk. Does nothing
+    /// for a file that is written as it is.
+    ///
+    /// # Errors
+    ///
+    /// That of the system.
+    pub fn make_safe(&self, file: &File) -> io::Result<()> {
+        match &self.part {
+            Some(part) => part.make_safe(file),
+            None => Ok(()),
+        }
+    }
+
+    /// Gives the file its name. Does nothing for a file that is written as it is.
+    ///
+    /// # Errors
+    ///
+    /// That of the system, or `AlreadyExists` if another file has got the name meanwhile. What has the name
+    /// is unchanged.
+    pub fn give_name(&self, rt: &HostRuntime) -> io::Result<()> {
+        match &self.part {
+            Some(part) => part.give_name(rt),
+            None => Ok(()),
+        }
+    }
+
+    /// Removes what was written beside the name. What has the name is unchanged.
+    pub fn remove(&self, rt: &HostRuntime) {
+        if let Some(part) = &self.part {
+            part.remove(rt);
+        }
+    }
+}
+
+fn beside(
+    rt: &HostRuntime,
+    name: String,
+    made: (Part, File),
+) -> Result<Made<Traced<File>, Place>, OpenError>
+    ensures { IfOk result (λ made. IsMade made (string_bytes name)) }
+{
+    let (part, file) = made;
+    match file.metadata() {
+        Ok(data) => Ok(Made {
+            file: Traced::new(file),
+            place: Place {
+                name,
+                id: FileId::of(&data),
+                part: Some(part),
+                is_standard_output: false,
+            },
+        }),
+        Err(error) => {
+            part.remove(rt);
+            Err(OpenError::from(error))
+        }
+    }
+}
+
+/// Nothing that is there is emptied: a device and a pipe hold nothing, and standard output may have been
+/// written before.
+fn as_it_is(
+    rt: &HostRuntime,
+    name: String,
+    found: &Metadata,
+    is_standard_output: bool,
+) -> Result<Made<Traced<File>, Place>, OpenError>
+    ensures { IfOk result (λ made. IsMade made (string_bytes name)) }
+{
+    let file = OpenOptions::new().append(true).open(rt, name.as_str())?;
+    let id = FileId::of(&file.metadata()?);
+    if id != FileId::of(found) {
+        return Err(OpenError::Unopened);
+    }
+    Ok(Made {
+        file: Traced::new(file),
+        place: Place {
+            name,
+            id,
+            part: None,
+            is_standard_output,
+        },
+    })
+}
