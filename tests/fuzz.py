@@ -212,8 +212,8 @@ def damaged(chance, capture):
 
 
 # The words of nfs3mask without a way, and what each class is in the order of its lines.
-MASKED_CLASSES = {'times': 'zero', 'stamps': 'zero', 'space': 'zero', 'ids': 'number', 'fsids': 'number', 'cookies': 'number',
-                  'cookieverfs': 'number', 'createverfs': 'number', 'owners': 'keep'}
+MASKED_CLASSES = {'times': 'zero', 'stamps': 'zero', 'machines': 'zero', 'space': 'zero', 'ids': 'number', 'fsids': 'number',
+                  'cookies': 'number', 'cookieverfs': 'number', 'createverfs': 'number', 'owners': 'keep'}
 
 
 def drawn_mask(chance):

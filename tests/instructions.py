@@ -33,8 +33,8 @@ LIMITS = {
     'show mixed': 22.0,
     'same mixed': 22.3,
     'pack small': 0.39,
-    'nfs3mask small': 20.3,
-    'nfs3mask mixed': 16.4,
+    'nfs3mask small': 21.2,
+    'nfs3mask mixed': 17.8,
 }
 MIXES = {'small': (make.SMALL, 1), 'mixed': (make.MIXED, 4)}
 

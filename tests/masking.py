@@ -6,10 +6,14 @@ from collections.abc import Iterable, Iterator
 from pathlib import Path
 
 sys.path.insert(0, str(Path(__file__).resolve().parent.parent / 'tools'))
-from layouts import Message, Procedure, procedure_of  # noqa: E402
+from layouts import Item, Message, Procedure, procedure_of  # noqa: E402
 from nfs3tools.classes import CLASSES, Mask, ValueClass, Way  # noqa: E402
 
 Bodies = tuple[list[bytes], list[bytes]]
+
+
+def word(number: int) -> bytes:
+    return number.to_bytes(4, 'big')
 
 
 class Masker:
@@ -20,7 +24,7 @@ class Masker:
         self.numbers: dict[str, dict[int, int]] = {name: {} for name, way in mask.items() if way is Way.NUMBER}
 
     def class_of(self, name: str, is_call: bool) -> ValueClass | None:
-        return next((one for one in CLASSES if one.name in self.mask and one.has(name, is_call) and name != 'group'), None)
+        return next((one for one in CLASSES if one.name in self.mask and one.has(name, is_call) and name not in ('group', 'machinename')), None)
 
     def value(self, owner: ValueClass, content: bytes) -> bytes:
         """Returns what stands for a value, in its own width."""
@@ -38,7 +42,20 @@ class Masker:
             owner = self.class_of(item.name, is_call)
             if owner:
                 out[item.begin:item.end] = self.value(owner, body[item.begin:item.end])
-        return bytes(out)
+        places = {item.name: item for item in message.items}
+        return self.with_other_name(bytes(out), places) if 'machines' in self.mask and 'machinename' in places else bytes(out)
+
+    def machine(self) -> bytes:
+        """Returns what stands for the name of a machine."""
+        return b''
+
+    def with_other_name(self, body: bytes, places: dict[str, Item]) -> bytes:
+        """Returns a call with another name of the machine, and the length of the credential with it."""
+        name, length = self.machine(), places['cred_length']
+        begin, end = places['machinename (its length)'].begin, places['machinename (residual bytes)'].end
+        spelled = word(len(name)) + name + bytes(-len(name) % 4)
+        size = int.from_bytes(body[length.begin:length.end], 'big') - (end - begin) + len(spelled)
+        return body[:length.begin] + word(size) + body[length.end:begin] + spelled + body[end:]
 
 
 def masked_bodies(connections: Iterable[Bodies], masker: Masker) -> Iterator[Bodies]:
@@ -50,7 +67,8 @@ def masked_bodies(connections: Iterable[Bodies], masker: Masker) -> Iterator[Bod
 
 
 class Renamer(Masker):
-    """Puts other values in the place of those of the classes: one to one where they are numbered, and any where they become zero."""
+    """Puts other values in the place of those of the classes: one to one if they are numbered, and any if they become zero. Any name of a
+    machine stands for another."""
 
     def __init__(self, mask: Mask, chance: random.Random) -> None:
         super().__init__(mask)
@@ -68,3 +86,6 @@ class Renamer(Masker):
             if other not in others.values():
                 others[number] = other
         return others[number].to_bytes(len(content), 'big')
+
+    def machine(self) -> bytes:
+        return self.chance.randbytes(self.chance.randrange(256))

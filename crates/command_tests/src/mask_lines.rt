@@ -8,11 +8,11 @@ use std::test::Fail;
 
 /// The words that tell the usual mask.
 const USUAL: &str =
-    " times=zero stamps=zero space=zero ids=number fsids=number cookies=number cookieverfs=number createverfs=number owners=keep";
+    " times=zero stamps=zero machines=zero space=zero ids=number fsids=number cookies=number cookieverfs=number createverfs=number owners=keep";
 
 /// Another way for each class.
 const OTHER: &str =
-    " times=keep stamps=number space=keep ids=zero fsids=keep cookies=zero cookieverfs=keep createverfs=zero owners=number";
+    " times=keep stamps=number machines=keep space=keep ids=zero fsids=keep cookies=zero cookieverfs=keep createverfs=zero owners=number";
 
 /// Command lines after the program's name, and what is made of each: the words for its mask, or a fault.
 const LINES: [(&str, &str); 14] = [

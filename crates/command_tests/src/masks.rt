@@ -15,74 +15,56 @@ struct Run {
     fsid: u32,
     fileid: u32,
     time: u32,
+    is_named: bool,
+}
+
+/// A GETATTR call with an AUTH_SYS credential up to its flavor, and from the user on.
+const HEAD: [u32; 7] = [7, 0, 2, 100_003, 3, 1, 1];
+
+const TAIL: [u32; 7] = [1000, 100, 0, 0, 0, 4, 0xaabb_ccdd];
+
+/// Appends the call in its record and chunk. The machine is named `box`, or has an empty name.
+fn push_call(bytes: &mut Vec<u8>, run: Run) -> Result<(), AllocError> {
+    if run.is_named {
+        push_words(bytes, &[76, 0x8000_0048])?;
+        push_words(bytes, &HEAD)?;
+        push_words(bytes, &[24, run.stamp, 3, 0x626f_7800])?;
+    } else {
+        push_words(bytes, &[72, 0x8000_0044])?;
+        push_words(bytes, &HEAD)?;
+        push_words(bytes, &[20, run.stamp, 0])?;
+    }
+    push_words(bytes, &TAIL)
+}
+
+/// The record and the chunk of its reply, up to the attributes.
+const REPLY: [u32; 9] = [116, 0x8000_0070, 7, 1, 0, 0, 0, 0, 0];
+
+/// A file's attributes.
+fn attributes(run: Run) -> [u32; 21] {
+    [
+        1, 420, 1, 1000, 100, 0, 5, 0, run.used, 0, 0, 0, run.fsid, 0, run.fileid, run.time,
+        run.time, run.time, run.time, run.time, run.time,
+    ]
 }
 
 /// A GETATTR call with an AUTH_SYS credential, and its reply.
 fn capture(alloc: Global, run: Run) -> Result<Vec<u8>, AllocError> {
-    let time = run.time;
-    let words = [
-        0x4e46_5333,
-        0x4341_5031,
-        1,
-        76,
-        0x8000_0048,
-        7,
-        0,
-        2,
-        100_003,
-        3,
-        1,
-        1,
-        24,
-        run.stamp,
-        3,
-        0x626f_7800,
-        1000,
-        100,
-        0,
-        0,
-        0,
-        4,
-        0xaabb_ccdd,
-        0,
-        116,
-        0x8000_0070,
-        7,
-        1,
-        0,
-        0,
-        0,
-        0,
-        0,
-        1,
-        420,
-        1,
-        1000,
-        100,
-        0,
-        5,
-        0,
-        run.used,
-        0,
-        0,
-        0,
-        run.fsid,
-        0,
-        run.fileid,
-        time,
-        time,
-        time,
-        time,
-        time,
-        time,
-        0,
-        0,
-    ];
     let mut bytes = Vec::new(alloc);
-    for word in &words {
+    push_words(&mut bytes, &[0x4e46_5333, 0x4341_5031, 1])?;
+    push_call(&mut bytes, run)?;
+    push_words(&mut bytes, &[0])?;
+    push_words(&mut bytes, &REPLY)?;
+    push_words(&mut bytes, &attributes(run))?;
+    push_words(&mut bytes, &[0, 0])?;
+    Ok(bytes)
+}
+
+fn push_words(bytes: &mut Vec<u8>, words: &[u32]) -> Result<(), AllocError> {
+    for word in words {
         bytes.extend_from_slice(&capture3::pack_chunk(*word))?;
     }
-    Ok(bytes)
+    Ok(())
 }
 
 fn hasher() -> BuildHasherDefault<FoldHasher> {
@@ -128,6 +110,7 @@ const FIRST: Run = Run {
     fsid: 9,
     fileid: 9,
     time: 1_700_000_000,
+    is_named: true,
 };
 
 #[test]
@@ -138,6 +121,7 @@ fn the_usual_ways(rt: HostRuntime) -> Result<(), Fail> {
         fsid: 1,
         fileid: 1,
         time: 0,
+        is_named: false,
     };
     let mut sink = MemSink::new(rt.alloc(), 999, 9, 0)?;
     let summary = Summary {
@@ -147,9 +131,10 @@ fn the_usual_ways(rt: HostRuntime) -> Result<(), Fail> {
         handles: 1,
     };
     let bytes = capture(rt.alloc(), FIRST)?;
+    let form = capture(rt.alloc(), form)?;
     assert_eq!(rt; masked(&rt, Ways::usual(), &bytes, &mut sink), Ok(summary));
-    assert_eq!(rt; sink.bytes(), capture(rt.alloc(), form)?.as_slice());
-    assert_eq!(rt; sink.flushed().len(), bytes.len());
+    assert_eq!(rt; sink.bytes(), form.as_slice());
+    assert_eq!(rt; sink.flushed().len(), form.len());
     Ok(())
 }
 

@@ -15,9 +15,9 @@ use Rattle.line3.specs.Asked.{IsFileWord, IsLine, IsUsage}
 use Rattle.line3.specs.declared.asked.LineFault.{LineFault}
 use Rattle.line3.specs.declared.asked.LineFault.TheVariants.{Usage, Odd, SameName, NotText, Memory}
 use Rattle.line3.proofs.GrammarLemmas.{all_pass, at, ends, further_turn, further_walked, no_first, plain_turn, plain_walked}
-use Rattle.masking3.specs.declared.class.Class.{Class}
+use Rattle.mask_line3.specs.declared.asked.MaskClass.{MaskClass}
 use Rattle.masking3.specs.declared.ways.Way.{Way}
-use Rattle.masking3.specs.declared.class.Class.TheVariants.{Times, Stamps, Space, Ids, Fsids, Cookies, CookieVerifiers, CreateVerifiers, Owners}
+use Rattle.mask_line3.specs.declared.asked.MaskClass.TheVariants.{Times, Stamps, Machines, Space, Ids, Fsids, Cookies, CookieVerifiers, CreateVerifiers, Owners}
 use Rattle.mask_line3.specs.declared.asked.Change.{Change}
 use Rattle.mask_line3.specs.Changes.{change_word}
 use Rattle.mask_line3.specs.machinery.Grammar.{mask_app}
@@ -116,9 +116,10 @@ module _ (x : ℕ) (xs : Text) (no_hyphen : (x == 45) ≡ false) (y : ℕ) (ys :
 -- ---- a line of the form
 
 -- the word for a change does not begin with a hyphen
-class_plain : (class : Class) (way : Way) → IsFileWord (change_word (record { class = class; way = way }))
+class_plain : (class : MaskClass) (way : Way) → IsFileWord (change_word (record { class = class; way = way }))
 class_plain Times way = record { first = _; rest = _; split = refl; no_hyphen = refl }
 class_plain Stamps way = record { first = _; rest = _; split = refl; no_hyphen = refl }
+class_plain Machines way = record { first = _; rest = _; split = refl; no_hyphen = refl }
 class_plain Space way = record { first = _; rest = _; split = refl; no_hyphen = refl }
 class_plain Ids way = record { first = _; rest = _; split = refl; no_hyphen = refl }
 class_plain Fsids way = record { first = _; rest = _; split = refl; no_hyphen = refl }

@@ -1,11 +1,11 @@
 -- Words that change a mask, and the words that tell one.
 use Rattle.std.specs.Prelude.{ℕ, List, [], ◌∷◌, codes, fold, map}
 use Rattle.std.specs.List.{concat, flat_map}
-use Rattle.masking3.specs.declared.class.Class.{Class}
-use Rattle.masking3.specs.declared.class.Class.TheVariants.{Times, Stamps, Space, Ids, Fsids, Cookies, CookieVerifiers, CreateVerifiers, Owners}
+use Rattle.mask_line3.specs.declared.asked.MaskClass.{MaskClass}
+use Rattle.mask_line3.specs.declared.asked.MaskClass.TheVariants.{Times, Stamps, Machines, Space, Ids, Fsids, Cookies, CookieVerifiers, CreateVerifiers, Owners}
 use Rattle.masking3.specs.declared.ways.Way.{Way}
 use Rattle.masking3.specs.declared.ways.Ways.{Ways}
-use Rattle.masking3.specs.Ways.{usual, way_of}
+use Rattle.masking3.specs.Ways.{usual}
 use Rattle.mask_line3.specs.declared.asked.Change.{Change}
 use Rattle.mask_line3.specs.Names.{class_name, way_name}
 
@@ -18,9 +18,10 @@ abbrev pub change_word : Change → List ℕ
 change_word change = concat (change_parts change)
 
 -- the ways with another one for a class
-abbrev pub with_way : Ways → Class → Way → Ways
+abbrev pub with_way : Ways → MaskClass → Way → Ways
 with_way ways Times way = record ways { times = way }
 with_way ways Stamps way = record ways { stamps = way }
+with_way ways Machines way = record ways { machines = way }
 with_way ways Space way = record ways { space = way }
 with_way ways Ids way = record ways { ids = way }
 with_way ways Fsids way = record ways { fsids = way }
@@ -36,17 +37,30 @@ with_change ways change = with_way ways change.class change.way
 abbrev pub ways_after : List Change → Ways
 ways_after changes = fold with_change usual changes
 
--- every class
-abbrev pub classes : List Class
-classes = Times ∷ Stamps ∷ Space ∷ Ids ∷ Fsids ∷ Cookies ∷ CookieVerifiers ∷ CreateVerifiers
-    ∷ Owners ∷ []
+-- what becomes of a class
+abbrev pub way_told : Ways → MaskClass → Way
+way_told ways Times = ways.times
+way_told ways Stamps = ways.stamps
+way_told ways Machines = ways.machines
+way_told ways Space = ways.space
+way_told ways Ids = ways.ids
+way_told ways Fsids = ways.fsids
+way_told ways Cookies = ways.cookies
+way_told ways CookieVerifiers = ways.cookie_verifiers
+way_told ways CreateVerifiers = ways.create_verifiers
+way_told ways Owners = ways.owners
 
-abbrev pub change_of : Class → Way → Change
+-- every class
+abbrev pub classes : List MaskClass
+classes = Times ∷ Stamps ∷ Machines ∷ Space ∷ Ids ∷ Fsids ∷ Cookies ∷ CookieVerifiers
+    ∷ CreateVerifiers ∷ Owners ∷ []
+
+abbrev pub change_of : MaskClass → Way → Change
 change_of class way = record { class = class; way = way }
 
 -- what becomes of every class
 abbrev pub changes_of : Ways → List Change
-changes_of ways = map (λ class. change_of class (way_of ways class)) classes
+changes_of ways = map (λ class. change_of class (way_told ways class)) classes
 
 -- the word for a change, with a space before it
 abbrev pub change_told : Change → List ℕ

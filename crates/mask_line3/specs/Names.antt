@@ -1,13 +1,14 @@
 -- The names of classes and ways on a command line.
 use Rattle.std.specs.Prelude.{ℕ, List, codes}
-use Rattle.masking3.specs.declared.class.Class.{Class}
-use Rattle.masking3.specs.declared.class.Class.TheVariants.{Times, Stamps, Space, Ids, Fsids, Cookies, CookieVerifiers, CreateVerifiers, Owners}
+use Rattle.mask_line3.specs.declared.asked.MaskClass.{MaskClass}
+use Rattle.mask_line3.specs.declared.asked.MaskClass.TheVariants.{Times, Stamps, Machines, Space, Ids, Fsids, Cookies, CookieVerifiers, CreateVerifiers, Owners}
 use Rattle.masking3.specs.declared.ways.Way.{Way}
 use Rattle.masking3.specs.declared.ways.Way.TheVariants.{Keep, Zero, Number}
 
-abbrev pub class_name : Class → List ℕ
+abbrev pub class_name : MaskClass → List ℕ
 class_name Times = codes "times"
 class_name Stamps = codes "stamps"
+class_name Machines = codes "machines"
 class_name Space = codes "space"
 class_name Ids = codes "ids"
 class_name Fsids = codes "fsids"

@@ -1,11 +1,36 @@
 //! What a command line asks for.
 
-use masking3::{Class, Way, Ways};
+use masking3::{Way, Ways};
 
-/// What becomes of the values of a class, as a word of the line says it.
+/// A class, as a word of the line names it: one of values, or the names of machines.
+#[derive(Clone, Copy, Debug, PartialEq, Eq)]
+pub enum MaskClass {
+    /// The times of files.
+    Times,
+    /// The stamps of credentials.
+    Stamps,
+    /// The names of machines in credentials.
+    Machines,
+    /// The counts of free space, and the space that a file uses.
+    Space,
+    /// The ids of files.
+    Ids,
+    /// The ids of file systems.
+    Fsids,
+    /// The cookies of directories.
+    Cookies,
+    /// The verifiers of cookies.
+    CookieVerifiers,
+    /// The verifiers of exclusive creates.
+    CreateVerifiers,
+    /// The users and groups.
+    Owners,
+}
+
+/// What becomes of a class, as a word of the line says it.
 #[derive(Clone, Copy, Debug, PartialEq, Eq)]
 pub struct Change {
-    pub class: Class,
+    pub class: MaskClass,
     pub way: Way,
 }
 

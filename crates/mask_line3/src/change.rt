@@ -5,12 +5,12 @@ ghost use Rattle.masking3.specs.Ways.{usual};
 ghost use Rattle.mask_line3.specs.Changes.{change_of, change_told, change_word, changes_of, mask_told, with_way, ways_after};
 ghost use Rattle.mask_line3.specs.machinery.Changes.{AreChanges};
 
-use crate::asked::Change;
+use crate::asked::{Change, MaskClass};
 use crate::names::{class_name, class_named, way_name, way_named};
-use masking3::{Class, Way, Ways};
+use masking3::{Way, Ways};
 use std::alloc::{AllocError, Global};
 
-/// What a word changes.
+/// Returns what a word changes, if it is CLASS=WAY.
 pub(crate) fn change(word: &str) -> Option<Change>
     ensures { MatchOption result ((change : Change) → word.now ≢ change_word change)
         (λ change. word.now ≡ change_word change) }
@@ -22,39 +22,43 @@ pub(crate) fn change(word: &str) -> Option<Change>
     })
 }
 
-/// The ways with another one for a class.
-pub(crate) fn with_way(ways: Ways, class: Class, way: Way) -> Ways
+/// Returns the ways with another one for a class.
+pub(crate) fn with_way(ways: Ways, class: MaskClass, way: Way) -> Ways
     ensures { result ≡ with_way ways class way }
 {
     match class {
-        Class::Times => Ways { times: way, ..ways },
-        Class::Stamps => Ways {
+        MaskClass::Times => Ways { times: way, ..ways },
+        MaskClass::Stamps => Ways {
             stamps: way,
             ..ways
         },
-        Class::Space => Ways { space: way, ..ways },
-        Class::Ids => Ways { ids: way, ..ways },
-        Class::Fsids => Ways { fsids: way, ..ways },
-        Class::Cookies => Ways {
+        MaskClass::Machines => Ways {
+            machines: way,
+            ..ways
+        },
+        MaskClass::Space => Ways { space: way, ..ways },
+        MaskClass::Ids => Ways { ids: way, ..ways },
+        MaskClass::Fsids => Ways { fsids: way, ..ways },
+        MaskClass::Cookies => Ways {
             cookies: way,
             ..ways
         },
-        Class::CookieVerifiers => Ways {
+        MaskClass::CookieVerifiers => Ways {
             cookie_verifiers: way,
             ..ways
         },
-        Class::CreateVerifiers => Ways {
+        MaskClass::CreateVerifiers => Ways {
             create_verifiers: way,
             ..ways
         },
-        Class::Owners => Ways {
+        MaskClass::Owners => Ways {
             owners: way,
             ..ways
         },
     }
 }
 
-/// The usual ways, changed by these words one after another, or the first word that changes none.
+/// Returns the usual ways, changed by these words one after another, or the first word that changes none.
 pub(crate) fn changed<'a>(words: &'a [String]) -> Result<Ways, &'a str>
     ensures ok { IfOk result (AreChanges (map string_bytes words.now)) }
     ensures err { IfErr result (λ word. (changes : List Change)
@@ -81,19 +85,21 @@ pub fn ways_told(alloc: Global, ways: &Ways) -> Result<String, AllocError>
     ensures again { ways_after (changes_of ways.now) ≡ ways.now }
 {
     let mut text = String::new(alloc);
-    push_change(&mut text, Class::Times, ways.times)?;
-    push_change(&mut text, Class::Stamps, ways.stamps)?;
-    push_change(&mut text, Class::Space, ways.space)?;
-    push_change(&mut text, Class::Ids, ways.ids)?;
-    push_change(&mut text, Class::Fsids, ways.fsids)?;
-    push_change(&mut text, Class::Cookies, ways.cookies)?;
-    push_change(&mut text, Class::CookieVerifiers, ways.cookie_verifiers)?;
-    push_change(&mut text, Class::CreateVerifiers, ways.create_verifiers)?;
-    push_change(&mut text, Class::Owners, ways.owners)?;
+    push_change(&mut text, MaskClass::Times, ways.times)?;
+    push_change(&mut text, MaskClass::Stamps, ways.stamps)?;
+    push_change(&mut text, MaskClass::Machines, ways.machines)?;
+    push_change(&mut text, MaskClass::Space, ways.space)?;
+    push_change(&mut text, MaskClass::Ids, ways.ids)?;
+    push_change(&mut text, MaskClass::Fsids, ways.fsids)?;
+    push_change(&mut text, MaskClass::Cookies, ways.cookies)?;
+    push_change(&mut text, MaskClass::CookieVerifiers, ways.cookie_verifiers)?;
+    push_change(&mut text, MaskClass::CreateVerifiers, ways.create_verifiers)?;
+    push_change(&mut text, MaskClass::Owners, ways.owners)?;
     Ok(text)
 }
 
-fn push_change(text: &mut String, class: Class, way: Way) -> Result<(), AllocError>
+/// Appends the word for a change, with a space before it.
+fn push_change(text: &mut String, class: MaskClass, way: Way) -> Result<(), AllocError>
     ensures { OnOk result
         (string_bytes text.new ≡ string_bytes text.old ++ change_told (change_of class way)) }
 {

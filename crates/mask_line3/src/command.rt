@@ -29,7 +29,7 @@ pub fn mask_job<'a>(alloc: Global, words: &'a [String]) -> Result<MaskJob<'a>, L
     }
 }
 
-/// Whether clap takes the line.
+/// Returns an error if clap does not take the line.
 fn taken(alloc: Global, words: &[String]) -> Result<(), LineFault>
     ensures { IfErr result (AreMaskWordsRefused (map string_bytes words.now)) }
 {
@@ -43,7 +43,7 @@ fn taken(alloc: Global, words: &[String]) -> Result<(), LineFault>
     }
 }
 
-/// The job of a line that clap took.
+/// Returns the job of a line that clap took.
 fn placed<'a>(alloc: Global, words: &'a [String]) -> Result<MaskJob<'a>, LineFault>
     ensures asked { IfOk result (AsksForMask (map string_bytes words.now)) }
     ensures refused { IfErr result (AreMaskWordsRefused (map string_bytes words.now)) }
@@ -56,7 +56,8 @@ fn placed<'a>(alloc: Global, words: &'a [String]) -> Result<MaskJob<'a>, LineFau
     }
 }
 
-/// The names of two files, of which none is the `--` that clap passes over, and words that change the mask.
+/// Returns the job for the names of two files and words that change the mask. No name may be the `--` that
+/// clap passes over.
 fn of_two_files<'a>(
     alloc: Global,
     input: &'a str,
@@ -82,14 +83,15 @@ fn of_two_files<'a>(
     }
 }
 
-/// The text for a word that changes no mask.
+/// Returns the text for a word that changes no mask.
 fn unchanging(alloc: Global, word: &str) -> LineFault
     ensures { IsUsage result }
 {
     let text: Result<String, AllocError> = format!(in alloc;
         "error: '{word}' is not CLASS=WAY
 
-  classes: times, stamps, space, ids, fsids, cookies, cookieverfs, createverfs, owners
+  classes: times, stamps, machines, space, ids, fsids, cookies, cookieverfs,
+           createverfs, owners
   ways: keep, zero, number
 
 Usage: nfs3mask <IN> <OUT> [CLASS=WAY]...

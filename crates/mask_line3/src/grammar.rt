@@ -16,12 +16,14 @@ const ENDINGS: &str = "\
 CLASS=WAY words change the usual mask, a later word for a class before an earlier
 one. What happens to the values of a class:
   keep    they stay
-  zero    they become 0
-  number  each becomes its number by first appearance among those of its class
+  zero    they become 0, and names empty
+  number  each becomes its number by first appearance among those of its class;
+          names have no numbers, and become empty
 
 Classes, with their usual ways:
   times=zero          times of files, in attributes, guards and settings
   stamps=zero         stamps of AUTH_SYS credentials
+  machines=zero       names of machines in AUTH_SYS credentials
   space=zero          counts of free space, and the space that a file uses
   ids=number          file ids
   fsids=number        file system ids
@@ -53,7 +55,7 @@ fn changes<'a>(alloc: Global) -> Arg<'a>
         .num_args(0..)
 }
 
-/// The program.
+/// Returns the program.
 pub(crate) fn command<'a>(alloc: Global) -> Result<Command<'a>, AllocError>
     ensures { IfOk result (λ c. app_of c ≡ mask_app) }
 {

@@ -3,45 +3,48 @@
 ghost use Rattle.std.specs.Prelude.{◌≡◌, ◌≢◌, MatchOption};
 ghost use Rattle.mask_line3.specs.Names.{class_name, way_name};
 
-use masking3::{Class, Way};
+use crate::asked::MaskClass;
+use masking3::Way;
 
-/// The class of this name.
-pub(crate) fn class_named(name: &str) -> Option<Class>
-    ensures { MatchOption result ((class : Class) → name.now ≢ class_name class)
+/// Returns the class of this name.
+pub(crate) fn class_named(name: &str) -> Option<MaskClass>
+    ensures { MatchOption result ((class : MaskClass) → name.now ≢ class_name class)
         (λ class. name.now ≡ class_name class) }
 {
     match name {
-        "times" => Some(Class::Times),
-        "stamps" => Some(Class::Stamps),
-        "space" => Some(Class::Space),
-        "ids" => Some(Class::Ids),
-        "fsids" => Some(Class::Fsids),
-        "cookies" => Some(Class::Cookies),
-        "cookieverfs" => Some(Class::CookieVerifiers),
-        "createverfs" => Some(Class::CreateVerifiers),
-        "owners" => Some(Class::Owners),
+        "times" => Some(MaskClass::Times),
+        "stamps" => Some(MaskClass::Stamps),
+        "machines" => Some(MaskClass::Machines),
+        "space" => Some(MaskClass::Space),
+        "ids" => Some(MaskClass::Ids),
+        "fsids" => Some(MaskClass::Fsids),
+        "cookies" => Some(MaskClass::Cookies),
+        "cookieverfs" => Some(MaskClass::CookieVerifiers),
+        "createverfs" => Some(MaskClass::CreateVerifiers),
+        "owners" => Some(MaskClass::Owners),
         _ => None,
     }
 }
 
-/// The name of a class.
-pub(crate) fn class_name(class: Class) -> &'static str
+/// Returns the name of a class.
+pub(crate) fn class_name(class: MaskClass) -> &'static str
     ensures { result.now ≡ class_name class }
 {
     match class {
-        Class::Times => "times",
-        Class::Stamps => "stamps",
-        Class::Space => "space",
-        Class::Ids => "ids",
-        Class::Fsids => "fsids",
-        Class::Cookies => "cookies",
-        Class::CookieVerifiers => "cookieverfs",
-        Class::CreateVerifiers => "createverfs",
-        Class::Owners => "owners",
+        MaskClass::Times => "times",
+        MaskClass::Stamps => "stamps",
+        MaskClass::Machines => "machines",
+        MaskClass::Space => "space",
+        MaskClass::Ids => "ids",
+        MaskClass::Fsids => "fsids",
+        MaskClass::Cookies => "cookies",
+        MaskClass::CookieVerifiers => "cookieverfs",
+        MaskClass::CreateVerifiers => "createverfs",
+        MaskClass::Owners => "owners",
     }
 }
 
-/// The way of this name.
+/// Returns the way of this name.
 pub(crate) fn way_named(name: &str) -> Option<Way>
     ensures { MatchOption result ((way : Way) → name.now ≢ way_name way)
         (λ way. name.now ≡ way_name way) }
@@ -54,7 +57,7 @@ pub(crate) fn way_named(name: &str) -> Option<Way>
     }
 }
 
-/// The name of a way.
+/// Returns the name of a way.
 pub(crate) fn way_name(way: Way) -> &'static str
     ensures { result.now ≡ way_name way }
 {

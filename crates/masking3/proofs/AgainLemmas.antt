@@ -16,15 +16,17 @@ use Rattle.masking3.specs.declared.ways.Way.{Way}
 use Rattle.masking3.specs.declared.ways.Way.TheVariants.{Keep, Zero, Number}
 use Rattle.masking3.specs.declared.ways.Ways.{Ways}
 use Rattle.masking3.specs.Classes.{class_of, position, class_value, zero_stays}
-use Rattle.masking3.specs.Laws.{HasRoomForNumbers, KeepsAll, StaysMasked}
-use Rattle.masking3.specs.Masked.{by_way, is_zero_that_stays, masked, masked_entry, masked_item, masked_items, number_among, substitute, value_in, value_where, values, with_value}
+use Rattle.masking3.specs.Laws.{HasRoomForNumbers, KeepsAll, KeepsValues, StaysMasked}
+use Rattle.masking3.specs.Masked.{by_way, is_zero_that_stays, masked, masked_values, masked_entry, masked_item, masked_items, number_among, substitute, value_in, value_where, values, with_value}
+use Rattle.masking3.specs.Unnamed.{names_by}
 use Rattle.masking3.specs.Ways.{way_of}
 use Rattle.masking3.proofs.ClassLemmas.{none_of_other, same_class}
 use Rattle.masking3.proofs.MaskedLemmas.{member_among, unmasked, value_given}
+use Rattle.masking3.proofs.UnnamedLemmas.{names_again, names_kept, values_of_named}
 
--- ---- where nothing is masked
+-- ---- where nothing is masked_values
 
-module _ (ways : Ways) (keeps : KeepsAll ways) where
+module _ (ways : Ways) (keeps : KeepsValues ways) where
   none_for : (seen : Class → List ℕ) (o : Option Class) (n : ℕ) → substitute ways seen o n ≡ None
   none_for seen None n = refl
   none_for seen (Some d) n = ap (λ w. by_way w (seen d) d n) (keeps d)
@@ -45,8 +47,8 @@ module _ (ways : Ways) (keeps : KeepsAll ways) where
   entries_kept seen [] = refl
   entries_kept seen (e ∷ entries) = ap₂ (λ (f : Entry) (l : List Entry). f ∷ l) (entry_kept seen e) (entries_kept seen entries)
 
-  pub all_kept : (entries : List Entry) → masked ways entries ≡ entries
-  all_kept entries = entries_kept (values (flat_map items_of entries)) entries
+  pub values_kept : (entries : List Entry) → masked_values ways entries ≡ entries
+  values_kept entries = entries_kept (values (flat_map items_of entries)) entries
 
 -- ---- an item with another value
 
@@ -111,7 +113,7 @@ module _ (all : List Item) (d : Class) where
       (λ t. rw t (omega arith))
       (λ f. let low = rank-le-length nat_eq Decides-eqb (is_seen i m is f) in rw f (omega (arith, few, low)))
 
-  -- the value of a masked item is the number of its value
+  -- the value of a masked_values item is the number of its value
   value_again : length (values all d) < 2 ^ 64 → (i : Item) → Member i all → class_of i ≡ Some d
       → value_where d (Some d) (number_among (values all d) d (class_value i)) ≡ map (λ n. rank nat_eq n (values all d)) (value_where d (Some d) (class_value i))
   value_again few i m is = by_test (is_zero_that_stays d (class_value i))
@@ -191,7 +193,7 @@ module _ (ways : Ways) (all : List Item) (room : (c : Class) → length (values 
   entries_again (e ∷ entries) within =
       ap₂ (λ (f : Entry) (l : List Entry). f ∷ l) (entry_again e (λ i m. within i (member-append_left (flat_map items_of entries) m))) (entries_again entries (λ i m. within i (member-append_right (items_of e) m)))
 
--- the items of the masked form
+-- the items of the masked_values form
 entry_items : (ways : Ways) (seen : Class → List ℕ) (e : Entry) → items_of (masked_entry ways seen e) ≡ masked_items ways seen (items_of e)
 entry_items ways seen Begin = refl
 entry_items ways seen (Call items) = refl
@@ -205,7 +207,18 @@ items_masked ways seen [] = refl
 items_masked ways seen (e ∷ entries) =
     ap₂ (λ (l m : List Item). l ++ m) (entry_items ways seen e) (items_masked ways seen entries) ∙ sym (map-append (masked_item ways seen) (items_of e) (flat_map items_of entries))
 
+pub values_again : (ways : Ways) (entries : List Entry) → HasRoomForNumbers entries → masked_values ways (masked_values ways entries) ≡ masked_values ways entries
+values_again ways entries room =
+    let all : List Item = flat_map items_of entries in
+    ap (λ (l : List Item). map (masked_entry ways (values l)) (masked_values ways entries)) (items_masked ways (values all) entries) ∙ entries_again ways all room entries (λ i m. m)
+
+-- ---- and names
+
 pub again : (ways : Ways) (entries : List Entry) → HasRoomForNumbers entries → StaysMasked ways entries
 again ways entries room =
-    let all : List Item = flat_map items_of entries in
-    ap (λ (l : List Item). map (masked_entry ways (values l)) (masked ways entries)) (items_masked ways (values all) entries) ∙ entries_again ways all room entries (λ i m. m)
+    ap (names_by ways.machines) (values_of_named ways ways.machines (masked_values ways entries))
+    ∙ names_again ways.machines (masked_values ways (masked_values ways entries))
+    ∙ ap (names_by ways.machines) (values_again ways entries room)
+
+pub all_kept : (ways : Ways) → KeepsAll ways → (entries : List Entry) → masked ways entries ≡ entries
+all_kept ways keeps entries = ap (λ way. names_by way (masked_values ways entries)) keeps.1 ∙ names_kept (masked_values ways entries) ∙ values_kept ways keeps.0 entries

@@ -11,3 +11,7 @@ pub mod MaskedFiles
 pub mod SameButLemmas
 pub mod FirstEntries
 pub mod MaskingMore
+pub mod UnnamedLemmas
+pub mod UnnamedRenamings
+pub mod UnnamedBodyLemmas
+pub mod UnnamedCalls

@@ -2,6 +2,7 @@
 use Rattle.std.proofs.Common.{◌≡◌, ℕ, ◌≤◌, List, [], ◌∷◌, ◌++◌, length, map, refl, sym, ap, ap₂, ◌∙◌, subst, arith, length-append}
 use Rattle.std.specs.List.{AllByRecursion}
 use Rattle.std.proofs.lemmas.List.{length-map, map-append}
+use Rattle.std.proofs.lemmas.Simd.{map-map}
 use Rattle.xdr3.specs.Item.{Item, zero_spelling}
 use Rattle.rpc_head.specs.Messages.{procedure_in}
 use Rattle.capture3.specs.Bodies.{ReplyItems, xid_in}
@@ -18,128 +19,143 @@ use Rattle.canon3.proofs.RenamingLemmas.{all_mapped, all_weaker}
 use Rattle.masking3.specs.declared.class.Class.{Class}
 use Rattle.masking3.specs.declared.ways.Ways.{Ways}
 use Rattle.masking3.specs.Masked.{masked, masked_entry, values}
+use Rattle.masking3.specs.Unnamed.{named_by, named_entry}
 use Rattle.masking3.proofs.FewValues.{few_of_file}
 use Rattle.masking3.proofs.MaskedMessages.{call_under, call_xid_under, message_length, message_spelled, procedure_under, reply_under, reply_xid_under, under}
+use Rattle.masking3.proofs.UnnamedCalls.{call_named, named_length, named_procedure, named_spelled, named_xid}
 
 module _ (ways : Ways) (seen : Class → List ℕ) where
   abbrev masks : List Item → List Item
   masks items = under ways seen items
 
+  -- a call without the name of its machine, where these are masked
+  abbrev calls_masked : List Item → List Item
+  calls_masked items = named_by ways.machines (masks items)
+
+  abbrev masked_one : Entry → Entry
+  masked_one entry = named_entry ways.machines (masked_entry ways seen entry)
+
   abbrev masked_reply : ReplyItems → ReplyItems
   masked_reply reply = record { id = reply.id; items = masks reply.items }
 
   abbrev masked_conversation : Conversation → Conversation
-  masked_conversation c = record { calls = map masks c.calls; replies = map masked_reply c.replies }
+  masked_conversation c = record { calls = map calls_masked c.calls; replies = map masked_reply c.replies }
 
   -- ---- the entries of conversations
 
-  masked_calls : (calls : List (List Item)) → map (masked_entry ways seen) (map Call calls) ≡ map Call (map masks calls)
+  masked_calls : (calls : List (List Item)) → map masked_one (map Call calls) ≡ map Call (map calls_masked calls)
   masked_calls [] = refl
-  masked_calls (m ∷ calls) = ap (λ (l : List Entry). Call (masks m) ∷ l) (masked_calls calls)
+  masked_calls (m ∷ calls) = ap (λ (l : List Entry). Call (calls_masked m) ∷ l) (masked_calls calls)
 
-  masked_replies : (replies : List ReplyItems) → map (masked_entry ways seen) (map reply_entry replies) ≡ map reply_entry (map masked_reply replies)
+  masked_replies : (replies : List ReplyItems) → map masked_one (map reply_entry replies) ≡ map reply_entry (map masked_reply replies)
   masked_replies [] = refl
   masked_replies (r ∷ replies) = ap (λ (l : List Entry). Reply r.id (masks r.items) ∷ l) (masked_replies replies)
 
-  masked_connection : (c : Conversation) → map (masked_entry ways seen) (connection_entries c.calls c.replies) ≡ connection_entries (map masks c.calls) (map masked_reply c.replies)
+  masked_connection : (c : Conversation) → map masked_one (connection_entries c.calls c.replies) ≡ connection_entries (map calls_masked c.calls) (map masked_reply c.replies)
   masked_connection c =
       let calls = map Call c.calls in
       let replies = map reply_entry c.replies in
-      map-append (masked_entry ways seen) ((Begin ∷ calls) ++ (Turn ∷ replies)) (Close ∷ [])
-      ∙ ap (λ (l : List Entry). l ++ Close ∷ []) (map-append (masked_entry ways seen) (Begin ∷ calls) (Turn ∷ replies)
+      map-append masked_one ((Begin ∷ calls) ++ (Turn ∷ replies)) (Close ∷ [])
+      ∙ ap (λ (l : List Entry). l ++ Close ∷ []) (map-append masked_one (Begin ∷ calls) (Turn ∷ replies)
       ∙ ap₂ (λ (l m : List Entry). (Begin ∷ l) ++ (Turn ∷ m)) (masked_calls c.calls) (masked_replies c.replies))
 
-  masked_entries : (cs : List Conversation) → map (masked_entry ways seen) (entries_of cs) ≡ entries_of (map masked_conversation cs)
+  masked_entries : (cs : List Conversation) → map masked_one (entries_of cs) ≡ entries_of (map masked_conversation cs)
   masked_entries [] = refl
   masked_entries (c ∷ cs) =
-      map-append (masked_entry ways seen) (connection_entries c.calls c.replies) (entries_of cs) ∙ ap₂ (λ (l m : List Entry). l ++ m) (masked_connection c) (masked_entries cs)
+      map-append masked_one (connection_entries c.calls c.replies) (entries_of cs) ∙ ap₂ (λ (l m : List Entry). l ++ m) (masked_connection c) (masked_entries cs)
 
-  masked_all : (cs : List Conversation) → map (masked_entry ways seen) (all_of cs) ≡ all_of (map masked_conversation cs)
-  masked_all cs = map-append (masked_entry ways seen) (entries_of cs) (End ∷ []) ∙ ap (λ (l : List Entry). l ++ End ∷ []) (masked_entries cs)
+  masked_all : (cs : List Conversation) → map masked_one (all_of cs) ≡ all_of (map masked_conversation cs)
+  masked_all cs = map-append masked_one (entries_of cs) (End ∷ []) ∙ ap (λ (l : List Entry). l ++ End ∷ []) (masked_entries cs)
 
   -- ---- they converse
 
   module _ (few : (d : Class) → length (seen d) ≤ max_bytes) where
-    call_spelled : (m : List Item) → IsSpelledCall m → IsSpelledCall (masks m)
+    call_spelled : (m : List Item) → IsSpelledCall m → IsSpelledCall (calls_masked m)
     call_spelled m s =
-        ((call_under ways seen m s.0.0, message_spelled ways seen few m (zero_spelling m) s.0.1), omega (arith, message_length ways seen m (zero_spelling m) s.0.1, s.1))
+        ((call_named ways.machines (masks m) (call_under ways seen m s.0.0), named_spelled ways.machines (masks m) (zero_spelling (masks m)) (message_spelled ways seen few m (zero_spelling m) s.0.1)), omega (arith, named_length ways.machines (masks m), message_length ways seen m (zero_spelling m) s.0.1, s.1))
 
     reply_spelled : (r : ReplyItems) → IsSpelledReply r → IsSpelledReply (masked_reply r)
     reply_spelled r s =
         ((reply_under ways seen r.id r.items s.0.0, message_spelled ways seen few r.items (zero_spelling r.items) s.0.1), omega (arith, message_length ways seen r.items (zero_spelling r.items) s.0.1, s.1))
 
     module _ (c : Conversation) (h : AreConversing c) where
-      call_xid : (m : List Item) → IsIn m c.calls → xid_in (masks m) ≡ xid_in m
-      call_xid m i = call_xid_under ways seen m (of_all IsSpelledCall c.calls m h.calls_are i).0.0
+      call_xid : (m : List Item) → IsIn m c.calls → xid_in (calls_masked m) ≡ xid_in m
+      call_xid m i = named_xid ways.machines (masks m) ∙ call_xid_under ways seen m (of_all IsSpelledCall c.calls m h.calls_are i).0.0
 
-      call_procedure : (m : List Item) → IsIn m c.calls → procedure_in (masks m) ≡ procedure_in m
-      call_procedure m i = procedure_under ways seen m (of_all IsSpelledCall c.calls m h.calls_are i).0.0
+      call_procedure : (m : List Item) → IsIn m c.calls → procedure_in (calls_masked m) ≡ procedure_in m
+      call_procedure m i = named_procedure ways.machines (masks m) ∙ procedure_under ways seen m (of_all IsSpelledCall c.calls m h.calls_are i).0.0
 
-      one_procedure : HaveOneProcedure (map masks c.calls)
+      one_procedure : HaveOneProcedure (map calls_masked c.calls)
       one_procedure a b i j e =
-          let p = in_map masks c.calls a i.0 i.1 i.2 in
-          let q = in_map masks c.calls b j.0 j.1 j.2 in
+          let p = in_map calls_masked c.calls a i.0 i.1 i.2 in
+          let q = in_map calls_masked c.calls b j.0 j.1 j.2 in
           let same : xid_in p.0 ≡ xid_in q.0 = sym (call_xid p.0 p.1) ∙ (sym (ap xid_in p.2) ∙ (e ∙ (ap xid_in q.2 ∙ call_xid q.0 q.1))) in
           ap procedure_in p.2 ∙ (call_procedure p.0 p.1 ∙ (h.one_procedure p.0 q.0 p.1 q.1 same ∙ (sym (call_procedure q.0 q.1) ∙ sym (ap procedure_in q.2))))
 
-      answers : AnswerCalls (map masks c.calls) (map masked_reply c.replies)
+      answers : AnswerCalls (map calls_masked c.calls) (map masked_reply c.replies)
       answers reply i =
           let p = in_map masked_reply c.replies reply i.0 i.1 i.2 in
           let r = p.0 in
           let a = h.answers r p.1 in
           let s = of_all IsSpelledReply c.replies r h.replies_are p.1 in
-          let xid : xid_in (masks a.0) ≡ xid_in reply.items =
+          let xid : xid_in (calls_masked a.0) ≡ xid_in reply.items =
           call_xid a.0 a.1 ∙ (a.2 ∙ (sym (reply_xid_under ways seen r.id r.items s.0.0) ∙ sym (ap (λ (k : ReplyItems). xid_in k.items) p.2))) in
-          (masks a.0, map_in masks c.calls a.0 a.1, xid, call_procedure a.0 a.1 ∙ (a.3 ∙ sym (ap (λ (k : ReplyItems). k.id) p.2)))
+          (calls_masked a.0, map_in calls_masked c.calls a.0 a.1, xid, call_procedure a.0 a.1 ∙ (a.3 ∙ sym (ap (λ (k : ReplyItems). k.id) p.2)))
 
       converses : AreConversing (masked_conversation c)
       converses = record {
-        calls_are = all_mapped IsSpelledCall IsSpelledCall masks call_spelled c.calls h.calls_are;
+        calls_are = all_mapped IsSpelledCall IsSpelledCall calls_masked call_spelled c.calls h.calls_are;
         replies_are = all_mapped IsSpelledReply IsSpelledReply masked_reply reply_spelled c.replies h.replies_are;
         one_procedure = one_procedure;
         answers = answers;
       }
 
-    -- ---- in as many bytes
+    -- ---- in no more bytes
 
-    abbrev KeepsLength : List Item → Type 0
-    KeepsLength m = length (zero_spelling (masks m)) ≡ length (zero_spelling m)
+    abbrev IsNoLonger : List Item → List Item → Type 0
+    IsNoLonger m n = length (zero_spelling n) ≤ length (zero_spelling m)
 
-    stream_length : (l : List (List Item)) → AllByRecursion KeepsLength l → length (stream_of (map masks l)) ≡ length (stream_of l)
-    stream_length [] k = refl
-    stream_length (m ∷ l) k =
+    stream_length : (f : List Item → List Item) (l : List (List Item)) → AllByRecursion (λ m. IsNoLonger m (f m)) l → length (stream_of (map f l)) ≤ length (stream_of l)
+    stream_length f [] k = omega arith
+    stream_length f (m ∷ l) k =
         omega (
           arith,
           k.0,
-          stream_length l k.1,
+          stream_length f l k.1,
           length-append (record_bytes (zero_spelling m)) (stream_of l),
-          length-append (record_bytes (zero_spelling (masks m))) (stream_of (map masks l)),
+          length-append (record_bytes (zero_spelling (f m))) (stream_of (map f l)),
           length_of_record (zero_spelling m),
-          length_of_record (zero_spelling (masks m)),
+          length_of_record (zero_spelling (f m)),
         )
 
     items_under : (l : List ReplyItems) → reply_items (map masked_reply l) ≡ map masks (reply_items l)
     items_under [] = refl
     items_under (r ∷ l) = ap (λ k. masks r.items ∷ k) (items_under l)
 
-    same_weight : (c : Conversation) → AreConversing c → weight (masked_conversation c) ≡ weight c
-    same_weight c h =
+    call_no_longer : (m : List Item) → IsSpelledCall m → IsNoLonger m (calls_masked m)
+    call_no_longer m s = omega (arith, named_length ways.machines (masks m), message_length ways seen m (zero_spelling m) s.0.1)
+
+    reply_no_longer : (r : ReplyItems) → IsSpelledReply r → IsNoLonger r.items (masks r.items)
+    reply_no_longer r s = omega (arith, message_length ways seen r.items (zero_spelling r.items) s.0.1)
+
+    no_heavier : (c : Conversation) → AreConversing c → weight (masked_conversation c) ≤ weight c
+    no_heavier c h =
         omega (
           arith,
-          stream_length c.calls (all_weaker IsSpelledCall KeepsLength (λ m s. message_length ways seen m (zero_spelling m) s.0.1) c.calls h.calls_are),
-          stream_length (reply_items c.replies) (all_mapped IsSpelledReply KeepsLength items_of_reply (λ r s. message_length ways seen r.items (zero_spelling r.items) s.0.1) c.replies h.replies_are),
+          stream_length calls_masked c.calls (all_weaker IsSpelledCall (λ m. IsNoLonger m (calls_masked m)) call_no_longer c.calls h.calls_are),
+          stream_length masks (reply_items c.replies) (all_mapped IsSpelledReply (λ m. IsNoLonger m (masks m)) items_of_reply reply_no_longer c.replies h.replies_are),
           ap (λ l. length (stream_of l)) (items_under c.replies),
         )
 
-    same_total : (cs : List Conversation) → AllByRecursion AreConversing cs → total_weight (map masked_conversation cs) ≡ total_weight cs
-    same_total [] h = refl
-    same_total (c ∷ cs) h = omega (arith, same_weight c h.0, same_total cs h.1)
+    total_no_heavier : (cs : List Conversation) → AllByRecursion AreConversing cs → total_weight (map masked_conversation cs) ≤ total_weight cs
+    total_no_heavier [] h = omega arith
+    total_no_heavier (c ∷ cs) h = omega (arith, no_heavier c h.0, total_no_heavier cs h.1)
 
     capture_masked : (cs : List Conversation) → AreCapture cs → AreCapture (map masked_conversation cs)
     capture_masked cs h = record {
       converse = all_mapped AreConversing AreConversing masked_conversation converses cs h.converse;
       few = omega (arith, length-map cs masked_conversation, h.few);
-      small = omega (arith, same_total cs h.converse, h.small);
+      small = omega (arith, total_no_heavier cs h.converse, h.small);
     }
 
 -- the masked form has the entries of its own bytes, in no more stream bytes
@@ -150,5 +166,6 @@ masked_is_file ways file all typed =
     let few : (d : Class) → length (seen d) ≤ max_bytes = λ d. few_of_file d file all typed in
     let ds = map (masked_conversation ways seen) h.cs in
     let are = capture_masked ways seen few h.cs h.are in
-    let e : masked ways all ≡ all_of ds = ap (map (masked_entry ways seen)) h.is ∙ masked_all ways seen h.cs in
-    subst (λ l. AreOfTheirBytes l (total_size typed.connections)) (sym e) (typed_anew ds are, omega (arith, total_of_anew ds are, same_total ways seen few h.cs h.are.converse, h.light))
+    let once : masked ways all ≡ map (masked_one ways seen) all = map-map (named_entry ways.machines) (masked_entry ways seen) all in
+    let e : masked ways all ≡ all_of ds = once ∙ ap (map (masked_one ways seen)) h.is ∙ masked_all ways seen h.cs in
+    subst (λ l. AreOfTheirBytes l (total_size typed.connections)) (sym e) (typed_anew ds are, omega (arith, total_of_anew ds are, total_no_heavier ways seen few h.cs h.are.converse, h.light))

@@ -20,7 +20,8 @@ use Rattle.masking3.specs.declared.ways.Way.{Way}
 use Rattle.masking3.specs.declared.ways.Way.TheVariants.{Keep, Zero, Number}
 use Rattle.masking3.specs.declared.ways.Ways.{Ways}
 use Rattle.masking3.specs.Classes.{class_of, position, class_value}
-use Rattle.masking3.specs.Masked.{by_way, is_zero_that_stays, masked, masked_bytes, masked_entry, masked_item, masked_items, number_among, substitute, value_in, value_where, values, with_value}
+use Rattle.masking3.specs.Masked.{by_way, is_zero_that_stays, masked, masked_bytes, masked_entry, masked_item, masked_items, masked_values, number_among, substitute, value_in, value_where, values, with_value}
+use Rattle.masking3.specs.Unnamed.{named_entry, names_by}
 use Rattle.masking3.specs.Ways.{way_of}
 
 -- ---- numbers stay
@@ -76,15 +77,21 @@ unmasked ways seen i none = ap (λ o. with_value i (substitute ways seen o (clas
 -- ---- the form grows
 
 module _ (ways : Ways) where
-  abbrev pub after : (a b : List Entry) → List Entry
-  after a b = map (masked_entry ways (values (flat_map items_of (a ++ b)))) b
+  abbrev values_after : (a b : List Entry) → List Entry
+  values_after a b = map (masked_entry ways (values (flat_map items_of (a ++ b)))) b
 
-  pub masked-append : (a b : List Entry) → masked ways (a ++ b) ≡ masked ways a ++ after a b
-  masked-append a b =
+  abbrev pub after : (a b : List Entry) → List Entry
+  after a b = names_by ways.machines (values_after a b)
+
+  values-append : (a b : List Entry) → masked_values ways (a ++ b) ≡ masked_values ways a ++ values_after a b
+  values-append a b =
       let all = flat_map-append items_of a b in
       map-append (masked_entry ways (values (flat_map items_of (a ++ b)))) a b
-      ∙ ap (λ (l : List Entry). l ++ after a b)
+      ∙ ap (λ (l : List Entry). l ++ values_after a b)
       (ap (λ (l : List Item). map (masked_entry ways (values l)) a) all ∙ entries_stay ways (flat_map items_of a) (flat_map items_of b) a (λ i m. m))
+
+  pub masked-append : (a b : List Entry) → masked ways (a ++ b) ≡ masked ways a ++ after a b
+  masked-append a b = ap (names_by ways.machines) (values-append a b) ∙ map-append (named_entry ways.machines) (masked_values ways a) (values_after a b)
 
   bytes_with : (l m : List Entry) → are_some l ≡ true → bytes_of (l ++ m) ≡ bytes_of l ++ flat_map entry_bytes m
   bytes_with [] m some = absurd cc
@@ -101,7 +108,7 @@ module _ (ways : Ways) where
 
   -- one entry more
   abbrev pub last_bytes : (a : List Entry) (one : Entry) → List ℕ
-  last_bytes a one = entry_bytes (masked_entry ways (values (all_items (a ++ one ∷ []))) one)
+  last_bytes a one = entry_bytes (named_entry ways.machines (masked_entry ways (values (all_items (a ++ one ∷ []))) one))
 
   pub form_grows : (a : List Entry) (one : Entry) → masked_bytes ways (a ++ one ∷ []) ≡ (masked_bytes ways a ++ magic_unless (are_some a)) ++ last_bytes a one
   form_grows [] one = ap (λ (l : List ℕ). magic One ++ l) (append-nil (last_bytes [] one))

@@ -145,10 +145,10 @@ module _ (ways : Ways) (seen : Class → List ℕ) where
 
 -- ---- the words that choose a layout
 
-first_word : (name : List ℕ) (s : Shape) (items : List Item) → Fits (both (word name) s) items → (n : ℕ) × (back : List Item) × Fits s back × (items ≡ Word name n ∷ back)
+pub first_word : (name : List ℕ) (s : Shape) (items : List Item) → Fits (both (word name) s) items → (n : ℕ) × (back : List Item) × Fits s back × (items ≡ Word name n ∷ back)
 first_word name s items p = (p.2.0, p.1, p.3, p.4 ∙ ap (λ (l : List Item). l ++ p.1) (p.2.4 ∙ ap (λ (l : List Item). Word name p.2.0 ∷ l) p.2.3))
 
-mtype_is : (types : List ℕ) (items : List Item) → Fits (listed head_names.mtype types) items → (n : ℕ) × (items ≡ Word head_names.mtype n ∷ [])
+pub mtype_is : (types : List ℕ) (items : List Item) → Fits (listed head_names.mtype types) items → (n : ℕ) × (items ≡ Word head_names.mtype n ∷ [])
 mtype_is types items p = (p.0, p.4 ∙ ap (λ (l : List Item). Word head_names.mtype p.0 ∷ l) p.3)
 
 record CallWords (head : List Item) : Type 0 where

@@ -1,4 +1,4 @@
--- Two masked captures are the same exactly if the captures are the same but for the values that are masked.
+-- Two masked_values captures are the same exactly if the captures are the same but for the values that are masked_values.
 use Rattle.std.proofs.Common.{◌≡◌, inl, inr, ⊎_elim, ℕ, ◌<◌, ◌^◌, Bool, true, false, List, [], ◌∷◌, ◌++◌, length, map, refl, sym, ap, ap₂, ◌∙◌, subst}
 use Rattle.std.specs.Prelude.{⊤, ◌==◌, ◌&&◌, not, nat_eq, Option, None, Some}
 use Rattle.std.specs.List.{AllByRecursion}
@@ -18,9 +18,9 @@ use Rattle.masking3.specs.declared.ways.Way.{Way}
 use Rattle.masking3.specs.declared.ways.Way.TheVariants.{Keep, Zero, Number}
 use Rattle.masking3.specs.declared.ways.Ways.{Ways}
 use Rattle.masking3.specs.Classes.{class_of, class_of_word, class_value, position}
-use Rattle.masking3.specs.Laws.{KeepsAll}
-use Rattle.masking3.specs.Masked.{by_way, is_zero_that_stays, masked, masked_entry, masked_item, masked_items, number_among, substitute, value_in, value_where, values, with_value}
-use Rattle.masking3.specs.SameBut.{AreAlike, words, hypers, eights, IsNumbered, ArePartners, ChangesBy, ChangesOf, ChangesItem, ChangesEntry, begin, call, turn, reply, close, end, SameBut}
+use Rattle.masking3.specs.Laws.{KeepsValues}
+use Rattle.masking3.specs.Masked.{by_way, is_zero_that_stays, masked_values, masked_entry, masked_item, masked_items, number_among, substitute, value_in, value_where, values, with_value}
+use Rattle.masking3.specs.SameBut.{AreAlike, words, hypers, eights, IsNumbered, ArePartners, ChangesBy, ChangesOf, ChangesItem, ChangesEntry, begin, call, turn, reply, close, end, SameButValues}
 use Rattle.masking3.specs.Ways.{way_of}
 use Rattle.masking3.proofs.AgainLemmas.{by_class, is_seen, no_zero, small, value_put, zero_still}
 use Rattle.masking3.proofs.ClassLemmas.{none_of_other, same_class}
@@ -261,7 +261,7 @@ module _ (ways : Ways) (pairs : Class → Pairs ℕ) {ps vs : Pairs (List ℕ)} 
   entries_swapped h (closes r) (more close p) = let all = entries_swapped h.1 r p in (Close ∷ all.0, more close all.1, closes all.2)
   entries_swapped h (ends r) (more end p) = let all = entries_swapped h.1 r p in (End ∷ all.0, more end all.1, ends all.2)
 
--- ---- the masked form is a change
+-- ---- the masked_values form is a change
 
 and_not : (a z : Bool) → (a && not z) ≡ true → z ≡ false
 and_not true true e = absurd cc
@@ -329,7 +329,7 @@ module _ (ways : Ways) (all : List Item) (room : (c : Class) → length (values 
   entries_masked (e ∷ entries) within =
       more (entry_masked e (λ i m. within i (member-append_left (all_items entries) m))) (entries_masked entries (λ i m. within i (member-append_right (items_of e) m)))
 
--- ---- a change leaves the masked form
+-- ---- a change leaves the masked_values form
 
 none_given : (d : Class) (n : ℕ) → is_zero_that_stays d n ≡ true → value_where d (Some d) n ≡ []
 none_given d n t = rw (t, (Decides-eqb (position d) (position d)).1 refl) refl
@@ -400,10 +400,10 @@ module _ (ways : Ways) (pairs : Class → Pairs ℕ) (agree : AreAgreeing ways p
     entries_one (more close p) = ap (λ (l : List Entry). Close ∷ l) (entries_one p)
     entries_one (more end p) = ap (λ (l : List Entry). End ∷ l) (entries_one p)
 
-  pub masked_alike : {a b : List Entry} → Changes ways pairs a b → masked ways a ≡ masked ways b
+  pub masked_alike : {a b : List Entry} → Changes ways pairs a b → masked_values ways a ≡ masked_values ways b
   masked_alike {a = a} {b = b} p = entries_one (values (all_items a)) (values (all_items b)) (λ d way. items_beside d way (all_changed p)) p
 
--- ---- what Same renames is masked alike
+-- ---- what Same renames is masked_values alike
 
 free_values : (d : Class) (name : List ℕ) (x : ℕ) → class_of_word name ≡ None → value_in d (Word name x) ≡ []
 free_values d name x free = ap (λ o. value_where d o x) free
@@ -472,7 +472,7 @@ module _ (ways : Ways) {ps vs : Pairs (List ℕ)} where
 seen_alike : (first second : Class → List ℕ) → ((d : Class) → first d ≡ second d) → first ≡ second
 seen_alike first second e = λ i. λ d. e d i
 
-pub same_masked : (ways : Ways) (a b : List Entry) → AllByRecursion HasFreeXid a → Same a b → Same (masked ways a) (masked ways b)
+pub same_masked : (ways : Ways) (a b : List Entry) → AllByRecursion HasFreeXid a → Same a b → Same (masked_values ways a) (masked_values ways b)
 same_masked ways a b free s = record {
   handle_pairs = s.handle_pairs;
   verifier_pairs = s.verifier_pairs;
@@ -488,13 +488,13 @@ same_masked ways a b free s = record {
 pub agree_of : (ways : Ways) (pairs : Class → Pairs ℕ) → ((d : Class) → OneToOne (IsNumbered d) (pairs d)) → AreAgreeing ways pairs
 agree_of ways pairs one d = agree-from nat_eq Decides-eqb (one d)
 
-pub same_from_same_but : (ways : Ways) (a b : List Entry) → AllByRecursion HasFreeXid a → SameBut ways a b → Same (masked ways a) (masked ways b)
+pub same_from_same_but : (ways : Ways) (a b : List Entry) → AllByRecursion HasFreeXid a → SameButValues ways a b → Same (masked_values ways a) (masked_values ways b)
 same_from_same_but ways a b free s =
-    subst (λ (l : List Entry). Same l (masked ways b)) (sym (masked_alike ways s.value_pairs (agree_of ways s.value_pairs s.values_one_to_one) s.changes))
+    subst (λ (l : List Entry). Same l (masked_values ways b)) (sym (masked_alike ways s.value_pairs (agree_of ways s.value_pairs s.values_one_to_one) s.changes))
     (same_masked ways s.changed b (free_too ways s.value_pairs free s.changes) s.same)
 
 -- each pair one time
-pub from_agreeing : (ways : Ways) (a b changed : List Entry) (pairs : Class → Pairs ℕ) → AreAgreeing ways pairs → Changes ways pairs a changed → Same changed b → SameBut ways a b
+pub from_agreeing : (ways : Ways) (a b changed : List Entry) (pairs : Class → Pairs ℕ) → AreAgreeing ways pairs → Changes ways pairs a changed → Same changed b → SameButValues ways a b
 from_agreeing ways a b changed pairs agree changes same = record {
   value_pairs = λ d. kept nat_eq (pairs d);
   values_one_to_one = λ d. one_to_one-kept nat_eq Decides-eqb (pairs d) (agree d);
@@ -510,16 +510,16 @@ module _ (ways : Ways) (a b : List Entry) (room : (c : Class) → length (values
   abbrev returning : Class → Pairs ℕ
   returning = back_pairs ways (number_pairs (all_items b))
 
-  to_masked : Changes ways there_pairs a (masked ways a)
+  to_masked : Changes ways there_pairs a (masked_values ways a)
   to_masked = entries_masked ways (all_items a) room a (λ i m. m)
 
-  from_masked : Changes ways returning (masked ways b) b
+  from_masked : Changes ways returning (masked_values ways b) b
   from_masked = changes_back ways (number_pairs (all_items b)) (entries_masked ways (all_items b) other_room b (λ i m. m))
 
   returning_agrees : AreAgreeing ways returning
   returning_agrees d = agree-turned nat_eq Decides-eqb (numbers_agree (all_items b) d)
 
-  pub same_but_from_same : Same (masked ways a) (masked ways b) → SameBut ways a b
+  pub same_but_from_same : Same (masked_values ways a) (masked_values ways b) → SameButValues ways a b
   same_but_from_same s =
       let swapped = entries_swapped ways returning (free_too ways there_pairs free to_masked) s.renames from_masked in
       from_agreeing ways a b swapped.0 (links ways there_pairs returning (numbers_agree (all_items a)) returning_agrees)
@@ -535,9 +535,9 @@ module _ (ways : Ways) (a b : List Entry) (room : (c : Class) → length (values
         renames = swapped.2;
       })
 
--- ---- where nothing is masked
+-- ---- where nothing is masked_values
 
-module _ (ways : Ways) (keeps : KeepsAll ways) where
+module _ (ways : Ways) (keeps : KeepsValues ways) where
   stays_equal : (pairs : Class → Pairs ℕ) (o : Option Class) (i j : Item) → ChangesOf ways pairs o i j → i ≡ j
   stays_equal pairs None i j h = h
   stays_equal pairs (Some d) i j h = subst (λ w. ChangesBy w d (pairs d) i j) (keeps d) h
@@ -572,10 +572,10 @@ module _ (ways : Ways) (keeps : KeepsAll ways) where
   entries_may pairs (Close ∷ a) = more close (entries_may pairs a)
   entries_may pairs (End ∷ a) = more end (entries_may pairs a)
 
-  pub same_of_kept : (a b : List Entry) → SameBut ways a b → Same a b
+  pub same_of_kept : (a b : List Entry) → SameButValues ways a b → Same a b
   same_of_kept a b s = subst (λ (l : List Entry). Same l b) (sym (entries_stay s.value_pairs s.changes)) s.same
 
-  pub kept_of_same : (a b : List Entry) → Same a b → SameBut ways a b
+  pub kept_of_same : (a b : List Entry) → Same a b → SameButValues ways a b
   kept_of_same a b s = record {
     value_pairs = λ d. [];
     values_one_to_one = λ d. record { parts = λ p m. elim m [ ]; no_two_alike = tt };

@@ -59,7 +59,7 @@ replaced ways seen i j o old new is with_it write = subst (λ k. Adds Spells old
 
 module _ {P S H : Type 0} (ways : Ways) (w : MaskingWriter P S H) where
   abbrev pub with_parts : List handles.Handle → ClassTables S H → List ℕ → MaskingWriter P S H
-  with_parts gathered classes bytes = record { handles = gathered; classes = classes; writer = bytes; failed = w.failed; plan = w.plan }
+  with_parts gathered classes bytes = record { handles = gathered; classes = classes; writer = bytes; unnamed = w.unnamed; failed = w.failed; plan = w.plan }
 
   pub adds : (gathered : List handles.Handle) (classes : ClassTables S H) (bytes : List ℕ) (i : Item) → classes.ways ≡ w.classes.ways
       → ((items : List Item) → HoldsValues w.classes.ways (tables_in w.classes) items → HoldsValues classes.ways (tables_in classes) (items ++ i ∷ []))

@@ -69,19 +69,21 @@ MasksReaddirs = AreMaskedAs
     ∷ [])
     (readdir 7 0 zeros ∷ readdir 8 1 one_verifier ∷ two_entries 7 one_verifier 1 2 2 1 ∷ [])
 
--- NULL with an AUTH_SYS credential (RFC 5531, appendix A): the stamp is 0, and all else stays
-abbrev pub stamped_null : (xid stamp : ℕ) → Entry
-stamped_null xid stamp =
+-- NULL with an AUTH_SYS credential (RFC 5531, appendix A): the stamp is 0, the name is empty, and
+-- the length is less by the name and its residual byte; all else stays
+abbrev pub system_null : (xid size stamp : ℕ) → (machine : List ℕ) → Entry
+system_null xid size stamp machine =
     Call (Word (codes "xid") xid ∷ Word (codes "mtype") 0 ∷ Word (codes "rpcvers") 2
     ∷ Word (codes "prog") 100003 ∷ Word (codes "vers") 3 ∷ Word (codes "proc") 0
-    ∷ Word (codes "cred_flavor") 1 ∷ Word (codes "cred_length") 28 ∷ Word (codes "stamp") stamp
-    ∷ Opaque Text (codes "machinename") (codes "box") ∷ Word (codes "uid") 1000
+    ∷ Word (codes "cred_flavor") 1 ∷ Word (codes "cred_length") size ∷ Word (codes "stamp") stamp
+    ∷ Opaque Text (codes "machinename") machine ∷ Word (codes "uid") 1000
     ∷ Word (codes "gid") 100
     ∷ Word (codes "gids") 1 ∷ Word (codes "group") 100 ∷ Word (codes "verf_flavor") 0
     ∷ Opaque Var (codes "verf_body") [] ∷ [])
 
-abbrev pub MasksStamps : Type 0
-MasksStamps = AreMaskedAs (stamped_null 7 123456 ∷ []) (stamped_null 7 0 ∷ [])
+abbrev pub MasksCredentials : Type 0
+MasksCredentials = AreMaskedAs (system_null 7 28 123456 (codes "box") ∷ [])
+    (system_null 7 24 0 [] ∷ [])
 
 -- GETATTRs of two files: their ids, and the seconds of their times
 abbrev pub getattrs_of_two : (first second sec : ℕ) → List Entry

@@ -23,8 +23,12 @@ abbrev pub StaysMasked : Ways → List Entry → Type 0
 StaysMasked ways entries = masked ways (masked ways entries) ≡ masked ways entries
 
 -- every class stays as it is
+abbrev pub KeepsValues : Ways → Type 0
+KeepsValues ways = (class : Class) → way_of ways class ≡ Keep
+
+-- so do the names of machines
 abbrev pub KeepsAll : Ways → Type 0
-KeepsAll ways = (class : Class) → way_of ways class ≡ Keep
+KeepsAll ways = KeepsValues ways × (ways.machines ≡ Keep)
 
 -- what the second way leaves of a value is no more than what the first one does
 abbrev pub TellsNoMore : Way → Way → Type 0
@@ -35,8 +39,14 @@ TellsNoMore Zero Zero = ⊤
 TellsNoMore Zero way = ⊥
 
 -- so for each class
+abbrev pub MasksValuesAsMuch : Ways → Ways → Type 0
+MasksValuesAsMuch ways others =
+    (class : Class) → TellsNoMore (way_of ways class) (way_of others class)
+
+-- and so for the names of machines
 abbrev pub MasksAsMuch : Ways → Ways → Type 0
-MasksAsMuch ways others = (class : Class) → TellsNoMore (way_of ways class) (way_of others class)
+MasksAsMuch ways others =
+    MasksValuesAsMuch ways others × TellsNoMore ways.machines others.machines
 
 -- the form of the first entries is the first entries of the form
 abbrev pub MasksFronts : Ways → List Entry → List Entry → Type 0

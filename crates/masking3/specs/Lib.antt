@@ -1,6 +1,7 @@
 -- Which values are masked, and what becomes of them.
 pub mod Classes
 pub mod Ways
+pub mod Unnamed
 pub mod Masked
 pub mod SameBut
 pub mod Laws

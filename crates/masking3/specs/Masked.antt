@@ -11,6 +11,7 @@ use Rattle.masking3.specs.declared.ways.Way.{Way}
 use Rattle.masking3.specs.declared.ways.Way.TheVariants.{Keep, Zero, Number}
 use Rattle.masking3.specs.declared.ways.Ways.{Ways}
 use Rattle.masking3.specs.Classes.{class_of, position, class_value, zero_stays}
+use Rattle.masking3.specs.Unnamed.{names_by}
 use Rattle.masking3.specs.Ways.{way_of}
 
 -- ---- the values of a class
@@ -73,8 +74,13 @@ masked_entry ways seen entry = entry
 
 -- each value of a class is masked in the way of its class, and numbers are by rank among all of
 -- the capture
+abbrev pub masked_values : Ways → List Entry → List Entry
+masked_values ways entries =
+    map (masked_entry ways (values (flat_map items_of entries))) entries
+
+-- values are masked, and names of machines
 abbrev pub masked : Ways → List Entry → List Entry
-masked ways entries = map (masked_entry ways (values (flat_map items_of entries))) entries
+masked ways entries = names_by ways.machines (masked_values ways entries)
 
 -- the bytes of the masked form: one chunk and one fragment for each record, and residual bytes
 -- of zero

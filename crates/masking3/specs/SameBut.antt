@@ -11,6 +11,7 @@ use Rattle.masking3.specs.declared.ways.Way.TheVariants.{Keep, Zero, Number}
 use Rattle.masking3.specs.declared.ways.Ways.{Ways}
 use Rattle.masking3.specs.Classes.{class_of, class_value}
 use Rattle.masking3.specs.Masked.{is_zero_that_stays}
+use Rattle.masking3.specs.Unnamed.{names_by}
 use Rattle.masking3.specs.Ways.{way_of}
 
 -- ---- an item
@@ -61,9 +62,14 @@ pub data ChangesEntry (ways : Ways) (pairs : Class → Pairs ℕ) : Entry → En
 
 -- One-to-one renamings of the values of each numbered class, and any values of each class that is
 -- zero, turn a into entries that are the same as b up to handles, write verifiers and xids.
-pub record SameBut (ways : Ways) (a b : List Entry) : Type 0 where
+pub record SameButValues (ways : Ways) (a b : List Entry) : Type 0 where
   pub value_pairs : Class → Pairs ℕ
   pub values_one_to_one : (class : Class) → OneToOne (IsNumbered class) (value_pairs class)
   pub changed : List Entry
   pub changes : Pairwise (ChangesEntry ways value_pairs) a changed
   pub same : Same changed b
+
+-- so are the captures without the names of machines; where these are kept, the captures as they are
+abbrev pub SameBut : Ways → List Entry → List Entry → Type 0
+SameBut ways a b =
+    SameButValues ways (names_by ways.machines a) (names_by ways.machines b)

@@ -21,6 +21,7 @@ abbrev pub usual : Ways
 usual = record {
   times = Zero;
   stamps = Zero;
+  machines = Zero;
   space = Zero;
   ids = Number;
   fsids = Number;

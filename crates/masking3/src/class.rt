@@ -27,14 +27,14 @@ pub enum Class {
 }
 
 impl Class {
-    /// Whether 0 has a meaning of its own (RFC 1813, section 3.3.16).
+    /// Returns whether 0 has a meaning of its own (RFC 1813, section 3.3.16).
     pub(crate) fn zero_stays(self) -> bool
         ensures { result ≡ zero_stays self }
     {
         matches!(self, Class::Cookies | Class::CookieVerifiers)
     }
 
-    /// Its place among the classes, from 0.
+    /// Returns its place among the classes, from 0.
     pub(crate) fn position(self) -> usize
         ensures { result ≡ position self }
     {
@@ -52,7 +52,7 @@ impl Class {
     }
 }
 
-/// The class of a word of this name.
+/// Returns the class of a word of this name.
 #[tactic(auto, unfolding(nfs3_types::specs::Names::names, rpc_head::specs::Names::head_names))]
 pub(crate) fn class_of_word(name: &str) -> Option<Class>
     ensures { result ≡ class_of_word name.now }
@@ -68,7 +68,7 @@ pub(crate) fn class_of_word(name: &str) -> Option<Class>
     }
 }
 
-/// The class of a number of eight bytes of this name.
+/// Returns the class of a number of eight bytes of this name.
 #[tactic(auto, unfolding(nfs3_types::specs::Names::names))]
 pub(crate) fn class_of_hyper(name: &str) -> Option<Class>
     ensures { result ≡ class_of_hyper name.now }
@@ -84,7 +84,7 @@ pub(crate) fn class_of_hyper(name: &str) -> Option<Class>
     }
 }
 
-/// The class of eight bytes of this name.
+/// Returns the class of eight bytes of this name.
 #[tactic(auto, unfolding(nfs3_types::specs::Names::names))]
 pub(crate) fn class_of_fixed(name: &str) -> Option<Class>
     ensures { result ≡ class_of_fixed name.now }

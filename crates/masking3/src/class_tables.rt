@@ -30,7 +30,7 @@ pub(crate) struct ClassTables<S: BuildHasher + Drop> {
 }
 
 impl<S: BuildHasher + Drop> ClassTables<S> {
-    /// Before a capture.
+    /// Returns tables before a capture.
     pub(crate) fn new(alloc: Global, ways: Ways, hashers: ClassHashers<S>) -> ClassTables<S>
         ensures ways { result.ways ≡ ways }
         ensures holds { HoldsValues result.ways (tables_in result) [] }
@@ -49,7 +49,7 @@ impl<S: BuildHasher + Drop> ClassTables<S> {
         }
     }
 
-    /// What stands for a value of the class, where something does.
+    /// Returns what replaces a value of the class, if its way replaces it.
     pub(crate) fn substitute(
         &mut self,
         class: Option<Class>,
@@ -76,7 +76,7 @@ impl<S: BuildHasher + Drop> ClassTables<S> {
         }
     }
 
-    /// The number of a value of a class that is numbered.
+    /// Returns the number of a value of a class that is numbered.
     fn number(&mut self, class: Class, n: u64) -> Result<u32, AllocError>
         ensures ways { self.new.ways ≡ self.old.ways }
         ensures number { (seen : List ℕ) → HoldsAt (tables_in self.old) (position class) seen
@@ -99,7 +99,7 @@ impl<S: BuildHasher + Drop> ClassTables<S> {
         Ok(number)
     }
 
-    /// The number of a value in its class's table.
+    /// Returns the number of a value in its class's table.
     fn number_in_table(&mut self, class: Class, n: u64) -> Result<u32, AllocError>
         ensures ways { self.new.ways ≡ self.old.ways }
         ensures number { (seen : List ℕ) → HoldsAt (tables_in self.old) (position class) seen

@@ -1,7 +1,7 @@
 //! Small captures worked by hand. Each function ensures what the definitions say of some entries, and its
 //! proof computes it.
 
-ghost use Rattle.masking3.specs.Examples.{ComparesRuns, MasksGetattrs, MasksReaddirs, MasksStamps};
+ghost use Rattle.masking3.specs.Examples.{ComparesRuns, MasksGetattrs, MasksReaddirs, MasksCredentials};
 
 /// Three GETATTR replies: times and space are 0, and ids of files and of file systems are numbered apart.
 pub fn getattr_replies()
@@ -13,9 +13,9 @@ pub fn readdir_cookies()
     ensures { MasksReaddirs }
 {}
 
-/// An AUTH_SYS credential: the stamp is 0.
-pub fn system_stamp()
-    ensures { MasksStamps }
+/// An AUTH_SYS credential: the stamp is 0, and the name of the machine is empty.
+pub fn system_credential()
+    ensures { MasksCredentials }
 {}
 
 /// Two runs that differ in times and in ids, one to one, are the same but for what is masked. Runs in which

@@ -8,6 +8,7 @@ mod hashers;
 pub mod laws;
 mod masked_form;
 mod masking_writer;
+mod unnamed_body;
 mod ways;
 
 pub use class::Class;

@@ -21,10 +21,13 @@ use std::hash::BuildHasher;
 use std::marker::Brand;
 
 /// Reads a capture to its end, writes its masked form as it comes, and flushes the sink. Values of
-/// each class stay, become 0, or become their numbers by first appearance in the capture. All else
-/// is as it was, but each record is one chunk and one fragment, and residual bytes are 0. It keeps
-/// one block of the source's bytes, one record, the calls of the open connection, the distinct file
-/// handles, and the values that have numbers.
+/// each class stay, become 0, or become their numbers by first appearance in the capture. The name
+/// of the machine in each AUTH_SYS credential (RFC 5531, appendix A) stays, or becomes empty. The
+/// length of the credential is then less by the bytes of the name. All else is as it was, but each
+/// record is one chunk and one fragment, and residual bytes are 0.
+///
+/// It keeps one block of the source's bytes, one record, one call without its name, the calls of
+/// the open connection, the distinct file handles, and the values that have numbers.
 ///
 /// # Errors
 ///
@@ -53,7 +56,7 @@ pub fn mask<R: Source, W: Sink, S: BuildHasher + Drop>(
     mask_by_plan::<Brand, R, W, S>(alloc, hashers, ways, source, sink)
 }
 
-/// The same, by ways that a type stands for.
+/// Does the same, by ways that a type stands for.
 fn mask_by_plan<P: Plan, R: Source, W: Sink, S: BuildHasher + Drop>(
     alloc: Global,
     hashers: MaskHashers<S>,

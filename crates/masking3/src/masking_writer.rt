@@ -4,15 +4,18 @@ ghost use Rattle.std.specs.Prelude.{◌≡◌, ◌≤◌, ◌++◌, ◌∷◌, L
 ghost use Rattle.std.specs.Io.KnownBytes.{Appends};
 ghost use Rattle.xdr3.specs.Item.{Fixed, Handle as HandleKind, Hyper, Item, Opaque, Word};
 ghost use Rattle.xdr3.specs.Visit.{Adds};
+ghost use Rattle.canon3.specs.Bytes.{chunk_bytes, record_bytes};
 ghost use Rattle.canon3.specs.SinkWrites.{AppendsFront};
 ghost use Rattle.canon3.specs.WriteErrors.{CountsWriting, IsOfWriting};
 ghost use Rattle.masking3.specs.Ways.{usual};
 ghost use Rattle.masking3.specs.machinery.MaskingWriter.{HasMemory, MaskStands, after_messages, written_as};
+ghost use Rattle.masking3.specs.machinery.UnnamedBody.{body_by, unnamed_body};
 
 use crate::class::{class_of_fixed, class_of_hyper, class_of_word};
 use crate::class_tables::ClassTables;
 use crate::hashers::ClassHashers;
-use crate::ways::Ways;
+use crate::unnamed_body::without_name;
+use crate::ways::{Way, Ways};
 use byteorder::{BigEndian, ByteOrder};
 use canon3::{HandleTable, Sink, write_message, write_word};
 use capture3::{Error, Kind};
@@ -39,13 +42,15 @@ pub(crate) struct MaskingWriter<P: Plan, S: BuildHasher + Drop> {
     pub(crate) handles: HandleTable<S>,
     pub(crate) classes: ClassTables<S>,
     pub(crate) writer: Writer,
+    /// A call without the name of its machine.
+    unnamed: Vec<u8>,
     /// Memory ran out, and the tables may have more than was written.
     pub(crate) failed: bool,
     plan: PhantomData<P>,
 }
 
 impl<P: Plan, S: BuildHasher + Drop> MaskingWriter<P, S> {
-    /// Before a capture.
+    /// Returns a writer before a capture.
     pub(crate) fn new(
         alloc: Global,
         ways: Ways,
@@ -60,6 +65,7 @@ impl<P: Plan, S: BuildHasher + Drop> MaskingWriter<P, S> {
             handles: HandleTable::new(alloc, handles),
             classes: ClassTables::new(alloc, ways, classes),
             writer: Writer::new(alloc),
+            unnamed: Vec::new(alloc),
             failed: false,
             plan: PhantomData,
         }
@@ -132,20 +138,61 @@ impl<P: Plan, S: BuildHasher + Drop> MaskingWriter<P, S> {
         written
     }
 
-    /// Writes an entry, whose message the writer holds.
-    pub(crate) fn write_entry<W: Sink>(&self, sink: &mut W, kind: Kind) -> Result<(), Error>
+    /// Writes an entry, whose message the writer contains.
+    pub(crate) fn write_entry<W: Sink>(&mut self, sink: &mut W, kind: Kind) -> Result<(), Error>
+        ensures stands { (all : List Item) → MaskStands P.ways self.old all
+            → MaskStands P.ways self.new all }
+        ensures going { HasMemory self.old → HasMemory self.new }
         ensures ok { OnOk result (Appends (W.written sink.old) (W.written sink.new)
-            (written_as kind self.now.writer)) }
+            (written_as self.old.classes.ways.machines kind self.old.writer)) }
         ensures err { OnErr result (AppendsFront (W.written sink.old) (W.written sink.new)
-            (written_as kind self.now.writer)) }
+            (written_as self.old.classes.ways.machines kind self.old.writer)) }
         ensures count { CountsWriting (W.failures sink.old) (W.failures sink.new) result }
         ensures error { IfErr result IsOfWriting }
     {
+        let body = self.writer.bytes();
         match kind {
             Kind::Begin => write_word(sink, 1),
-            Kind::Call(_) | Kind::Reply(_) => write_message(sink, self.writer.bytes()),
+            Kind::Call(_) => write_call(sink, self.classes.ways.machines, &mut self.unnamed, body),
+            Kind::Reply(_) => write_message(sink, body),
             Kind::Turn | Kind::Close | Kind::End => write_word(sink, 0),
         }
+    }
+}
+
+/// Writes a call, with the name of its machine as the way has it.
+fn write_call<W: Sink>(
+    sink: &mut W,
+    machines: Way,
+    unnamed: &mut Vec<u8>,
+    body: &[u8],
+) -> Result<(), Error>
+    ensures ok { OnOk result (Appends (W.written sink.old) (W.written sink.new)
+        (chunk_bytes (record_bytes (body_by machines body.now)))) }
+    ensures err { OnErr result (AppendsFront (W.written sink.old) (W.written sink.new)
+        (chunk_bytes (record_bytes (body_by machines body.now)))) }
+    ensures count { CountsWriting (W.failures sink.old) (W.failures sink.new) result }
+    ensures error { IfErr result IsOfWriting }
+{
+    match machines {
+        Way::Keep => write_message(sink, body),
+        Way::Zero => write_unnamed(sink, unnamed, body),
+        Way::Number => write_unnamed(sink, unnamed, body),
+    }
+}
+
+/// Writes a call without the name of its machine, which is put into `unnamed` first.
+fn write_unnamed<W: Sink>(sink: &mut W, unnamed: &mut Vec<u8>, body: &[u8]) -> Result<(), Error>
+    ensures ok { OnOk result (Appends (W.written sink.old) (W.written sink.new)
+        (chunk_bytes (record_bytes (unnamed_body body.now)))) }
+    ensures err { OnErr result (AppendsFront (W.written sink.old) (W.written sink.new)
+        (chunk_bytes (record_bytes (unnamed_body body.now)))) }
+    ensures count { CountsWriting (W.failures sink.old) (W.failures sink.new) result }
+    ensures error { IfErr result IsOfWriting }
+{
+    match without_name(unnamed, body) {
+        Ok(bytes) => write_message(sink, bytes),
+        Err(_) => Err(Error::Memory),
     }
 }
 

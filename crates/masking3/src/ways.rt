@@ -5,23 +5,24 @@ ghost use Rattle.masking3.specs.Ways.{usual, way_of};
 
 use crate::class::Class;
 
-/// What becomes of the values of a class.
+/// What becomes of the values of a class, or of the names of machines.
 #[derive(Clone, Copy, Debug, PartialEq, Eq)]
 pub enum Way {
     /// They stay as they are.
     Keep,
-    /// They become 0.
+    /// They become 0. A name becomes empty.
     Zero,
     /// Each becomes its number by first appearance among those of its class, from 1. A 0 that has a meaning
-    /// of its own stays.
+    /// of its own stays. A name becomes empty, since it has no number.
     Number,
 }
 
-/// A way for each class.
+/// A way for each class, and for the names of machines in AUTH_SYS credentials (RFC 5531, appendix A).
 #[derive(Clone, Copy, Debug, PartialEq, Eq)]
 pub struct Ways {
     pub times: Way,
     pub stamps: Way,
+    pub machines: Way,
     pub space: Way,
     pub ids: Way,
     pub fsids: Way,
@@ -32,13 +33,15 @@ pub struct Ways {
 }
 
 impl Ways {
-    /// Every value stays as it is.
+    /// Returns the ways that keep every value and every name.
     pub fn none() -> Ways
-        ensures { (class : Class) → way_of result class ≡ Way.Keep }
+        ensures values { (class : Class) → way_of result class ≡ Way.Keep }
+        ensures machines { result.machines ≡ Way.Keep }
     {
         Ways {
             times: Way::Keep,
             stamps: Way::Keep,
+            machines: Way::Keep,
             space: Way::Keep,
             ids: Way::Keep,
             fsids: Way::Keep,
@@ -49,14 +52,15 @@ impl Ways {
         }
     }
 
-    /// What two ordinary runs of one script never share: times, stamps and space are 0, owners stay, and all
-    /// else is numbered.
+    /// Returns the ways for what two ordinary runs of one script never share: times, stamps and space become
+    /// 0, and names empty. Owners stay, and all else is numbered.
     pub fn usual() -> Ways
         ensures { result ≡ usual }
     {
         Ways {
             times: Way::Zero,
             stamps: Way::Zero,
+            machines: Way::Zero,
             space: Way::Zero,
             ids: Way::Number,
             fsids: Way::Number,
@@ -67,7 +71,7 @@ impl Ways {
         }
     }
 
-    /// The way of a class.
+    /// Returns the way of a class.
     pub(crate) fn of(&self, class: Class) -> Way
         ensures { result ≡ way_of self.now class }
     {

@@ -10,14 +10,15 @@ use masking3::{ClassHashers, MaskHashers, Way, Ways, mask};
 use std::hash::{BuildHasherDefault, FoldHasher};
 use std::test::Fail;
 
-/// A READDIR of the handle aa with xid 5, a cookie and its verifier, and the reply that the handle is stale.
-const READDIR: [u8; 140] = [
-    0x4e, 0x46, 0x53, 0x33, 0x43, 0x41, 0x50, 0x31, 0, 0, 0, 1, 0, 0, 0, 0x48, 0x80, 0, 0, 0x44, 0,
-    0, 0, 5, 0, 0, 0, 0, 0, 0, 0, 2, 0, 1, 0x86, 0xa3, 0, 0, 0, 3, 0, 0, 0, 0x10, 0, 0, 0, 0, 0, 0,
-    0, 0, 0, 0, 0, 0, 0, 0, 0, 0, 0, 0, 0, 4, 0xaa, 0xaa, 0xaa, 0xaa, 0, 0, 0, 0, 0, 0, 2, 0, 9, 8,
-    7, 6, 5, 4, 3, 2, 0, 0, 2, 0, 0, 0, 0, 0, 0, 0, 0, 0x24, 0x80, 0, 0, 0x20, 0, 0, 0, 5, 0, 0, 0,
-    1, 0, 0, 0, 0, 0, 0, 0, 0, 0, 0, 0, 0, 0, 0, 0, 0, 0, 0, 0, 0x46, 0, 0, 0, 0, 0, 0, 0, 0, 0, 0,
-    0, 0,
+/// A READDIR of the handle aa with xid 5, an AUTH_SYS credential, a cookie and its verifier, and the reply
+/// that the handle is stale.
+const READDIR: [u8; 164] = [
+    0x4e, 0x46, 0x53, 0x33, 0x43, 0x41, 0x50, 0x31, 0, 0, 0, 1, 0, 0, 0, 0x60, 0x80, 0, 0, 0x5c, 0,
+    0, 0, 5, 0, 0, 0, 0, 0, 0, 0, 2, 0, 1, 0x86, 0xa3, 0, 0, 0, 3, 0, 0, 0, 0x10, 0, 0, 0, 1, 0, 0,
+    0, 0x18, 0, 0, 0, 9, 0, 0, 0, 3, 0x62, 0x6f, 0x78, 0, 0, 0, 0, 0, 0, 0, 0, 0, 0, 0, 0, 0, 0, 0,
+    0, 0, 0, 0, 0, 0, 0, 0, 0, 4, 0xaa, 0xaa, 0xaa, 0xaa, 0, 0, 0, 0, 0, 0, 2, 0, 9, 8, 7, 6, 5, 4,
+    3, 2, 0, 0, 2, 0, 0, 0, 0, 0, 0, 0, 0, 0x24, 0x80, 0, 0, 0x20, 0, 0, 0, 5, 0, 0, 0, 1, 0, 0, 0,
+    0, 0, 0, 0, 0, 0, 0, 0, 0, 0, 0, 0, 0, 0, 0, 0, 0x46, 0, 0, 0, 0, 0, 0, 0, 0, 0, 0, 0, 0,
 ];
 
 fn hashers() -> MaskHashers<BuildHasherDefault<FoldHasher>> {

@@ -8,9 +8,11 @@ use Rattle.canon3.specs.Bytes.{chunk_bytes, record_bytes}
 use Rattle.canon3.specs.HandleTable.{Gathers}
 use Rattle.canon3.specs.machinery.Summary.{all_items}
 use Rattle.masking3.specs.declared.masking_writer.MaskingWriter.{MaskingWriter}
+use Rattle.masking3.specs.declared.ways.Way.{Way}
 use Rattle.masking3.specs.declared.ways.Ways.{Ways}
 use Rattle.masking3.specs.Masked.{masked_items, values}
 use Rattle.masking3.specs.machinery.ClassTables.{HoldsValues, tables_in}
+use Rattle.masking3.specs.machinery.UnnamedBody.{body_by}
 
 -- The items of the messages before stand in front of the message's own, and how many these are
 -- in front of all.
@@ -38,11 +40,11 @@ MaskStands ways w all = HasMemory w → (front : List Item) × (items : List Ite
 abbrev pub told_before : List Entry → List Item
 told_before entries = after_messages (all_items entries) []
 
--- the word 0, the word 1, or a message with this body
-abbrev pub written_as : Kind → List ℕ → List ℕ
-written_as kinds.Begin body = word_bytes 1
-written_as (kinds.Call id) body = chunk_bytes (record_bytes body)
-written_as kinds.Turn body = word_bytes 0
-written_as (kinds.Reply id) body = chunk_bytes (record_bytes body)
-written_as kinds.Close body = word_bytes 0
-written_as kinds.End body = word_bytes 0
+-- the word 0, the word 1, or a message with this body, where names of machines are masked so
+abbrev pub written_as : Way → Kind → List ℕ → List ℕ
+written_as way kinds.Begin body = word_bytes 1
+written_as way (kinds.Call id) body = chunk_bytes (record_bytes (body_by way body))
+written_as way kinds.Turn body = word_bytes 0
+written_as way (kinds.Reply id) body = chunk_bytes (record_bytes body)
+written_as way kinds.Close body = word_bytes 0
+written_as way kinds.End body = word_bytes 0

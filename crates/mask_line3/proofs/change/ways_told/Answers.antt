@@ -1,5 +1,5 @@
 use Rattle.std.proofs.Common.{◌∷◌, []}
-use Rattle.masking3.specs.declared.class.Class.TheVariants.{Times, Stamps, Space, Ids, Fsids, Cookies, CookieVerifiers, CreateVerifiers, Owners}
+use Rattle.mask_line3.specs.declared.asked.MaskClass.TheVariants.{Times, Stamps, Machines, Space, Ids, Fsids, Cookies, CookieVerifiers, CreateVerifiers, Owners}
 use Rattle.mask_line3.specs.Changes.{change_of}
 use Rattle.mask_line3.proofs.ChangeLemmas.{told_more}
 use Rattle.mask_line3.proofs.change.ways_told.Goals as goal
@@ -9,10 +9,11 @@ returns-clause-told c =
     let ways = c.args.ways.now in
     let one = told_more ([]) (change_of Times ways.times) _ _ c.new-text.ensures.bytes c.in_ok-push_change.ensures in
     let two = told_more (change_of Times ways.times ∷ []) (change_of Stamps ways.stamps) _ _ one c.in_ok-push_change-2.ensures in
-    let three = told_more (change_of Times ways.times ∷ change_of Stamps ways.stamps ∷ []) (change_of Space ways.space) _ _ two c.in_ok-push_change-3.ensures in
-    let four = told_more (change_of Times ways.times ∷ change_of Stamps ways.stamps ∷ change_of Space ways.space ∷ []) (change_of Ids ways.ids) _ _ three c.in_ok-push_change-4.ensures in
-    let five = told_more (change_of Times ways.times ∷ change_of Stamps ways.stamps ∷ change_of Space ways.space ∷ change_of Ids ways.ids ∷ []) (change_of Fsids ways.fsids) _ _ four c.in_ok-push_change-5.ensures in
-    let six = told_more (change_of Times ways.times ∷ change_of Stamps ways.stamps ∷ change_of Space ways.space ∷ change_of Ids ways.ids ∷ change_of Fsids ways.fsids ∷ []) (change_of Cookies ways.cookies) _ _ five c.in_ok-push_change-6.ensures in
-    let seven = told_more (change_of Times ways.times ∷ change_of Stamps ways.stamps ∷ change_of Space ways.space ∷ change_of Ids ways.ids ∷ change_of Fsids ways.fsids ∷ change_of Cookies ways.cookies ∷ []) (change_of CookieVerifiers ways.cookie_verifiers) _ _ six c.in_ok-push_change-7.ensures in
-    let eight = told_more (change_of Times ways.times ∷ change_of Stamps ways.stamps ∷ change_of Space ways.space ∷ change_of Ids ways.ids ∷ change_of Fsids ways.fsids ∷ change_of Cookies ways.cookies ∷ change_of CookieVerifiers ways.cookie_verifiers ∷ []) (change_of CreateVerifiers ways.create_verifiers) _ _ seven c.in_ok-push_change-8.ensures in
-    told_more (change_of Times ways.times ∷ change_of Stamps ways.stamps ∷ change_of Space ways.space ∷ change_of Ids ways.ids ∷ change_of Fsids ways.fsids ∷ change_of Cookies ways.cookies ∷ change_of CookieVerifiers ways.cookie_verifiers ∷ change_of CreateVerifiers ways.create_verifiers ∷ []) (change_of Owners ways.owners) _ _ eight c.in_ok-push_change-9.ensures
+    let three = told_more (change_of Times ways.times ∷ change_of Stamps ways.stamps ∷ []) (change_of Machines ways.machines) _ _ two c.in_ok-push_change-3.ensures in
+    let four = told_more (change_of Times ways.times ∷ change_of Stamps ways.stamps ∷ change_of Machines ways.machines ∷ []) (change_of Space ways.space) _ _ three c.in_ok-push_change-4.ensures in
+    let five = told_more (change_of Times ways.times ∷ change_of Stamps ways.stamps ∷ change_of Machines ways.machines ∷ change_of Space ways.space ∷ []) (change_of Ids ways.ids) _ _ four c.in_ok-push_change-5.ensures in
+    let six = told_more (change_of Times ways.times ∷ change_of Stamps ways.stamps ∷ change_of Machines ways.machines ∷ change_of Space ways.space ∷ change_of Ids ways.ids ∷ []) (change_of Fsids ways.fsids) _ _ five c.in_ok-push_change-6.ensures in
+    let seven = told_more (change_of Times ways.times ∷ change_of Stamps ways.stamps ∷ change_of Machines ways.machines ∷ change_of Space ways.space ∷ change_of Ids ways.ids ∷ change_of Fsids ways.fsids ∷ []) (change_of Cookies ways.cookies) _ _ six c.in_ok-push_change-7.ensures in
+    let eight = told_more (change_of Times ways.times ∷ change_of Stamps ways.stamps ∷ change_of Machines ways.machines ∷ change_of Space ways.space ∷ change_of Ids ways.ids ∷ change_of Fsids ways.fsids ∷ change_of Cookies ways.cookies ∷ []) (change_of CookieVerifiers ways.cookie_verifiers) _ _ seven c.in_ok-push_change-8.ensures in
+    let nine = told_more (change_of Times ways.times ∷ change_of Stamps ways.stamps ∷ change_of Machines ways.machines ∷ change_of Space ways.space ∷ change_of Ids ways.ids ∷ change_of Fsids ways.fsids ∷ change_of Cookies ways.cookies ∷ change_of CookieVerifiers ways.cookie_verifiers ∷ []) (change_of CreateVerifiers ways.create_verifiers) _ _ eight c.in_ok-push_change-9.ensures in
+    told_more (change_of Times ways.times ∷ change_of Stamps ways.stamps ∷ change_of Machines ways.machines ∷ change_of Space ways.space ∷ change_of Ids ways.ids ∷ change_of Fsids ways.fsids ∷ change_of Cookies ways.cookies ∷ change_of CookieVerifiers ways.cookie_verifiers ∷ change_of CreateVerifiers ways.create_verifiers ∷ []) (change_of Owners ways.owners) _ _ nine c.in_ok-push_change-10.ensures

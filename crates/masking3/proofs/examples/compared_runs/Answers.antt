@@ -7,15 +7,16 @@ use Rattle.canon3.specs.Canonical.{canonical}
 use Rattle.canon3.specs.machinery.Summary.{all_items}
 use Rattle.canon3.proofs.Checks.{not_same_by, same_by}
 use Rattle.masking3.specs.declared.class.Class.{Class}
-use Rattle.masking3.specs.Examples.{AreTold, list_from, getattrs_of_two}
-use Rattle.masking3.specs.Masked.{masked, values}
+use Rattle.masking3.specs.Examples.{list_from, getattrs_of_two}
+use Rattle.masking3.specs.Masked.{masked_values, values}
+use Rattle.masking3.specs.SameBut.{SameButValues}
 use Rattle.masking3.specs.Ways.{usual}
 use Rattle.masking3.proofs.ClassLemmas.{for_each}
 use Rattle.masking3.proofs.SameButLemmas.{HasFreeXid, same_but_from_same, same_from_same_but}
 use Rattle.masking3.proofs.examples.compared_runs.Goals as goal
 
-told_by : (a b : List Entry) → AllByRecursion HasFreeXid a → canonical (masked usual a) ≢ canonical (masked usual b) → AreTold a b
-told_by a b free d s = not_same_by (masked usual a) (masked usual b) d (same_from_same_but usual a b free s)
+told_by : (a b : List Entry) → AllByRecursion HasFreeXid a → canonical (masked_values usual a) ≢ canonical (masked_values usual b) → SameButValues usual a b → ⊥
+told_by a b free d s = not_same_by (masked_values usual a) (masked_values usual b) d (same_from_same_but usual a b free s)
 
 free : (first second sec : ℕ) → AllByRecursion HasFreeXid (getattrs_of_two first second sec)
 unfolding names head_names
@@ -36,7 +37,7 @@ returns c =
     let a = getattrs_of_two 77 78 1700000000 in
     let b = getattrs_of_two 6 5 1800000000 in
     record {
-      renamed = same_but_from_same usual a b (room 77 78 1700000000) (room 6 5 1800000000) (free 77 78 1700000000) (same_by (masked usual a) (masked usual b) refl refl refl);
+      renamed = same_but_from_same usual a b (room 77 78 1700000000) (room 6 5 1800000000) (free 77 78 1700000000) (same_by (masked_values usual a) (masked_values usual b) refl refl refl);
       merged = told_by a (getattrs_of_two 5 5 1700000000) (free 77 78 1700000000) (λ e. grind arith);
       split = told_by (getattrs_of_two 77 77 1700000000) (getattrs_of_two 5 6 1700000000) (free 77 77 1700000000) (λ e. grind arith);
       first_cookie = told_by (list_from 0) (list_from 512) (free_cookie 0) (λ e. grind arith);

@@ -1,5 +1,5 @@
 use Rattle.masking3.proofs.FirstEntries.{bytes_decide, decided, same_but_from_all}
-use Rattle.masking3.proofs.SameButLemmas.{kept_of_same, same_of_kept}
+use Rattle.masking3.proofs.MaskingMore.{all_kept_of_same, same_of_all_kept}
 use Rattle.masking3.proofs.laws.masked_captures_are_the_same.Goals as goal
 
 pub returns-clause-masked : goal.returns-clause-masked
@@ -12,4 +12,4 @@ pub returns-clause-weaker : goal.returns-clause-weaker
 returns-clause-weaker c ways a b first second s = same_but_from_all ways a b first second s
 
 pub returns-clause-unmasked : goal.returns-clause-unmasked
-returns-clause-unmasked c ways a b keeps = (same_of_kept ways keeps a b, kept_of_same ways keeps a b)
+returns-clause-unmasked c ways a b keeps = (same_of_all_kept ways keeps a b, all_kept_of_same ways keeps a b)

@@ -1,7 +1,7 @@
 use Rattle.std.proofs.Common.{refl}
 use Rattle.nfs3_types.specs.Names.{names}
 use Rattle.rpc_head.specs.Names.{head_names}
-use Rattle.masking3.proofs.examples.system_stamp.Goals as goal
+use Rattle.masking3.proofs.examples.system_credential.Goals as goal
 
 pub returns : goal.returns
 unfolding names head_names

@@ -1,0 +1,56 @@
+-- Calls without the names of machines.
+use Rattle.std.specs.Prelude.{ℕ, zero, suc, ◌+◌, ◌-◌, bytes_eq, if◌then◌else◌, List, [], ◌∷◌, length, map}
+use Rattle.xdr3.specs.Item.{Item, Word, Opaque, Text, residue}
+use Rattle.rpc_head.specs.Names.{head_names}
+use Rattle.capture3.specs.Entry.{Entry, Call}
+use Rattle.masking3.specs.declared.ways.Way.{Way}
+use Rattle.masking3.specs.declared.ways.Way.TheVariants.{Keep, Zero, Number}
+
+-- how many bytes follow the length of a text, with its residual bytes (RFC 4506, section 4.11)
+abbrev pub text_size : Item → ℕ
+text_size (Opaque Text name bytes) = length bytes + residue (length bytes)
+text_size _ = 0
+
+-- the length of an AUTH_SYS credential, less so many bytes
+abbrev pub less_by : ℕ → Item → Item
+less_by size (Word name n) =
+    Word name (if bytes_eq name head_names.cred_length then n - size else n)
+less_by size item = item
+
+-- a text becomes empty
+abbrev pub emptied : Item → Item
+emptied (Opaque Text name bytes) = Opaque Text name []
+emptied item = item
+
+-- The body of an AUTH_SYS credential begins with its length, a stamp and the name of the machine
+-- (RFC 5531, appendix A). The name becomes empty, and the length is less by the bytes of the name.
+-- What begins otherwise stays.
+abbrev pub unnamed_credential : List Item → List Item
+unnamed_credential (size ∷ stamp ∷ name ∷ items) =
+    less_by (text_size name) size ∷ stamp ∷ emptied name ∷ items
+unnamed_credential items = items
+
+-- the first n items stay, and those after them change
+abbrev pub after_first : ℕ → (List Item → List Item) → List Item → List Item
+after_first zero change items = change items
+after_first (suc n) change [] = []
+after_first (suc n) change (item ∷ items) = item ∷ after_first n change items
+
+-- A call's items begin with xid, mtype, rpcvers, prog, vers, proc and the flavor of its credential
+-- (RFC 5531, section 9). The body of the credential follows.
+abbrev pub unnamed_items : List Item → List Item
+unnamed_items items = after_first 7 unnamed_credential items
+
+-- names stay, or become empty; they have no numbers
+abbrev pub named_by : Way → List Item → List Item
+named_by Keep items = items
+named_by Zero items = unnamed_items items
+named_by Number items = unnamed_items items
+
+abbrev pub named_entry : Way → Entry → Entry
+named_entry way (Call items) = Call (named_by way items)
+named_entry way entry = entry
+
+-- the names of machines in these entries stay, or become empty
+abbrev pub names_by : Way → List Entry → List Entry
+names_by way entries = map (named_entry way) entries
