@@ -183,7 +183,7 @@ fn failing(rt: &HostRuntime, call: Call) -> Result<(Outcome, usize), Fail> {
 fn a_form_is_finished_under_the_name_of_the_output(rt: HostRuntime) -> Result<(), Fail> {
     let mut files = MemFiles::new(rt.alloc(), &NULL, None);
     let outcome = canonical(&rt, &mut files)?;
-    assert!(rt; matches!(outcome, Outcome::Counted(Ok(counts)) if counts == COUNTS));
+    assert!(rt; matches!(&outcome, Outcome::Counted(Ok(counts)) if *counts == COUNTS));
     assert_eq!(rt; files.finished.len(), 1);
     assert_eq!(rt; files.finished[0].place.as_str(), "out");
     assert_eq!(rt;
@@ -196,14 +196,14 @@ fn a_form_is_finished_under_the_name_of_the_output(rt: HostRuntime) -> Result<()
 #[test]
 fn no_file_is_finished_after_a_failure(rt: HostRuntime) -> Result<(), Fail> {
     let (outcome, finished) = failing(&rt, Call::Open)?;
-    assert!(rt; matches!(outcome, Outcome::Unopened(name) if name.as_str() == "in"));
+    assert!(rt; matches!(&outcome, Outcome::Unopened(name) if name.as_str() == "in"));
     assert_eq!(rt; finished, 0);
     let (outcome, finished) = failing(&rt, Call::Make)?;
-    assert!(rt; matches!(outcome, Outcome::Unopened(name) if name.as_str() == "out"));
+    assert!(rt; matches!(&outcome, Outcome::Unopened(name) if name.as_str() == "out"));
     assert_eq!(rt; finished, 0);
     for call in [Call::MakeSafe, Call::GiveName] {
         let (outcome, finished) = failing(&rt, call)?;
-        assert!(rt; matches!(outcome, Outcome::Counted(Err(Error::Write))));
+        assert!(rt; matches!(&outcome, Outcome::Counted(Err(Error::Write))));
         assert_eq!(rt; finished, 0);
     }
     Ok(())
@@ -220,7 +220,7 @@ fn no_file_is_finished_for_a_refused_capture(rt: HostRuntime) -> Result<(), Fail
         place: Place::File { at: 100 },
         reason: Reason::BadMark,
     };
-    assert!(rt; matches!(outcome, Outcome::Counted(Err(Error::Refused(it))) if it == fault));
+    assert!(rt; matches!(&outcome, Outcome::Counted(Err(Error::Refused(it))) if *it == fault));
     assert!(rt; files.finished.is_empty());
     Ok(())
 }
@@ -229,7 +229,7 @@ fn no_file_is_finished_for_a_refused_capture(rt: HostRuntime) -> Result<(), Fail
 fn a_capture_is_counted(rt: HostRuntime) -> Result<(), Fail> {
     let files = MemFiles::new(rt.alloc(), &NULL, None);
     let outcome = files::counted(rt.alloc(), hashers(&rt)?, &files, "in");
-    assert!(rt; matches!(outcome, Outcome::Counted(Ok(counts)) if counts == COUNTS));
+    assert!(rt; matches!(&outcome, Outcome::Counted(Ok(counts)) if *counts == COUNTS));
     Ok(())
 }
 
@@ -238,7 +238,7 @@ fn a_file_is_the_same_as_itself(rt: HostRuntime) -> Result<(), Fail> {
     let files = MemFiles::new(rt.alloc(), &NULL, None);
     let (first, second) = (hashers(&rt)?, hashers(&rt)?);
     let outcome = files::compared(rt.alloc(), first, second, &files, "in", "other");
-    assert!(rt; matches!(outcome, Outcome::Compared(Ok(Verdict::Same))));
+    assert!(rt; matches!(&outcome, Outcome::Compared(Ok(Verdict::Same))));
     Ok(())
 }
 
@@ -247,9 +247,9 @@ fn the_lines_of_a_file(rt: HostRuntime) -> Result<(), Fail> {
     let files = MemFiles::new(rt.alloc(), &NULL, None);
     let lines = Vec::new(rt.alloc());
     let (outcome, lines) = listing::listed(rt.alloc(), hashers(&rt)?, &files, "in", lines);
-    assert!(rt; matches!(outcome, Outcome::Listed(Ok(counts)) if counts == COUNTS));
+    assert!(rt; matches!(&outcome, Outcome::Listed(Ok(counts)) if *counts == COUNTS));
     let wanted = b"1 client 1 xid=3735928559 NFSPROC3_NULL";
-    assert!(rt; matches!(lines, Some(lines) if lines.as_slice().starts_with(wanted)));
+    assert!(rt; matches!(&lines, Some(lines) if lines.as_slice().starts_with(wanted)));
     Ok(())
 }
 
@@ -258,8 +258,8 @@ fn a_file_that_is_not_opened_has_no_lines(rt: HostRuntime) -> Result<(), Fail> {
     let files = MemFiles::new(rt.alloc(), &NULL, Some(Call::Open));
     let lines = Vec::new(rt.alloc());
     let (outcome, lines) = listing::listed(rt.alloc(), hashers(&rt)?, &files, "in", lines);
-    assert!(rt; matches!(outcome, Outcome::Unopened(name) if name.as_str() == "in"));
-    assert!(rt; matches!(lines, Some(lines) if lines.is_empty()));
+    assert!(rt; matches!(&outcome, Outcome::Unopened(name) if name.as_str() == "in"));
+    assert!(rt; matches!(&lines, Some(lines) if lines.is_empty()));
     Ok(())
 }
 
@@ -276,7 +276,7 @@ fn packed(rt: &HostRuntime, files: &mut MemFiles<'_>) -> Result<Outcome, Fail> {
 fn streams_are_packed(rt: HostRuntime) -> Result<(), Fail> {
     let mut files = MemFiles::new(rt.alloc(), b"abc", None);
     let outcome = packed(&rt, &mut files)?;
-    assert!(rt; matches!(outcome, Outcome::Packed(Ok(()))));
+    assert!(rt; matches!(&outcome, Outcome::Packed(Ok(()))));
     assert_eq!(rt; files.finished.len(), 1);
     assert_eq!(rt; files.finished[0].place.as_str(), "out");
     let wanted = b"NFS3CAP1\0\0\0\x01\0\0\0\x03abc\0\0\0\0\0\0\0\x03abc\0\0\0\0\0\0\0\0";
@@ -289,7 +289,7 @@ fn nothing_is_packed_after_a_failure(rt: HostRuntime) -> Result<(), Fail> {
     for call in [Call::Open, Call::Make, Call::MakeSafe, Call::GiveName] {
         let mut files = MemFiles::new(rt.alloc(), b"abc", Some(call));
         let outcome = packed(&rt, &mut files)?;
-        assert!(rt; !matches!(outcome, Outcome::Packed(Ok(()))));
+        assert!(rt; !matches!(&outcome, Outcome::Packed(Ok(()))));
         assert!(rt; files.finished.is_empty());
     }
     Ok(())
