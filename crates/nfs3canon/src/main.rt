@@ -9,8 +9,9 @@ mod packing;
 #[cfg(test)]
 mod tests;
 
-use line3::{Job, job};
-use program3::{Ended, Outcome, print_ended, words};
+use canon3::Traced;
+use jobs::answered;
+use program3::{Ended, Outcome, System, print_ended, words};
 use std::process::ExitCode;
 
 fn run(rt: &HostRuntime) -> Ended {
@@ -18,20 +19,9 @@ fn run(rt: &HostRuntime) -> Ended {
         Ok(words) => words,
         Err(fault) => return Ended::printing(Outcome::Line(fault)),
     };
-    match job(rt.alloc(), &words) {
-        Ok(job) => done(rt, job),
-        Err(fault) => Ended::printing(Outcome::Line(fault)),
-    }
-}
-
-fn done(rt: &HostRuntime, job: Job<'_>) -> Ended {
-    match job {
-        Job::Check(name) => Ended::printing(jobs::check(rt, name)),
-        Job::Show(name) => Ended::printing(jobs::show(rt, name)),
-        Job::Canon(input, output) => jobs::canon(rt, input, output),
-        Job::Same(first, second) => Ended::printing(jobs::same(rt, first, second)),
-        Job::Pack(output, streams) => jobs::pack(rt, output, streams),
-    }
+    let stdout = Traced::new(rt.stdout());
+    let (ended, _stdout) = answered(rt.alloc(), rt, &mut System::new(rt), stdout, &words);
+    ended
 }
 
 fn main(rt: HostRuntime) -> ExitCode {

@@ -3,6 +3,7 @@
 ghost use Rattle.std.specs.Prelude.{◌≡◌, ◌∷◌, List, [], IfErr, IfOk};
 
 use crate::forms::Canonical;
+use crate::jobs::answered;
 use crate::{files, listing, packing};
 use canon3::{Summary, Verdict};
 use capture3::{Error, Fault, Place};
@@ -230,6 +231,20 @@ fn a_capture_is_counted(rt: HostRuntime) -> Result<(), Fail> {
     let files = MemFiles::new(rt.alloc(), &NULL, None);
     let outcome = files::counted(rt.alloc(), hashers(&rt)?, &files, "in");
     assert!(rt; matches!(&outcome, Outcome::Counted(Ok(counts)) if *counts == COUNTS));
+    Ok(())
+}
+
+#[test]
+fn a_line_is_answered(rt: HostRuntime) -> Result<(), Fail> {
+    let mut files = MemFiles::new(rt.alloc(), &NULL, None);
+    let words = [
+        String::from_str(rt.alloc(), "nfs3canon")?,
+        String::from_str(rt.alloc(), "check")?,
+        String::from_str(rt.alloc(), "in")?,
+    ];
+    let lines: Vec<u8> = Vec::new(rt.alloc());
+    let (ended, _lines) = answered(rt.alloc(), &rt, &mut files, lines, &words);
+    assert!(rt; matches!(&ended.outcome, Outcome::Counted(Ok(counts)) if *counts == COUNTS));
     Ok(())
 }
 

@@ -41,8 +41,8 @@ pub fn masked<F: Files, S: BuildHasher + Drop>(
     files: &mut F,
     job: MaskJob<'_>,
 ) -> Ended
-    ensures masks { (bytes : List ℕ) → F.holds files.old job.input.now ≡ Some bytes
-        → MasksFile job.ways job.input.now job.output.now bytes
+    ensures masks { (bytes : List ℕ) → F.holds files.old job.entry.input.now ≡ Some bytes
+        → MasksFile job.entry.ways job.entry.input.now job.entry.output.now bytes
         (F.finished files.old) (F.finished files.new) result.outcome }
 {
     let ways = job.ways;
