@@ -24,14 +24,14 @@ import make  # noqa: E402
 
 # The most instructions, in millions.
 LIMITS = {
-    'check small': 8.8,
-    'canon small': 14.8,
-    'show small': 28.8,
-    'same small': 27.9,
-    'check mixed': 5.6,
-    'canon mixed': 14.6,
-    'show mixed': 22.0,
-    'same mixed': 22.3,
+    'check small': 8.1,
+    'canon small': 13.6,
+    'show small': 28.1,
+    'same small': 25.6,
+    'check mixed': 5.5,
+    'canon mixed': 14.5,
+    'show mixed': 21.9,
+    'same mixed': 22.0,
     'pack small': 0.39,
     'nfs3mask small': 21.2,
     'nfs3mask mixed': 17.8,

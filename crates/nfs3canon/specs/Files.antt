@@ -1,5 +1,5 @@
 -- What came of a job whose files contain these bytes.
-use Rattle.std.specs.Prelude.{◌≡◌, ◌⊎◌, ◌+◌, ◌*◌, ◌<◌, List, ℕ, ◌∷◌, Any, IfOk, Option, None, Some, Ok, Err, ⊤, length, slice_index_or}
+use Rattle.std.specs.Prelude.{◌≡◌, ◌⊎◌, ◌+◌, ◌*◌, ◌<◌, List, ℕ, ◌∷◌, IfOk, Option, None, Some, Ok, Err, length, slice_index_or}
 use Rattle.capture3.specs.declared.fault.Error.TheVariants as errors
 use Rattle.capture3.specs.Capture.{One, IsCapture}
 use Rattle.capture3.specs.Entries.{OnRefused}
@@ -10,7 +10,7 @@ use Rattle.canon3.specs.EntryWriter.{WritesAll}
 use Rattle.canon3.specs.Summary.{IsSummary}
 use Rattle.listing3.specs.Listing.{shown}
 use Rattle.packing3.specs.Packed.{IsPacked}
-use Rattle.program3.specs.Files.{FailsToAdd, FailsToMake, WrittenFile}
+use Rattle.program3.specs.Files.{FailsToMake, WrittenFile}
 use Rattle.program3.specs.Opening.{IsOfName}
 use Rattle.program3.specs.declared.outcome.Outcome.{Outcome}
 use Rattle.program3.specs.declared.outcome.Outcome.TheVariants as outcomes
@@ -49,12 +49,6 @@ pub record HoldStreams (holds : List ℕ → Option (List ℕ)) (names : List (L
   pub servers : (k : ℕ) (name : List ℕ) (pair : Streams) → k < length pairs
       → holds (slice_index_or names (2 * k + 1) name)
       ≡ Some (slice_index_or pairs k pair).server
-
--- a stream was not opened, or the packing met an error
-abbrev pub StopsPacking : List (List ℕ) → Outcome → Type 0
-StopsPacking names (outcomes.Packed (Ok done)) = ⊥
-StopsPacking names (outcomes.Packed (Err error)) = ⊤
-StopsPacking names outcome = Any (λ name. FailsToAdd name outcome) names
 
 -- What came of packing these streams. They were packed, and the one file that was finished has the
 -- output's name and is a capture of them. Or no file was finished: the packing met an error, or the

@@ -3,7 +3,8 @@
 ghost use Rattle.std.specs.Prelude.{◌≡◌, List, [], Some, IfErr, IfOk, map, string_bytes};
 ghost use Rattle.capture3.specs.SidedChunks.{Streams};
 ghost use Rattle.packing3.specs.Packing.{HasWrittenCapture};
-ghost use Rattle.nfs3canon.specs.Files.{HoldStreams, PacksFile, StopsPacking};
+ghost use Rattle.nfs3canon.specs.Files.{HoldStreams, PacksFile};
+ghost use Rattle.nfs3canon.specs.machinery.Packing.{StopsPacking};
 
 use canon3::ToWrite;
 use capture3::FromRead;

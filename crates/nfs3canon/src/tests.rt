@@ -53,11 +53,11 @@ impl<'a> Files for MemFiles<'a> {
     type Place = String;
 
     ghost use Rattle.std.specs.Prelude.{Some, string_bytes};
-    ghost use Rattle.nfs3canon.specs.MemFiles.{written_files};
+    ghost use Rattle.nfs3canon.specs.machinery.MemFiles.{kept_files};
 
     ghost holds = { λ files _. Some files.bytes.now };
 
-    ghost finished = { λ files. written_files files.finished.items };
+    ghost finished = { λ files. kept_files files.finished.items };
 
     ghost name_of = { string_bytes };
 

@@ -31,14 +31,14 @@ FailsToOpen input output outcome = IsOfName input outcome ⊎ IsOfName output ou
     ⊎ (outcome ≡ outcomes.Counted (Err errors.Memory))
 
 -- the file of this name could not be opened, or is the output, or memory ran out
-abbrev pub FailsToAdd : (stream : List ℕ) → Outcome → Type 0
-FailsToAdd stream outcome = IsOfName stream outcome ⊎ (outcome ≡ outcomes.Line lines.SameName)
-    ⊎ (outcome ≡ outcomes.Packed (Err errors.Memory))
+abbrev pub FailsToOpenStream : (stream : List ℕ) → Outcome → Type 0
+FailsToOpenStream stream outcome = IsOfName stream outcome
+    ⊎ (outcome ≡ outcomes.Line lines.SameName) ⊎ (outcome ≡ outcomes.Packed (Err errors.Memory))
 
 -- the same of the output, or of one of the streams
 abbrev pub FailsToMake : (output : List ℕ) → (streams : List (List ℕ)) → Outcome → Type 0
-FailsToMake output streams outcome = FailsToAdd output outcome
-    ⊎ Any (λ stream. FailsToAdd stream outcome) streams
+FailsToMake output streams outcome = FailsToOpenStream output outcome
+    ⊎ Any (λ stream. FailsToOpenStream stream outcome) streams
 
 -- What came of reading a capture of these bytes, and writing a form of its entries to a file of
 -- this name. It succeeded: this is the capture's summary, and the one file that was finished has

@@ -2,7 +2,7 @@
 
 ghost use Rattle.std.specs.Prelude.{◌≡◌, ◌∷◌, ℕ, List, Option, IfErr, IfOk, OnErr, OnOk, map, string_bytes};
 ghost use Rattle.canon3.specs.WriteErrors.{IsOfWriting};
-ghost use Rattle.program3.specs.Files.{FailsToAdd, FailsToMake, FailsToOpen, IsNew, WrittenFile};
+ghost use Rattle.program3.specs.Files.{FailsToOpenStream, FailsToMake, FailsToOpen, IsNew, WrittenFile};
 
 use crate::outcome::Outcome;
 use capture3::Error;
@@ -88,7 +88,7 @@ pub trait Files {
     /// - `Outcome::Packed(Err(Error::Memory))` if memory ran out.
     fn opened_apart(&self, place: &Self::Place, stream: &str) -> Result<Self::Input, Outcome>
         ensures held { IfOk result (λ file. Self.Input.remaining file ≡ holds self.now stream.now) }
-        ensures told { IfErr result (FailsToAdd stream.now) };
+        ensures told { IfErr result (FailsToOpenStream stream.now) };
 
     /// Whether the program prints to this file, too.
     fn is_standard_output(&self, place: &Self::Place) -> bool;

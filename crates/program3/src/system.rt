@@ -1,8 +1,8 @@
 //! The files of the system.
 
-ghost use Rattle.std.specs.Prelude.{◌≡◌, [], Any, Err, IfErr, IfOk, IfSome, map, string_bytes};
+ghost use Rattle.std.specs.Prelude.{◌≡◌, Any, Err, IfErr, IfOk, IfSome, map, string_bytes};
 ghost use Rattle.capture3.specs.declared.fault.Error.TheVariants as errors;
-ghost use Rattle.program3.specs.Files.{FailsToAdd};
+ghost use Rattle.program3.specs.Files.{FailsToOpenStream};
 ghost use Rattle.program3.specs.Opening.{TellsOf};
 ghost use Rattle.program3.specs.declared.outcome.Outcome.TheVariants.{Packed};
 ghost use Rattle.program3.specs.Places.{IsMade};
@@ -35,9 +35,7 @@ pub struct System<'a> {
 
 impl<'a> System<'a> {
     /// Returns the files of the system, of which none was finished yet.
-    pub fn new(rt: &'a HostRuntime) -> System<'a>
-        ensures { result.finished.items ≡ [] }
-    {
+    pub fn new(rt: &'a HostRuntime) -> System<'a> {
         System {
             rt,
             finished: Vec::new(rt.alloc()),
@@ -183,7 +181,7 @@ fn all_stand_apart(
     streams: &[String],
 ) -> Result<(), Outcome>
     ensures { IfErr result (λ outcome.
-        Any (λ stream. FailsToAdd stream outcome) (map string_bytes streams.now)) }
+        Any (λ stream. FailsToOpenStream stream outcome) (map string_bytes streams.now)) }
 {
     for stream in streams {
         stands_apart(rt, destination, stream.as_str())?;
@@ -193,7 +191,7 @@ fn all_stand_apart(
 
 /// The stream of this name is not the output. If there is none, that is told when it is opened.
 fn stands_apart(rt: &HostRuntime, destination: &Destination, stream: &str) -> Result<(), Outcome>
-    ensures { IfErr result (FailsToAdd stream.now) }
+    ensures { IfErr result (FailsToOpenStream stream.now) }
 {
     match if_there(fs::metadata(rt, stream)) {
         Ok(Some(data)) if destination.is_regular(&data) => {
