@@ -1,6 +1,9 @@
 //! What the job does with files.
 
 ghost use Rattle.std.specs.Prelude.{◌≡◌, ℕ, List, Some};
+ghost use Rattle.masking3.specs.Masked.{masked_bytes};
+ghost use Rattle.masking3.specs.declared.ways.Ways.{Ways};
+ghost use Rattle.program3.specs.Files.{RewritesFile, WrittenFile};
 ghost use Rattle.nfs3mask.specs.Masking.{MasksFile};
 
 use canon3::{Sink, Summary};
@@ -57,7 +60,13 @@ pub fn masked<F: Files, S: BuildHasher + Drop>(
     }
 }
 
-fn with_mask_told(outcome: Outcome, told: String) -> Outcome {
+/// Tells the mask with the counts. What came of it stays.
+#[tactic(auto, using(crate::proofs::MaskingLemmas::masks))]
+fn with_mask_told(outcome: Outcome, told: String) -> Outcome
+    ensures { (ways : Ways) (input output bytes : List ℕ) (old new : List WrittenFile)
+        → RewritesFile (masked_bytes ways) input output bytes old new outcome
+        → MasksFile ways input output bytes old new result }
+{
     match outcome {
         Outcome::Counted(Ok(summary)) => Outcome::Masked(summary, told),
         outcome => outcome,
