@@ -109,7 +109,7 @@ pub fn named<F: Files>(files: &mut F, file: F::Output, place: F::Place) -> Resul
     }
 }
 
-/// Lists the capture of one name, or writes another form of its entries. Returns what came of it, and the
+/// Reads a capture, and writes the form of its entries through a buffer. Returns what came of it, and the
 /// writer.
 ///
 /// # Errors
