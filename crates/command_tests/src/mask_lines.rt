@@ -52,7 +52,7 @@ fn a_change_of_every_class(rt: HostRuntime) -> Result<(), Fail> {
 #[test]
 fn no_value_is_masked(rt: HostRuntime) -> Result<(), Fail> {
     let found = ways_told(rt.alloc(), &Ways::none())?;
-    assert_eq!(rt; found.as_str().matches("=keep").count(), 9);
+    assert_eq!(rt; found.as_str().matches("=keep").count(), 10);
     Ok(())
 }
 
