@@ -1,4 +1,4 @@
-//! Tests of the commands' calls on captures in memory, of the command line, and of what is printed.
+//! Tests of the commands' calls on captures in memory.
 #![tactic(auto)]
 
 #[cfg(test)]
@@ -8,17 +8,9 @@ mod comparisons;
 #[cfg(test)]
 mod hashers;
 #[cfg(test)]
-mod lines;
-#[cfg(test)]
 mod listings;
 #[cfg(test)]
-mod mask_lines;
-#[cfg(test)]
-mod masks;
-#[cfg(test)]
 mod packs;
-#[cfg(test)]
-mod reports;
 #[cfg(test)]
 mod samples;
 #[cfg(test)]
