@@ -1,6 +1,7 @@
 //! What a comparison of two captures returns.
 
 use capture3::{Error, Place};
+use std::fmt;
 
 /// What two well-formed captures are to each other.
 #[derive(Clone, Copy, Debug, PartialEq, Eq)]
@@ -18,8 +19,18 @@ pub enum Which {
     Second,
 }
 
+impl fmt::Display for Which {
+    fn fmt<W: fmt::Write>(&self, f: &mut fmt::Formatter<W>) -> fmt::Result {
+        match self {
+            Which::First => f.write_str("first"),
+            Which::Second => f.write_str("second"),
+        }
+    }
+}
+
 /// Why two captures could not be compared.
-#[derive(Clone, Copy, Debug, PartialEq, Eq)]
+#[derive(Clone, Copy, Debug, PartialEq, Eq, thiserror::Error)]
+#[error("{which} capture: {error}")]
 pub struct SameError {
     pub which: Which,
     pub error: Error,

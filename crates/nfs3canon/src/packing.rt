@@ -44,7 +44,7 @@ fn packing_kept<F: Files>(
     match streams_packed(alloc, files, file, &place, streams) {
         Ok(file) => Outcome::Packed(named(files, file, place)),
         Err(outcome) => {
-            files.remove(&place);
+            files.remove(place);
             outcome
         }
     }

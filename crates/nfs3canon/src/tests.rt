@@ -140,7 +140,7 @@ impl<'a> Files for MemFiles<'a> {
         }
     }
 
-    fn remove(&self, _place: &String) {}
+    fn remove(&self, _place: String) {}
 }
 
 // A call of NULL and its reply, with the xid 0xdeadbeef and with the xid 1.

@@ -27,8 +27,9 @@ pub trait Files {
     type Output: Write + Drop;
     // A written file whose bytes are safe.
     type Safe: Drop;
-    // Where a file will stand.
-    type Place: Drop;
+    // Where a file will stand. It cannot be dropped, so a command that has made a file either gives it its
+    // name or removes it.
+    type Place;
 
     // The bytes of the file of this name, if they are known.
     ghost holds: { Self → List ℕ → Option (List ℕ) };
@@ -117,5 +118,5 @@ pub trait Files {
         ensures error { IfErr result IsOfWriting };
 
     /// Removes what was made. What has the name is unchanged.
-    fn remove(&self, place: &Self::Place);
+    fn remove(&self, place: Self::Place);
 }

@@ -14,11 +14,13 @@ use std::io::ErrorKind;
 use std::{fs, io};
 
 /// Why a file cannot be read or written.
-#[derive(Clone, Copy, Debug, PartialEq, Eq)]
+#[derive(Clone, Copy, Debug, PartialEq, Eq, thiserror::Error)]
 pub enum OpenError {
     /// It cannot be opened or made, or the system does not say which file it is.
+    #[error("open failed")]
     Unopened,
     /// Memory ran out.
+    #[error("out of memory")]
     Memory,
 }
 

@@ -75,11 +75,11 @@ fn kept<F: Files, J: Rewriting + Drop>(
             Ok(summary)
         }
         Ok((Err(error), _file)) => {
-            files.remove(&place);
+            files.remove(place);
             Err(error)
         }
         Err(_) => {
-            files.remove(&place);
+            files.remove(place);
             Err(Error::Memory)
         }
     }
@@ -103,7 +103,7 @@ pub fn named<F: Files>(files: &mut F, file: F::Output, place: F::Place) -> Resul
     match files.make_safe(file, &place) {
         Ok(safe) => files.give_name(safe, place),
         Err(_) => {
-            files.remove(&place);
+            files.remove(place);
             Err(Error::Write)
         }
     }

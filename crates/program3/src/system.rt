@@ -164,7 +164,7 @@ impl Files for System<'_> {
         Err(Error::Write)
     }
 
-    fn remove(&self, place: &Place) {
+    fn remove(&self, place: Place) {
         place.remove(self.rt);
     }
 }
