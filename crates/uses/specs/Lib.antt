@@ -1,3 +1,4 @@
+pub mod Comparing
 pub mod Counting
 pub mod Naming
 pub mod Summing

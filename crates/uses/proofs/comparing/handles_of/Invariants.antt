@@ -1,0 +1,18 @@
+use Rattle.std.proofs.Common.{◌≡◌, None}
+use Rattle.std.specs.List.{flat_map}
+use Rattle.capture3.specs.Entries.{failure_of, source_of}
+use Rattle.capture3.specs.Entry.{items_of}
+use Rattle.capture3.specs.machinery.Entries.{entries_left}
+use Rattle.uses.specs.Comparing.{handles_of_items}
+use Rattle.uses.proofs.Reading.{HasReturned}
+use Rattle.uses.proofs.comparing.handles_of.Given as goal
+
+abbrev pub invariant-loop-handles : goal.invariant-loop-handles
+invariant-loop-handles g l = record {
+  going : failure_of l.entries ≡ None;
+  returned : HasReturned g.R.Source.told (g.R.Source.told (source_of l.initial.entries)) l.entries
+      (λ handed. l.handles ≡ handles_of_items (flat_map items_of handed));
+}
+
+abbrev pub decreases-loop-handles : goal.decreases-loop-handles
+decreases-loop-handles g l = entries_left l.entries
