@@ -1,0 +1,3 @@
+-- Words, each with a value.
+pub mod Words
+pub mod machinery
