@@ -92,7 +92,7 @@ puts_admitted old new before after xid code id keeps are is_code admits agree q 
         let found_is : found (coded_calls old before) xid ≡ Some (procedure_at old k) = found-coded old before xid ∙ ap (option_map (procedure_at old)) known in
         ap (λ (p : ProcId). Some p)
         ((keeps k (are xid k known)).1
-            ∙ agrees_known (procedure_at old k) id (ap (λ (o : Option ProcId). agrees o id) (sym found_is) ∙ agree))
+        ∙ agrees_known (procedure_at old k) id (ap (λ (o : Option ProcId). agrees o id) (sym found_is) ∙ agree))
 
     by_test : (b : Bool) → nat_eq xid q ≡ b → found (coded_calls new after) q ≡ cond b (Some id) (found (coded_calls old before) q)
     by_test true t =

@@ -132,9 +132,9 @@ absent_everywhere slots home at word placed probed none k taken is = by_order
 
     by_order : ⊥
     by_order = elim (leb_tells at k) [
-        inl (t, le) ↦ elim (eqb_tells k at) [ inl (s, e) ↦ same e | inr (f, apart) ↦ above (omega (arith, apart, le)) ]
-        | inr (f, lt) ↦ below lt
-        ]
+      | inl (t, le) ↦ elim (eqb_tells k at) [ inl (s, e) ↦ same e | inr (f, apart) ↦ above (omega (arith, apart, le)) ]
+      | inr (f, lt) ↦ below lt
+    ]
 
 pub found_there : (slots : List Slot) (home at word : ℕ) → IsPlaced slots home word → IsProbed slots home word at → 0 < value_at slots at → value_of (pairs slots) word ≡ Some (value_at slots at)
 found_there slots home at word placed probed taken = value_of-first slots at word taken (probed.stops taken) before
@@ -180,9 +180,9 @@ placed_filled home_of old new at slot fills taken from passed placed word k some
   where
     stays : (j : ℕ) → 0 < value_at old j → 0 < value_at new j
     stays j old_taken = elim (eqb_tells j at) [
-        inl (t, same) ↦ let e = ap (value_at new) same in let v = ap (λ (s : Slot). s.value) fills.here in omega arith
-        | inr (f, apart) ↦ let v = ap (λ (s : Slot). s.value) (fills.others j apart) in omega arith
-        ]
+      | inl (t, same) ↦ let e = ap (value_at new) same in let v = ap (λ (s : Slot). s.value) fills.here in omega arith
+      | inr (f, apart) ↦ let v = ap (λ (s : Slot). s.value) (fills.others j apart) in omega arith
+    ]
 
     at_home : k ≡ at → home_of word ≡ home_of slot.word
     at_home same = ap home_of (sym is ∙ ap (word_at new) same ∙ ap (λ (s : Slot). s.word) fills.here)

@@ -93,7 +93,7 @@ impl<S: BuildHasher + Drop> WordTable<S> {
         find(&self.slots, home(&self.hasher, self.mask, word), word)
     }
 
-    /// Returns the value that a word has. If it has none, adds it with this one and returns `None`.
+    /// Gives a word this value if it has none, and returns the value that it had.
     ///
     /// # Errors
     ///
@@ -121,7 +121,11 @@ impl<S: BuildHasher + Drop> WordTable<S> {
     fn grow(&mut self) -> Result<(), AllocError>
         ensures { HasSameValues self.old self.new }
     {
-        let mask = self.mask.saturating_mul(2).saturating_add(1).max(LEAST_MASK);
+        let mask = self
+            .mask
+            .saturating_mul(2)
+            .saturating_add(1)
+            .max(LEAST_MASK);
         refill(&self.slots, &mut self.spare, &self.hasher, mask)?;
         std::mem::swap(&mut self.slots, &mut self.spare);
         self.mask = mask;

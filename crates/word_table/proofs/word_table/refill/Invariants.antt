@@ -9,6 +9,6 @@ invariant-loop-slot g l = record {
   homes : l.mask ≤ length l.to.items;
   placed : AreAllPlaced (home_of g.S.BuildHasher g.S.Hasher.Hasher l.hasher l.mask) l.to.items;
   same : (word : ℕ)
-    → before (value_of (pairs l.to.items) word) (value_of (pairs (drop l.slot-index l.from)) word)
-    ≡ value_of (pairs l.from) word;
+      → before (value_of (pairs l.to.items) word) (value_of (pairs (drop l.slot-index l.from)) word)
+      ≡ value_of (pairs l.from) word;
 }

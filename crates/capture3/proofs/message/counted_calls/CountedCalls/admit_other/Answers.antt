@@ -30,7 +30,7 @@ pub returns-clause-added : goal.returns-clause-added
 returns-clause-added g c =
     if_ok_both c.admit.result _ _ _
     (λ is agree puts true_is.
-        admitted c.args.self.now.line.items c.args.self.now.others c.admit.new.self c.args.xid c.args.id c.requires.new (puts true_is)
-        (sym agree ∙ true_is))
+    admitted c.args.self.now.line.items c.args.self.now.others c.admit.new.self c.args.xid c.args.id c.requires.new (puts true_is)
+    (sym agree ∙ true_is))
     (returns-clause-agrees g c)
     c.admit.ensures.added

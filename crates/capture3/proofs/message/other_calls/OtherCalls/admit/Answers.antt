@@ -32,7 +32,7 @@ returns-in-Some-clause-agrees g c =
     ∙ eq-same c.index.result.now c.args.id
     ∙ ap (λ (known : ProcId). agrees (Some known) c.args.id) (read ∙ stays.1)
     ∙ sym (ap (λ (calls : List NumberedCall). agrees (found calls c.args.xid) c.args.id) (sym c.self.view_is)
-        ∙ ap (λ (o : Option ProcId). agrees o c.args.id) (found-known old c.self.inside.codes c.args.xid (Some c.in-Some.known) there))
+    ∙ ap (λ (o : Option ProcId). agrees o c.args.id) (found-known old c.self.inside.codes c.args.xid (Some c.in-Some.known) there))
 
 pub returns-in-Some-clause-added : goal.returns-in-Some-clause-added
 returns-in-Some-clause-added g c is q =
@@ -48,7 +48,7 @@ returns-in-Some-clause-others g c other apart =
 pub returns-clause-agrees : goal.returns-clause-agrees
 returns-clause-agrees g c =
     sym (ap (λ (calls : List NumberedCall). agrees (found calls c.args.xid) c.args.id) (sym c.self.view_is)
-        ∙ ap (λ (o : Option ProcId). agrees o c.args.id) (found-known c.self.inside.procedures.items c.self.inside.codes c.args.xid None (sym c.in_default.is ∙ c.in_ok-known.ensures.there)))
+    ∙ ap (λ (o : Option ProcId). agrees o c.args.id) (found-known c.self.inside.procedures.items c.self.inside.codes c.args.xid None (sym c.in_default.is ∙ c.in_ok-known.ensures.there)))
 
 pub returns-clause-added : goal.returns-clause-added
 returns-clause-added g c is q =
