@@ -5,7 +5,7 @@ use Rattle.std.specs.Option.{unwrap_or}
 use Rattle.std.proofs.lemmas.Bool.{eqb-true}
 use Rattle.std.proofs.lemmas.Option.{none-some}
 use Rattle.std.proofs.lemmas.List.Folds.{list_any-append}
-use Rattle.word_table.specs.Words.{value_of, Admits}
+use Rattle.word_table.specs.Words.{value_of_word, Admits}
 use Rattle.canon3.specs.machinery.XidNumbers.{number_in, AreNumbers}
 use Rattle.canon3.specs.Rank.{number_limit}
 use Rattle.canon3.proofs.RankLemmas.{by_test}
@@ -50,24 +50,24 @@ number_in-other xids xid q apart =
 -- ---- an xid that is admitted
 
 module _ (xids : List ℕ) (before after : List (ℕ × ℕ)) (xid next : ℕ) (are : AreNumbers xids before) where
-  pub is_absent : value_of before xid ≡ None → list_any (nat_eq xid) xids ≡ false
+  pub is_absent : value_of_word before xid ≡ None → list_any (nat_eq xid) xids ≡ false
   is_absent is =
       by_test (list_any (nat_eq xid) xids)
       (λ t. absurd (none-some (number_at xids xid) (sym is ∙ are xid ∙ number_in-there xids xid t)))
       (λ f. f)
 
-  pub number_absent : value_of before xid ≡ None → min (1 + length xids) number_limit ≡ number_at xids xid
+  pub number_absent : value_of_word before xid ≡ None → min (1 + length xids) number_limit ≡ number_at xids xid
   number_absent is =
       ap (λ (n : ℕ). min (1 + n) number_limit)
       (sym (ap (position_or_len (nat_eq xid)) (sym (append-nil xids)) ∙ place_behind xid xids [] (is_absent is) ∙ omega arith))
 
-  pub are_after_new : value_of before xid ≡ None → next ≡ min (1 + length xids) number_limit → Admits before xid next after → AreNumbers (xids ++ xid ∷ []) after
+  pub are_after_new : value_of_word before xid ≡ None → next ≡ min (1 + length xids) number_limit → Admits before xid next after → AreNumbers (xids ++ xid ∷ []) after
   are_after_new is next_is admits q = admits q ∙ by_case (nat_eq q xid) refl
     where
-      by_case : (b : Bool) → nat_eq q xid ≡ b → cond b (Some (unwrap_or (value_of before q) next)) (value_of before q) ≡ number_in (xids ++ xid ∷ []) q
+      by_case : (b : Bool) → nat_eq q xid ≡ b → cond b (Some (unwrap_or (value_of_word before q) next)) (value_of_word before q) ≡ number_in (xids ++ xid ∷ []) q
       by_case true t =
           let same = eqb-true q xid t in
-          ap (λ (o : Option ℕ). Some (unwrap_or o next)) (ap (value_of before) same ∙ is)
+          ap (λ (o : Option ℕ). Some (unwrap_or o next)) (ap (value_of_word before) same ∙ is)
           ∙ ap (λ (n : ℕ). Some n) next_is
           ∙ sym (ap (number_in (xids ++ xid ∷ [])) same ∙ number_in-last xids xid (is_absent is))
       by_case false f = are q ∙ sym (number_in-other xids xid q f)

@@ -1,5 +1,5 @@
 -- Calls that are hashed by their xids, as a list.
-use Rattle.std.proofs.Common.{◌≡◌, ◌⊎◌, inl, inr, ℕ, ◌==◌, ◌≢◌, ◌<◌, ◌≤◌, ◌^◌, Bool, true, false, cond, if◌then◌else◌, is_some, nat_eq, Option, Some, None, Result, Ok, Err, List, [], ◌∷◌, ◌++◌, refl, sym, ap, subst, ◌∙◌, eq-eqb, arith}
+use Rattle.std.proofs.Common.{◌≡◌, ◌⊎◌, inl, inr, ℕ, ◌≢◌, ◌<◌, ◌≤◌, ◌^◌, Bool, true, false, cond, is_some, nat_eq, Option, Some, None, List, ◌++◌, refl, sym, ap, ◌∙◌, arith}
 use Rattle.std.proofs.lemmas.Bool.{eqb-true}
 use Rattle.rpc_head.specs.declared.call.ProcId.{ProcId}
 use Rattle.capture3.specs.declared.message.calls.NumberedCall.{NumberedCall}

@@ -4,15 +4,16 @@ use Rattle.std.specs.Map.{lookup}
 use Rattle.std.specs.Option.{unwrap_or}
 
 -- the value of a word
-abbrev pub value_of : List (ℕ × ℕ) → ℕ → Option ℕ
-value_of pairs word = lookup (nat_eq word) pairs
+abbrev pub value_of_word : List (ℕ × ℕ) → ℕ → Option ℕ
+value_of_word pairs word = lookup (nat_eq word) pairs
 
 -- each word has the same value in both, or none in both
 abbrev pub HasSameValues : List (ℕ × ℕ) → List (ℕ × ℕ) → Type 0
-HasSameValues old new = (word : ℕ) → value_of new word ≡ value_of old word
+HasSameValues old new = (word : ℕ) → value_of_word new word ≡ value_of_word old word
 
 -- the word has the value that it had, or this one if it had none; the others are as before
 abbrev pub Admits : List (ℕ × ℕ) → ℕ → ℕ → List (ℕ × ℕ) → Type 0
 Admits old word value new = (other : ℕ)
-    → value_of new other
-    ≡ (if other == word then Some (unwrap_or (value_of old other) value) else value_of old other)
+    → value_of_word new other
+    ≡ (if other == word then Some (unwrap_or (value_of_word old other) value)
+    else value_of_word old other)

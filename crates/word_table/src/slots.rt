@@ -1,8 +1,9 @@
 //! The slots of a table: each is empty, or has a word and its value.
 
 ghost use Rattle.std.specs.Prelude.{◌≡◌, ◌<◌, ◌≤◌, ℕ, IfOk, List, OnErr, OnOk, length};
-ghost use Rattle.word_table.specs.Words.{value_of, Admits};
-ghost use Rattle.word_table.specs.machinery.Slots.{pairs, value_at, word_at, AreAllPlaced, IsOther, IsPlaced};
+ghost use Rattle.word_table.specs.Words.{value_of_word, Admits};
+ghost use Rattle.word_table.specs.Slots.{pairs, slot_value, slot_word, AreAllPlaced, IsPlaced};
+ghost use Rattle.word_table.specs.machinery.Probing.{IsOther};
 
 use std::alloc::AllocError;
 
@@ -23,7 +24,7 @@ fn probe(slots: &[Slot], home: usize, word: u32) -> usize
     ensures within { result ≤ length slots.now }
     ensures from { home ≤ result }
     ensures passed { (k : ℕ) → home ≤ k → k < result → IsOther slots.now k word }
-    ensures stops { 0 < value_at slots.now result → word_at slots.now result ≡ word }
+    ensures stops { 0 < slot_value slots.now result → slot_word slots.now result ≡ word }
 {
     for at in home..slots.len() {
         let slot = slots[at];
@@ -39,7 +40,7 @@ fn probe(slots: &[Slot], home: usize, word: u32) -> usize
 pub(crate) fn find(slots: &[Slot], home: usize, word: u32) -> Option<u32>
     requires within { home ≤ length slots.now }
     requires placed { IsPlaced slots.now home word }
-    ensures { result ≡ value_of (pairs slots.now) word }
+    ensures { result ≡ value_of_word (pairs slots.now) word }
 {
     match slots.get(probe(slots, home, word)) {
         Some(slot) if slot.value != 0 => Some(slot.value),
@@ -58,10 +59,11 @@ pub(crate) fn admit(
     requires within { home ≤ length slots.old.items }
     requires placed { IsPlaced slots.old.items home word }
     requires value { 0 < value }
-    ensures there { IfOk result (λ known. known ≡ value_of (pairs slots.old.items) word) }
-    ensures added { OnOk result (Admits (pairs slots.old.items) word value (pairs slots.new.items)) }
-    ensures placed { (home_of : ℕ → ℕ) → home_of word ≡ home
-        → AreAllPlaced home_of slots.old.items → AreAllPlaced home_of slots.new.items }
+    ensures there { IfOk result (λ known. known ≡ value_of_word (pairs slots.old.items) word) }
+    ensures added { OnOk result
+        (Admits (pairs slots.old.items) word value (pairs slots.new.items)) }
+    ensures placed { (homes : ℕ → ℕ) → homes word ≡ home
+        → AreAllPlaced homes slots.old.items → AreAllPlaced homes slots.new.items }
     ensures longer { length slots.old.items ≤ length slots.new.items }
     ensures kept { OnErr result (slots.new.items ≡ slots.old.items) }
 {

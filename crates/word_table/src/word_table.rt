@@ -1,8 +1,8 @@
 //! The table.
 
 ghost use Rattle.std.specs.Prelude.{◌≡◌, ◌<◌, ◌≤◌, [], ℕ, IfOk, List, OnErr, OnOk, length};
-ghost use Rattle.word_table.specs.Words.{value_of, Admits, HasSameValues};
-ghost use Rattle.word_table.specs.machinery.Slots.{home_of, pairs, AreAllPlaced};
+ghost use Rattle.word_table.specs.Words.{value_of_word, Admits, HasSameValues};
+ghost use Rattle.word_table.specs.Slots.{home_of_word, pairs, AreAllPlaced};
 
 use crate::slots::{EMPTY, Slot, admit, find};
 use std::alloc::{AllocError, Global};
@@ -30,20 +30,20 @@ pub struct WordTable<S: BuildHasher + Drop> {
 
 impl<S: BuildHasher + Drop> Model for WordTable<S> {
     ghost use Rattle.std.specs.Prelude.{◌≤◌, List, ℕ, length};
-    ghost use Rattle.word_table.specs.machinery.Slots.{home_of, pairs, AreAllPlaced};
+    ghost use Rattle.word_table.specs.Slots.{home_of_word, pairs, AreAllPlaced};
 
     ghost Value = { List (ℕ × ℕ) };
 
     ghost view = { λ t. pairs t.slots.items };
 
     ghost invariant = { λ t. (t.mask ≤ length t.slots.items)
-        × AreAllPlaced (home_of S.BuildHasher S.Hasher.Hasher t.hasher t.mask) t.slots.items };
+        × AreAllPlaced (home_of_word S.BuildHasher S.Hasher.Hasher t.hasher t.mask) t.slots.items };
 }
 
 /// Returns the home of a word.
 #[inline(always)]
 fn home<S: BuildHasher + Drop>(hasher: &S, mask: usize, word: u32) -> usize
-    ensures home { result ≡ home_of S.BuildHasher S.Hasher.Hasher hasher.now mask word }
+    ensures home { result ≡ home_of_word S.BuildHasher S.Hasher.Hasher hasher.now mask word }
     ensures within { result ≤ mask }
 {
     hasher.hash_one(word) as usize & mask
@@ -58,7 +58,7 @@ fn refill<S: BuildHasher + Drop>(
 ) -> Result<(), AllocError>
     ensures same { OnOk result (HasSameValues (pairs from.now) (pairs to.new.items)) }
     ensures placed { OnOk result
-        (AreAllPlaced (home_of S.BuildHasher S.Hasher.Hasher hasher.now mask) to.new.items) }
+        (AreAllPlaced (home_of_word S.BuildHasher S.Hasher.Hasher hasher.now mask) to.new.items) }
     ensures homes { OnOk result (mask ≤ length to.new.items) }
 {
     to.clear();
@@ -88,7 +88,7 @@ impl<S: BuildHasher + Drop> WordTable<S> {
     /// Returns the value of a word, or `None` if it has none.
     #[inline(always)]
     pub fn get(&self, word: u32) -> Option<u32>
-        ensures { result ≡ value_of self.now word }
+        ensures { result ≡ value_of_word self.now word }
     {
         find(&self.slots, home(&self.hasher, self.mask, word), word)
     }
@@ -101,7 +101,7 @@ impl<S: BuildHasher + Drop> WordTable<S> {
     #[inline(always)]
     pub fn admit(&mut self, word: u32, value: u32) -> Result<Option<u32>, AllocError>
         requires { 0 < value }
-        ensures there { IfOk result (λ known. known ≡ value_of self.old word) }
+        ensures there { IfOk result (λ known. known ≡ value_of_word self.old word) }
         ensures added { OnOk result (Admits self.old word value self.new) }
         ensures kept { OnErr result (HasSameValues self.old self.new) }
     {

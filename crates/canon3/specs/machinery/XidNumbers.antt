@@ -2,7 +2,7 @@
 use Rattle.std.specs.Prelude.{◌≡◌, ℕ, zero, suc, ◌+◌, min, Bool, true, false, if◌then◌else◌, nat_eq, Option, None, Some, List, [], ◌∷◌}
 use Rattle.std.specs.List.{list_any, position_or_len}
 use Rattle.std.specs.Int.{swap_bytes, w32}
-use Rattle.word_table.specs.Words.{value_of}
+use Rattle.word_table.specs.Words.{value_of_word}
 use Rattle.canon3.specs.Rank.{number_limit}
 
 -- the number that is counted of an xid, or the xid of such a number: its bytes as they are, or in
@@ -24,4 +24,4 @@ number_in xids xid =
 
 -- a table has just the numbers of a list
 abbrev pub AreNumbers : List ℕ → List (ℕ × ℕ) → Type 0
-AreNumbers xids numbers = (xid : ℕ) → value_of numbers xid ≡ number_in xids xid
+AreNumbers xids numbers = (xid : ℕ) → value_of_word numbers xid ≡ number_in xids xid

@@ -1,7 +1,7 @@
 -- Calls whose procedures are coded by their indices in a list, plus one.
 use Rattle.std.specs.Prelude.{◌≡◌, ℕ, ◌<◌, ◌≤◌, ◌-◌, List, map, length, slice_index_or, Some}
 use Rattle.rpc_head.specs.declared.call.ProcId.{ProcId}
-use Rattle.word_table.specs.Words.{value_of}
+use Rattle.word_table.specs.Words.{value_of_word}
 use Rattle.capture3.specs.declared.message.calls.NumberedCall.{NumberedCall}
 
 abbrev pub no_procedure : ProcId
@@ -19,7 +19,7 @@ abbrev pub IsCode : ℕ → ℕ → Type 0
 IsCode count code = (0 < code) × (code ≤ count)
 
 abbrev pub AreCodes : ℕ → List (ℕ × ℕ) → Type 0
-AreCodes count pairs = (xid code : ℕ) → value_of pairs xid ≡ Some code → IsCode count code
+AreCodes count pairs = (xid code : ℕ) → value_of_word pairs xid ≡ Some code → IsCode count code
 
 abbrev pub IsCodeOf : List ProcId → ℕ → ProcId → Type 0
 IsCodeOf procedures code id =

@@ -1,5 +1,5 @@
 use Rattle.std.proofs.Common.{◌<◌, ◌≤◌, ℕ}
-use Rattle.word_table.specs.machinery.Slots.{IsOther}
+use Rattle.word_table.specs.machinery.Probing.{IsOther}
 use Rattle.word_table.proofs.slots.probe.Given as goal
 
 abbrev pub invariant-loop-at : goal.invariant-loop-at

@@ -1,8 +1,7 @@
 use Rattle.std.proofs.lemmas.List.{length-replicate}
-use Rattle.std.proofs.Common.{◌≡◌, ◌-◌, ℕ, List, length, replicate, vec_len, get_or, subst, sym, ap, ◌∙◌, refl, arith}
-use Rattle.word_table.specs.declared.slots.Slot.{Slot}
-use Rattle.word_table.specs.machinery.Slots.{empty_slot, home_of, pairs, AreAllPlaced}
-use Rattle.word_table.specs.Words.{value_of}
+use Rattle.std.proofs.Common.{◌≡◌, ◌-◌, replicate, vec_len, get_or, sym, ap, ◌∙◌, refl, arith}
+use Rattle.word_table.specs.Slots.{empty_slot, home_of_word, pairs}
+use Rattle.word_table.specs.Words.{value_of_word}
 use Rattle.word_table.proofs.Refilling.{all_moved, before, moves, placed_empty, resized_empty, same_empty, skips}
 use Rattle.word_table.proofs.word_table.refill.Given.{Over}
 use Rattle.word_table.proofs.word_table.refill.Goals as goal
@@ -19,7 +18,7 @@ loop-slot-init g c = rw (are_empty g c) (record {
       let fits = c.ranges.mask.fits in
       let sum = c.saturating_add.ensures in
       omega arith;
-  placed = placed_empty (home_of g.S.BuildHasher g.S.Hasher.Hasher c.args.hasher.now c.args.mask) (c.saturating_add.result - vec_len c.clear.new.self);
+  placed = placed_empty (home_of_word g.S.BuildHasher g.S.Hasher.Hasher c.args.hasher.now c.args.mask) (c.saturating_add.result - vec_len c.clear.new.self);
   same = same_empty (c.saturating_add.result - vec_len c.clear.new.self) c.args.from.now;
 })
 
@@ -36,7 +35,7 @@ pub loop-slot-preserved : goal.loop-slot-preserved
 loop-slot-preserved g c = elim c.if-slot-ne0.branch [
   | then-slot-ne0+in_ok-admit w ↦ rw w.to-is (record {
     homes = let homes = c.loop-slot.invariant.homes in let longer = w.admit.ensures.longer in omega arith;
-    placed = w.admit.ensures.placed (home_of g.S.BuildHasher g.S.Hasher.Hasher c.args.hasher.now c.args.mask) (sym w.home.ensures.home) c.loop-slot.invariant.placed;
+    placed = w.admit.ensures.placed (home_of_word g.S.BuildHasher g.S.Hasher.Hasher c.args.hasher.now c.args.mask) (sym w.home.ensures.home) c.loop-slot.invariant.placed;
     same = λ word.
         moves c.args.from.now c.loop-slot.slot-index word (get_or c.args.from.now c.loop-slot.slot-index empty_slot) _ _ c.loop-slot-test.true refl w.if-slot-ne0.true w.in_ok-admit.ensures.added
         ∙ c.loop-slot.invariant.same word;
@@ -45,7 +44,7 @@ loop-slot-preserved g c = elim c.if-slot-ne0.branch [
     homes = c.loop-slot.invariant.homes;
     placed = c.loop-slot.invariant.placed;
     same = λ word.
-        ap (before (value_of (pairs c.loop-slot.to.items) word)) (sym (skips c.args.from.now c.loop-slot.slot-index word (get_or c.args.from.now c.loop-slot.slot-index empty_slot) c.loop-slot-test.true refl w.if-slot-ne0.false))
+        ap (before (value_of_word (pairs c.loop-slot.to.items) word)) (sym (skips c.args.from.now c.loop-slot.slot-index word (get_or c.args.from.now c.loop-slot.slot-index empty_slot) c.loop-slot-test.true refl w.if-slot-ne0.false))
         ∙ c.loop-slot.invariant.same word;
   })
 ]

@@ -1,6 +1,6 @@
 use Rattle.std.proofs.Common.{◌≡◌, ◌+◌, ◌++◌, ◌∷◌, [], ℕ, List, length, min, nat_eq, None, ap, sym, subst, ◌∙◌}
 use Rattle.std.specs.List.{position_or_len}
-use Rattle.word_table.specs.Words.{value_of}
+use Rattle.word_table.specs.Words.{value_of_word}
 use Rattle.canon3.specs.Rank.{number_limit}
 use Rattle.canon3.specs.machinery.XidNumbers.{AreNumbers}
 use Rattle.canon3.proofs.OtherXidsLemmas.{are_after_new, number_absent}
@@ -8,7 +8,7 @@ use Rattle.canon3.proofs.other_xids.OtherXids.number_of.Goals as goal
 use Rattle.canon3.proofs.other_xids.OtherXids.number_of.Given.{Over}
 use Rattle.canon3.proofs.other_xids.OtherXids.number_of.Goals.{In_default}
 
-is_new : (g : Over) (c : In_default g) → value_of c.self.inside.numbers c.args.xid ≡ None
+is_new : (g : Over) (c : In_default g) → value_of_word c.self.inside.numbers c.args.xid ≡ None
 is_new g c = sym c.in_ok-number.ensures.there ∙ c.in_default.is
 
 next_is : (g : Over) (c : In_default g) → c.number_after-next.result ≡ min (1 + length c.self.inside.xids.items) number_limit

@@ -1,9 +1,9 @@
-use Rattle.std.proofs.Common.{◌≡◌, ◌==◌, ◌-◌, if◌then◌else◌, true, arith, ap, sym, ◌∙◌, refl, Option, Some, None, List, get_or}
+use Rattle.std.proofs.Common.{◌≡◌, ◌==◌, ◌-◌, if◌then◌else◌, arith, ap, sym, ◌∙◌, refl, Option, Some, None, List}
 use Rattle.std.proofs.lemmas.List.{get_or_read}
-use Rattle.word_table.specs.Words.{value_of}
+use Rattle.word_table.specs.Words.{value_of_word}
 use Rattle.rpc_head.specs.declared.call.ProcId.{ProcId}
 use Rattle.capture3.specs.declared.message.calls.NumberedCall.{NumberedCall}
-use Rattle.capture3.specs.machinery.Calls.{found, Puts}
+use Rattle.capture3.specs.machinery.Calls.{found}
 use Rattle.capture3.specs.machinery.OtherCalls.{no_procedure, procedure_at}
 use Rattle.capture3.specs.BodyProgram.{agrees}
 use Rattle.capture3.proofs.OtherCallsLemmas.{found-kept, found-known, eq-same, others_admitted, puts_admitted}
@@ -23,7 +23,7 @@ pub returns-in-Some-clause-agrees : goal.returns-in-Some-clause-agrees
 returns-in-Some-clause-agrees g c =
     let old = c.self.inside.procedures.items in
     let new = c.code_of.new.procedures.items in
-    let there : Some c.in-Some.known ≡ value_of c.self.inside.codes c.args.xid = sym c.in-Some.is ∙ c.in_ok-known.ensures.there in
+    let there : Some c.in-Some.known ≡ value_of_word c.self.inside.codes c.args.xid = sym c.in-Some.is ∙ c.in_ok-known.ensures.there in
     let stays = c.in_ok-code.ensures.stay c.in-Some.known (c.self.invariant c.args.xid c.in-Some.known (sym there)) in
     let least = stays.0.0 in
     let most = stays.0.1 in

@@ -1,4 +1,4 @@
-use Rattle.std.proofs.Common.{◌≡◌, ◌-◌, arith, Some, None, List, Option, ap, sym, ◌∙◌}
+use Rattle.std.proofs.Common.{◌-◌, arith, Some, None, List, ap, sym, ◌∙◌}
 use Rattle.std.proofs.lemmas.List.{get_or_read}
 use Rattle.rpc_head.specs.declared.call.ProcId.{ProcId}
 use Rattle.capture3.specs.declared.message.calls.NumberedCall.{NumberedCall}
