@@ -30,6 +30,7 @@ pub mod PartingLemmas
 pub mod SinkWritesLemmas
 pub mod Tables
 pub mod XidNumbersLemmas
+pub mod OtherXidsLemmas
 pub mod Visiting
 pub mod Opening
 pub mod Growing

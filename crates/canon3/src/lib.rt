@@ -11,6 +11,7 @@ pub mod laws;
 mod mem_sink;
 mod message_writer;
 mod numbers;
+mod other_xids;
 mod passed;
 mod progress;
 mod sink;

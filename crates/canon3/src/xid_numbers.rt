@@ -6,7 +6,7 @@ ghost use Rattle.std.specs.List.{list_any, position_or_len};
 ghost use Rattle.canon3.specs.Rank.{rank, HoldsDistinct, number_limit, with_key};
 ghost use Rattle.canon3.specs.machinery.XidNumbers.{placed};
 
-use indexmap::IndexSet;
+use crate::other_xids::OtherXids;
 use std::alloc::{AllocError, Global};
 use std::hash::BuildHasher;
 use std::marker::Model;
@@ -132,7 +132,7 @@ impl CountedXids {
 #[derive(Drop)]
 pub(crate) struct XidNumbers<S: BuildHasher + Drop> {
     counted: CountedXids,
-    others: IndexSet<u32, S>,
+    others: OtherXids<S>,
 }
 
 impl<S: BuildHasher + Drop> Model for XidNumbers<S> {
@@ -140,31 +140,21 @@ impl<S: BuildHasher + Drop> Model for XidNumbers<S> {
 
     ghost Value = { List ℕ };
 
-    ghost view = { λ n. n.counted ++ n.others.keys };
+    ghost view = { λ n. n.counted ++ n.others };
 }
 
 /// Returns the number of an xid that is not counted, and adds it to the others if it is new.
 fn number_among<S: BuildHasher + Drop>(
     counted: u32,
-    others: &mut IndexSet<u32, S>,
+    others: &mut OtherXids<S>,
     xid: u32,
 ) -> Result<u32, AllocError>
     ensures number { IfOk result (λ n. n
-        ≡ min (1 + (counted + position_or_len (nat_eq xid) others.old.keys)) number_limit) }
-    ensures given { OnOk result (others.new.keys ≡ with_key nat_eq others.old.keys xid) }
+        ≡ min (1 + (counted + position_or_len (nat_eq xid) others.old)) number_limit) }
+    ensures given { OnOk result (others.new ≡ with_key nat_eq others.old xid) }
 {
-    let (index, _) = others.insert_full(xid)?;
-    Ok(number_after(counted, index))
-}
-
-/// Returns the number of an xid at this position among the others, after so many that are counted.
-fn number_after(counted: u32, index: usize) -> u32
-    ensures { result ≡ min (1 + (counted + index)) number_limit }
-{
-    u32::try_from(index)
-        .unwrap_or(u32::MAX)
-        .saturating_add(counted)
-        .saturating_add(1)
+    let number = others.number_of(xid)?;
+    Ok(number.saturating_add(counted))
 }
 
 impl<S: BuildHasher + Drop> XidNumbers<S> {
@@ -174,7 +164,7 @@ impl<S: BuildHasher + Drop> XidNumbers<S> {
     {
         XidNumbers {
             counted: CountedXids::none(),
-            others: IndexSet::with_hasher(alloc, hasher),
+            others: OtherXids::new(alloc, hasher),
         }
     }
 
@@ -198,12 +188,11 @@ impl<S: BuildHasher + Drop> XidNumbers<S> {
         number_among(self.counted.len(), &mut self.others, xid)
     }
 
-    /// Drops the xids, and keeps the hasher and the memory. Its cost follows what the table holds,
-    /// not its capacity.
+    /// Drops the xids, and keeps the hasher and the memory. Its cost does not depend on them.
     pub(crate) fn clear(&mut self)
         ensures { HoldsDistinct nat_eq self.new [] }
     {
         self.counted = CountedXids::none();
-        self.others.truncate(0);
+        self.others.clear();
     }
 }

@@ -12,7 +12,7 @@ use Rattle.record_mark.specs.Machine.{Runs, Stops, Stopped}
 use Rattle.record_mark.specs.Taking.{Taking, Led, OutOfMemory, IsRunning, released}
 use Rattle.std.specs.declared.hash.BuildHasher as BuildHasher
 use Rattle.std.specs.declared.hash.Hasher as Hasher
-use Rattle.indexmap.proofs.RemoveLemmas.{popped_last}
+use Rattle.std.proofs.lemmas.List.{same_from_push}
 use Rattle.capture3.specs.declared.message.calls.NumberedCall.{NumberedCall}
 use Rattle.capture3.specs.declared.reader.entries.Entries.{Entries}
 use Rattle.capture3.specs.declared.reader.entries.Stage.{Stage}
@@ -256,7 +256,7 @@ module _ {R S H : Type 0} {builds : BuildHasher.Ghosts S H} {hashes : Hasher.Gho
 
   now_last : (e : Entries R S H builds hashes) (handed : List Entry) (came : Kind) (entry : Entry) → e.last ≡ Some came → IsHeld came e.parser.container.joiner entry → HoldsLast e (handed ++ entry ∷ [])
   now_last e handed came entry last held front other ends kind is =
-      let one : Some other ≡ Some entry = (popped_last handed front entry (Some other) ends refl).0 in
+      let one : Some other ≡ Some entry = ap (λ (e : Entry). Some e) (sym (same_from_push handed front entry other ends).1) in
       let entries : entry ≡ other = cc in
       let kinds : came ≡ kind = cc in
       subst (λ (one : Entry). IsHeld kind e.parser.container.joiner one) entries (subst (λ (k : Kind). IsHeld k e.parser.container.joiner entry) kinds held)

@@ -35,6 +35,7 @@ pub mod ReachedBeforeFaults
 pub mod EntryParserLemmas
 pub mod LineLemmas
 pub mod HashedCallsLemmas
+pub mod OtherCallsLemmas
 pub mod EndedMachines
 pub mod SideRules
 pub mod SidedChunksRules

@@ -6,6 +6,7 @@ pub mod Entries
 pub mod EntryParser
 pub mod MessageScan
 pub mod Messages
+pub mod OtherCalls
 pub mod Position
 pub mod KeptStreams
 pub mod FileStanding

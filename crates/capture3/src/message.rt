@@ -3,6 +3,7 @@
 pub(crate) mod calls;
 pub(crate) mod counted_calls;
 pub(crate) mod counting;
+pub(crate) mod other_calls;
 pub(crate) mod scan;
 pub(crate) mod silent;
 

@@ -12,3 +12,5 @@ mod parts;
 mod procedures;
 #[cfg(test)]
 mod records;
+#[cfg(test)]
+mod words;

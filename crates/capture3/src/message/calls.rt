@@ -110,13 +110,12 @@ pub(crate) struct HashedCalls<S: BuildHasher + Drop> {
 }
 
 impl<S: BuildHasher + Drop> Model for HashedCalls<S> {
-    ghost use Rattle.std.specs.Prelude.{List};
-    ghost use Rattle.capture3.specs.machinery.Calls.{all_calls};
+    ghost use Rattle.std.specs.Prelude.{◌++◌, List};
     ghost use Rattle.capture3.specs.declared.message.calls.NumberedCall.{NumberedCall};
 
     ghost Value = { List NumberedCall };
 
-    ghost view = { λ calls. all_calls calls.table.line.items calls.table.others.entries };
+    ghost view = { λ calls. calls.table.line.items ++ calls.table.others };
 }
 
 impl<S: BuildHasher + Drop> HashedCalls<S> {

@@ -1,29 +1,19 @@
 //! The calls of a connection, whose xids mostly count up.
 
-ghost use Rattle.std.specs.Prelude.{◌≡◌, ◌≤◌, ◌<◌, [], None, IfOk, IfSome, IsFalse, IsTrue, OnOk, Some, length};
-ghost use Rattle.capture3.specs.machinery.Calls.{all_calls, found, numbered_calls, AreAbove, FindsSame, Gains, IsLine, Puts};
+ghost use Rattle.std.specs.Prelude.{◌≡◌, ◌≤◌, ◌<◌, ◌++◌, [], None, IfOk, IfSome, IsFalse, IsTrue, OnOk, Some, length};
+ghost use Rattle.capture3.specs.machinery.Calls.{found, AreAbove, FindsSame, Gains, IsLine, Puts};
 ghost use Rattle.capture3.specs.machinery.Counting.{home_of};
 ghost use Rattle.capture3.specs.BodyProgram.{agrees};
 
 use crate::message::calls::NumberedCall;
 use crate::message::counting::Counting;
-use indexmap::IndexMap;
+use crate::message::other_calls::OtherCalls;
 use rpc_head::ProcId;
 use std::alloc::{AllocError, Global};
 use std::hash::BuildHasher;
 
 /// How many homes of a line may be empty, besides a quarter of its length.
 const FEW: usize = 16;
-
-/// Returns whether there is no procedure, or it is this one.
-fn is_none_or(other: Option<ProcId>, id: ProcId) -> bool
-    ensures { result ≡ agrees other id }
-{
-    match other {
-        None => true,
-        Some(other) => other == id,
-    }
-}
 
 /// Calls, most of them in a line, and the others hashed by their xids. The hasher affects no
 /// result.
@@ -33,26 +23,23 @@ pub(crate) struct CountedCalls<S: BuildHasher + Drop> {
     // Each call is at the home of its xid. An empty home has a copy of the first call.
     line: Vec<NumberedCall>,
     empty_homes: usize,
-    others: IndexMap<u32, ProcId, S>,
-    // No other call has its home below.
+    others: OtherCalls<S>,
+    // No other call has its home below. If there is none, it is `usize::MAX`.
     nearest: usize,
-    // The index of the other call whose reply is expected next.
-    next: usize,
     ghost lined: { IsLine (home_of counting) line.items },
-    ghost above: { AreAbove (home_of counting) nearest others.entries },
+    ghost above: { AreAbove (home_of counting) nearest others },
 }
 
 impl<S: BuildHasher + Drop> CountedCalls<S> {
     pub(crate) fn new(alloc: Global, hasher: S) -> CountedCalls<S>
-        ensures { all_calls result.line.items result.others.entries ≡ [] }
+        ensures { result.line.items ++ result.others ≡ [] }
     {
         CountedCalls {
             counting: Counting::from(0, false),
             line: Vec::new(alloc),
             empty_homes: 0,
-            others: IndexMap::with_hasher(alloc, hasher),
+            others: OtherCalls::new(alloc, hasher),
             nearest: usize::MAX,
-            next: 0,
         }
     }
 
@@ -67,59 +54,26 @@ impl<S: BuildHasher + Drop> CountedCalls<S> {
         }
     }
 
-    /// Returns the procedure of the other call that is expected next, if it has this xid.
-    fn expected(&self, xid: u32) -> Option<ProcId>
-        ensures { IfSome result
-            (λ id. found (numbered_calls self.now.others.entries) xid ≡ Some id) }
-    {
-        match self.others.get_index(self.next) {
-            Some((next, id)) if *next == xid => Some(*id),
-            _ => None,
-        }
-    }
-
-    /// Returns the procedure of the other call that has this xid.
-    fn among_others(&mut self, xid: u32) -> Option<ProcId>
-        ensures found { result ≡ found (numbered_calls self.old.others.entries) xid }
-        ensures line { self.new.line.items ≡ self.old.line.items }
-        ensures others { self.new.others.entries ≡ self.old.others.entries }
-    {
-        if let Some(id) = self.expected(xid) {
-            self.next = self.next.saturating_add(1);
-            return Some(id);
-        }
-        match self.others.get_full(&xid) {
-            Some((index, _, id)) => {
-                let id = *id;
-                self.next = index.saturating_add(1);
-                Some(id)
-            }
-            None => None,
-        }
-    }
-
-    /// Adds a call that is not in the line to the others, as `admit` does. It takes the place of one
-    /// with its xid, which is the same unless they are at odds, so one look-up is enough.
+    /// Adds a call that is not in the line to the others, as `admit` does.
     fn admit_other(&mut self, xid: u32, id: ProcId) -> Result<bool, AllocError>
         requires new { found self.old.line.items xid ≡ None }
         ensures agrees { IfOk result (λ is. is ≡ agrees (found
-            (all_calls self.old.line.items self.old.others.entries) xid) id) }
+            (self.old.line.items ++ self.old.others) xid) id) }
         ensures added { IfOk result (λ is. IsTrue is
-            → Gains (all_calls self.old.line.items self.old.others.entries) xid id
-            (all_calls self.new.line.items self.new.others.entries)) }
+            → Gains (self.old.line.items ++ self.old.others) xid id
+            (self.new.line.items ++ self.new.others)) }
     {
         self.nearest = self.nearest.min(self.counting.home(xid));
-        let other = self.others.insert(xid, id)?;
-        Ok(is_none_or(other, id))
+        self.others.admit(xid, id)
     }
 
     /// Counts from the first call on, which is this one if there is none. The second tells the
     /// order of bytes.
     fn start_with(&mut self, xid: u32)
         ensures line { self.new.line.items ≡ self.old.line.items }
-        ensures others { self.new.others.entries ≡ self.old.others.entries }
+        ensures others { self.new.others ≡ self.old.others }
     {
-        if !self.others.is_empty() {
+        if self.nearest != usize::MAX {
             return;
         }
         match self.line.len() {
@@ -148,7 +102,7 @@ impl<S: BuildHasher + Drop> CountedCalls<S> {
         ensures same { FindsSame self.old.line.items self.new.line.items }
         ensures len { IfOk result (λ is. IsTrue is → length self.new.line.items ≡ home) }
         ensures counting { self.new.counting ≡ self.old.counting }
-        ensures others { self.new.others.entries ≡ self.old.others.entries }
+        ensures others { self.new.others ≡ self.old.others }
     {
         let Some(first) = self.line.first() else {
             return Ok(home == 0);
@@ -165,7 +119,7 @@ impl<S: BuildHasher + Drop> CountedCalls<S> {
         requires within { home < length self.old.line.items }
         ensures puts { IsTrue result → Puts self.old.line.items xid id self.new.line.items }
         ensures same { IsFalse result → self.new.line.items ≡ self.old.line.items }
-        ensures others { self.new.others.entries ≡ self.old.others.entries }
+        ensures others { self.new.others ≡ self.old.others }
     {
         let other = self.line[home];
         if self.counting.home(other.xid) == home {
@@ -183,7 +137,7 @@ impl<S: BuildHasher + Drop> CountedCalls<S> {
             → Puts self.old.line.items xid id self.new.line.items) }
         ensures same { IfOk result (λ is. IsFalse is
             → FindsSame self.old.line.items self.new.line.items) }
-        ensures others { self.new.others.entries ≡ self.old.others.entries }
+        ensures others { self.new.others ≡ self.old.others }
     {
         let home = self.counting.home(xid);
         if home < self.line.len() {
@@ -204,10 +158,10 @@ impl<S: BuildHasher + Drop> CountedCalls<S> {
     fn admit_aside(&mut self, xid: u32, id: ProcId) -> Result<bool, AllocError>
         requires new { found self.old.line.items xid ≡ None }
         ensures agrees { IfOk result (λ is. is ≡ agrees (found
-            (all_calls self.old.line.items self.old.others.entries) xid) id) }
+            (self.old.line.items ++ self.old.others) xid) id) }
         ensures added { IfOk result (λ is. IsTrue is
-            → Gains (all_calls self.old.line.items self.old.others.entries) xid id
-            (all_calls self.new.line.items self.new.others.entries)) }
+            → Gains (self.old.line.items ++ self.old.others) xid id
+            (self.new.line.items ++ self.new.others)) }
     {
         self.start_with(xid);
         if self.counting.home(xid) >= self.nearest {
@@ -223,39 +177,37 @@ impl<S: BuildHasher + Drop> CountedCalls<S> {
     /// Returns the procedure of the calls with this xid. The calls stay.
     pub(crate) fn procedure_of(&mut self, xid: u32) -> Option<ProcId>
         ensures found { result
-            ≡ found (all_calls self.old.line.items self.old.others.entries) xid }
+            ≡ found (self.old.line.items ++ self.old.others) xid }
         ensures line { self.new.line.items ≡ self.old.line.items }
-        ensures others { self.new.others.entries ≡ self.old.others.entries }
+        ensures others { self.new.others ≡ self.old.others }
     {
         match self.in_line(xid) {
             Some(id) => Some(id),
-            None => self.among_others(xid),
+            None => self.others.procedure_of(xid),
         }
     }
 
-    /// Forgets all calls. `IndexMap::clear` costs what the table has room for, `truncate` what it
-    /// holds. A connection of few calls may follow one of a million.
+    /// Forgets all calls. A connection of few calls may follow one of a million.
     pub(crate) fn clear(&mut self)
-        ensures { all_calls self.new.line.items self.new.others.entries ≡ [] }
+        ensures { self.new.line.items ++ self.new.others ≡ [] }
     {
         self.line.clear();
         self.empty_homes = 0;
-        self.others.truncate(0);
+        self.others.clear();
         self.nearest = usize::MAX;
-        self.next = 0;
     }
 
     /// Adds a call if its xid is new. Returns `false` if an earlier call has the same xid but
     /// another procedure. Most calls go to the end of the line.
     pub(crate) fn admit(&mut self, xid: u32, id: ProcId) -> Result<bool, AllocError>
         ensures agrees { IfOk result (λ is. is ≡ agrees (found
-            (all_calls self.old.line.items self.old.others.entries) xid) id) }
+            (self.old.line.items ++ self.old.others) xid) id) }
         ensures added { IfOk result (λ is. IsTrue is
-            → Gains (all_calls self.old.line.items self.old.others.entries) xid id
-            (all_calls self.new.line.items self.new.others.entries)) }
+            → Gains (self.old.line.items ++ self.old.others) xid id
+            (self.new.line.items ++ self.new.others)) }
     {
         if let Some(other) = self.in_line(xid) {
-            return Ok(is_none_or(Some(other), id));
+            return Ok(other == id);
         }
         let home = self.counting.home(xid);
         if home == self.line.len() && home < self.nearest {

@@ -1,0 +1,3 @@
+-- Lemmas of tables of words.
+pub mod SlotsLemmas
+pub mod Refilling

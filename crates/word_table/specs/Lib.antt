@@ -1,0 +1,4 @@
+-- Words, each with a value.
+pub mod Words
+pub mod Slots
+pub mod machinery
