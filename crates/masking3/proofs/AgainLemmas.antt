@@ -18,7 +18,7 @@ use Rattle.masking3.specs.declared.ways.Way.TheVariants.{Keep, Zero, Number}
 use Rattle.masking3.specs.declared.ways.Ways.{Ways}
 use Rattle.masking3.specs.Classes.{class_of, position, class_value, zero_stays}
 use Rattle.masking3.specs.Laws.{HasRoomForNumbers, KeepsAll, KeepsValues, StaysMasked}
-use Rattle.masking3.specs.Masked.{by_way, is_zero_that_stays, masked, masked_values, masked_entry, masked_item, masked_items, number_among, substitute, value_in, value_where, values, values_in, values_of, with_value}
+use Rattle.masking3.specs.Masked.{by_way, is_zero_that_stays, masked, masked_values, masked_entry, masked_item, masked_items, number_among, substitute, value_in, value_where, values, values_in, values_in_entry, with_value}
 use Rattle.masking3.specs.Unnamed.{names_by}
 use Rattle.masking3.specs.Ways.{way_of}
 use Rattle.masking3.proofs.ClassLemmas.{none_of_other, same_class}
@@ -186,7 +186,7 @@ module _ (ways : Ways) (seen : Class → List ℕ) (room : (c : Class) → lengt
   abbrev numbers : Class → ℕ → ℕ
   numbers d n = rank nat_eq n (seen d)
 
-  entry_values : (d : Class) → way_of ways d ≡ Number → (e : Entry) → EntryIsAmong seen e → values_of d (masked_entry ways seen e) ≡ map (numbers d) (values_of d e)
+  entry_values : (d : Class) → way_of ways d ≡ Number → (e : Entry) → EntryIsAmong seen e → values_in_entry d (masked_entry ways seen e) ≡ map (numbers d) (values_in_entry d e)
   entry_values d way Begin among = refl
   entry_values d way (Call items) among = message_values ways seen Client room d way items among
   entry_values d way Turn among = refl
@@ -197,7 +197,7 @@ module _ (ways : Ways) (seen : Class → List ℕ) (room : (c : Class) → lengt
   entries_values : (d : Class) → way_of ways d ≡ Number → (entries : List Entry) → AreAmong seen entries → values (map (masked_entry ways seen) entries) d ≡ map (numbers d) (values entries d)
   entries_values d way [] among = refl
   entries_values d way (e ∷ entries) among =
-      ap₂ (λ (l m : List ℕ). l ++ m) (entry_values d way e among.0) (entries_values d way entries among.1) ∙ sym (map-append (numbers d) (values_of d e) (values entries d))
+      ap₂ (λ (l m : List ℕ). l ++ m) (entry_values d way e among.0) (entries_values d way entries among.1) ∙ sym (map-append (numbers d) (values_in_entry d e) (values entries d))
 
   module _ (now : Class → List ℕ) (are : (d : Class) → way_of ways d ≡ Number → now d ≡ map (numbers d) (seen d)) where
     entry_again : (e : Entry) → EntryIsAmong seen e → masked_entry ways now (masked_entry ways seen e) ≡ masked_entry ways seen e

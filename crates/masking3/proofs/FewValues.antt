@@ -17,7 +17,7 @@ use Rattle.canon3.proofs.Files.{all_entries, holds}
 use Rattle.canon3.proofs.RankLemmas.{cond_either}
 use Rattle.masking3.specs.declared.class.Class.{Class}
 use Rattle.masking3.specs.Classes.{class_of_fixed, class_of_hyper, class_of_word, class_value, position}
-use Rattle.masking3.specs.Masked.{is_zero_that_stays, value_in, value_where, values, values_in, values_of}
+use Rattle.masking3.specs.Masked.{is_zero_that_stays, value_in, value_where, values, values_in, values_in_entry}
 
 module _ (d : Class) where
   one_value : (o : Option Class) (n : ℕ) → length (value_where d o n) ≤ 1
@@ -38,7 +38,7 @@ module _ (d : Class) where
       omega (arith, few_of_item side i p.0 p.2, few_of_message side items p.1 p.3, length-append (value_in d side i) (values_in d side items), length-append (zero_spelling_of i) (zero_spelling items))
 
   abbrev IsFew : Entry → Type 0
-  IsFew e = length (values_of d e) ≤ length (zero_spelling (items_of e))
+  IsFew e = length (values_in_entry d e) ≤ length (zero_spelling (items_of e))
 
   few_of_entries : (entries : List Entry) → AllByRecursion IsFew entries → length (values entries d) ≤ spelled entries
   few_of_entries [] h = omega arith
@@ -58,5 +58,5 @@ module _ (d : Class) where
 
   pub few_of_first : (entries : List Entry) → AreFirst entries → length (values entries d) ≤ max_bytes
   few_of_first entries first =
-      let all : values first.all d ≡ values entries d ++ values first.more d = ap (λ l. values l d) first.split ∙ flat_map-append (values_of d) entries first.more in
+      let all : values first.all d ≡ values entries d ++ values first.more d = ap (λ l. values l d) first.split ∙ flat_map-append (values_in_entry d) entries first.more in
       omega (arith, few_of_file first.file first.all first.typed, ap length all, length-append (values entries d) (values first.more d))

@@ -21,7 +21,7 @@ use Rattle.masking3.specs.declared.ways.Way.{Way}
 use Rattle.masking3.specs.declared.ways.Way.TheVariants.{Keep, Zero, Number}
 use Rattle.masking3.specs.declared.ways.Ways.{Ways}
 use Rattle.masking3.specs.Classes.{class_of, position, class_value}
-use Rattle.masking3.specs.Masked.{by_way, is_zero_that_stays, masked, masked_bytes, masked_entry, masked_item, masked_items, masked_values, number_among, substitute, value_in, value_where, values, values_in, values_of, with_value}
+use Rattle.masking3.specs.Masked.{by_way, is_zero_that_stays, masked, masked_bytes, masked_entry, masked_item, masked_items, masked_values, number_among, substitute, value_in, value_where, values, values_in, values_in_entry, with_value}
 use Rattle.masking3.specs.Unnamed.{named_entry, names_by}
 use Rattle.masking3.specs.Ways.{way_of}
 use Rattle.masking3.proofs.ClassLemmas.{seen_alike}
@@ -59,7 +59,7 @@ module _ (seen : Class → List ℕ) where
     items_among side items (λ d x m. within d x (member-append_right (value_in d side i) m)),
   )
 
-  entry_among : (e : Entry) → ((d : Class) (x : ℕ) → Member x (values_of d e) → Member x (seen d)) → EntryIsAmong seen e
+  entry_among : (e : Entry) → ((d : Class) (x : ℕ) → Member x (values_in_entry d e) → Member x (seen d)) → EntryIsAmong seen e
   entry_among Begin within = tt
   entry_among (Call items) within = items_among Client items within
   entry_among Turn within = tt
@@ -71,7 +71,7 @@ module _ (seen : Class → List ℕ) where
   all_among [] within = tt
   all_among (e ∷ entries) within = (
     entry_among e (λ d x m. within d x (member-append_left (values entries d) m)),
-    all_among entries (λ d x m. within d x (member-append_right (values_of d e) m)),
+    all_among entries (λ d x m. within d x (member-append_right (values_in_entry d e) m)),
   )
 
 pub among_own : (entries : List Entry) → AreAmong (values entries) entries
@@ -122,7 +122,7 @@ unmasked ways seen side i none = ap (λ o. with_value i (substitute ways seen o 
 
 -- the values of entries, and of more after them
 pub values_split : (a b : List Entry) → values (a ++ b) ≡ (λ d. values a d ++ values b d)
-values_split a b = seen_alike (values (a ++ b)) (λ d. values a d ++ values b d) (λ d. flat_map-append (values_of d) a b)
+values_split a b = seen_alike (values (a ++ b)) (λ d. values a d ++ values b d) (λ d. flat_map-append (values_in_entry d) a b)
 
 -- ---- the form grows
 

@@ -20,7 +20,7 @@ use Rattle.masking3.specs.declared.ways.Way.TheVariants.{Keep, Zero, Number}
 use Rattle.masking3.specs.declared.ways.Ways.{Ways}
 use Rattle.masking3.specs.Classes.{class_of, class_of_word, class_value, position}
 use Rattle.masking3.specs.Laws.{KeepsValues}
-use Rattle.masking3.specs.Masked.{by_way, is_zero_that_stays, masked_values, masked_entry, masked_item, masked_items, number_among, substitute, value_in, value_where, values, values_in, values_of, with_value}
+use Rattle.masking3.specs.Masked.{by_way, is_zero_that_stays, masked_values, masked_entry, masked_item, masked_items, number_among, substitute, value_in, value_where, values, values_in, values_in_entry, with_value}
 use Rattle.masking3.specs.SameBut.{AreAlike, words, hypers, eights, IsNumbered, ArePartners, ChangesBy, ChangesOf, ChangesItem, ChangesEntry, begin, call, turn, reply, close, end, SameButValues}
 use Rattle.masking3.specs.Ways.{way_of}
 use Rattle.masking3.proofs.AgainLemmas.{by_class, no_zero, small, value_put, zero_still}
@@ -284,7 +284,7 @@ in_message_numbered : (d : Class) (side : Side) (items : List Item) (x : ℕ) �
 in_message_numbered d side [] x m = elim m [ ]
 in_message_numbered d side (i ∷ items) x m = ⊎_elim (value_numbered d (class_of side i) (class_value i) x) (in_message_numbered d side items x) (member-append_cases (value_in d side i) m)
 
-in_entry_numbered : (d : Class) (e : Entry) (x : ℕ) → Member x (values_of d e) → IsNumbered d x
+in_entry_numbered : (d : Class) (e : Entry) (x : ℕ) → Member x (values_in_entry d e) → IsNumbered d x
 in_entry_numbered d Begin x m = elim m [ ]
 in_entry_numbered d (Call items) x m = in_message_numbered d Client items x m
 in_entry_numbered d Turn x m = elim m [ ]
@@ -294,7 +294,7 @@ in_entry_numbered d End x m = elim m [ ]
 
 pub values_numbered : (d : Class) (entries : List Entry) (x : ℕ) → Member x (values entries d) → IsNumbered d x
 values_numbered d [] x m = elim m [ ]
-values_numbered d (e ∷ entries) x m = ⊎_elim (in_entry_numbered d e x) (values_numbered d entries x) (member-append_cases (values_of d e) m)
+values_numbered d (e ∷ entries) x m = ⊎_elim (in_entry_numbered d e x) (values_numbered d entries x) (member-append_cases (values_in_entry d e) m)
 
 module _ (seen : Class → List ℕ) where
   abbrev number_of : Class → ℕ → ℕ

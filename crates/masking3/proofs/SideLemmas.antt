@@ -21,9 +21,9 @@ use Rattle.canon3.proofs.RankLemmas.{by_test}
 use Rattle.masking3.specs.declared.class.Class.{Class}
 use Rattle.masking3.specs.declared.ways.Ways.{Ways}
 use Rattle.masking3.specs.Classes.{class_of_word}
-use Rattle.masking3.specs.Masked.{masked_item, masked_items, value_in, value_where, values, values_in, values_of}
+use Rattle.masking3.specs.Masked.{masked_item, masked_items, value_in, value_where, values, values_in, values_in_entry}
 use Rattle.masking3.specs.machinery.MaskingWriter.{as_in_call, as_in_calls, entry_as_call, values_so_far}
-use Rattle.masking3.specs.machinery.MessageSide.{BeginsOn, mtype_of, side_of}
+use Rattle.masking3.specs.machinery.MessageSide.{BeginsOn, mtype_of, side_by_mtype}
 use Rattle.masking3.proofs.ClassLemmas.{seen_alike}
 use Rattle.masking3.proofs.MaskedLemmas.{unmasked}
 use Rattle.masking3.proofs.MaskedShapes.{xid_free}
@@ -64,7 +64,7 @@ mtype_free : (side : Side) → class_of_word side head_names.mtype ≡ None
 unfolding names head_names
 mtype_free side = refl
 
-side_read : (side : Side) (xid : ℕ) (back : List ℕ) → side_of (word_bytes xid ++ (word_bytes (mtype_of side) ++ back)) ≡ side
+side_read : (side : Side) (xid : ℕ) (back : List ℕ) → side_by_mtype (word_bytes xid ++ (word_bytes (mtype_of side) ++ back)) ≡ side
 side_read Client xid back =
     let body = word_bytes xid ++ (word_bytes 0 ++ back) in
     let enough : 8 ≤ length body = omega arith in
@@ -75,18 +75,18 @@ side_read Server xid back =
     ap₂ (λ (x : Bool) (m : ℕ). if x && (m == 0) then Client else Server) (le-leb 8 (length body) enough) (big_number-reads_back 4 1 back (omega arith))
 
 module _ (ways : Ways) (seen : Class → List ℕ) (side : Side) (body : List ℕ) where
-  no_class : (name free : List ℕ) → name ≡ free → ((s : Side) → class_of_word s free ≡ None) → class_of_word (side_of body) name ≡ class_of_word side name
-  no_class name free is none = ap (class_of_word (side_of body)) is ∙ (none (side_of body) ∙ sym (ap (class_of_word side) is ∙ none side))
+  no_class : (name free : List ℕ) → name ≡ free → ((s : Side) → class_of_word s free ≡ None) → class_of_word (side_by_mtype body) name ≡ class_of_word side name
+  no_class name free is none = ap (class_of_word (side_by_mtype body)) is ∙ (none (side_by_mtype body) ∙ sym (ap (class_of_word side) is ∙ none side))
 
-  after_two : (name : List ℕ) (xid : ℕ) (items : List Item) → body ≡ zero_spelling (masked_items ways seen side (Word head_names.xid xid ∷ Word head_names.mtype (mtype_of side) ∷ items)) → class_of_word (side_of body) name ≡ class_of_word side name
+  after_two : (name : List ℕ) (xid : ℕ) (items : List Item) → body ≡ zero_spelling (masked_items ways seen side (Word head_names.xid xid ∷ Word head_names.mtype (mtype_of side) ∷ items)) → class_of_word (side_by_mtype body) name ≡ class_of_word side name
   after_two name xid items written =
       let back : List Item = masked_items ways seen side items in
       let first = unmasked ways seen side (Word head_names.xid xid) (xid_free side) in
       let second = unmasked ways seen side (Word head_names.mtype (mtype_of side)) (mtype_free side) in
       let is : body ≡ zero_spelling (Word head_names.xid xid ∷ Word head_names.mtype (mtype_of side) ∷ back) = written ∙ ap₂ (λ (i j : Item). zero_spelling (i ∷ j ∷ back)) first second in
-      ap (λ s. class_of_word s name) (ap side_of is ∙ side_read side xid (zero_spelling back))
+      ap (λ s. class_of_word s name) (ap side_by_mtype is ∙ side_read side xid (zero_spelling back))
 
-  pub word_class : (items : List Item) (name : List ℕ) (n : ℕ) → BeginsOn side (items ++ Word name n ∷ []) → body ≡ zero_spelling (masked_items ways seen side items) → class_of_word (side_of body) name ≡ class_of_word side name
+  pub word_class : (items : List Item) (name : List ℕ) (n : ℕ) → BeginsOn side (items ++ Word name n ∷ []) → body ≡ zero_spelling (masked_items ways seen side items) → class_of_word (side_by_mtype body) name ≡ class_of_word side name
   word_class [] name n (xid, more, back, is) written = let named : name ≡ head_names.xid = cc in no_class name head_names.xid named xid_free
   word_class (a ∷ []) name n (xid, more, back, is) written = let named : name ≡ head_names.mtype = cc in no_class name head_names.mtype named mtype_free
   word_class (a ∷ b ∷ items) name n (xid, more, back, is) written =
@@ -129,7 +129,7 @@ module _ (d : Class) where
   values_as_in_calls Client items = refl
   values_as_in_calls Server items = values_as_in_call items
 
-  values_of_entry : (e : Entry) → values_in d Client (entry_as_call e) ≡ values_of d e
+  values_of_entry : (e : Entry) → values_in d Client (entry_as_call e) ≡ values_in_entry d e
   values_of_entry Begin = refl
   values_of_entry (Call items) = refl
   values_of_entry Turn = refl
@@ -142,7 +142,7 @@ module _ (d : Class) where
   values_before (e ∷ entries) =
       flat_map-append (value_in d Client) (entry_as_call e) (flat_map entry_as_call entries) ∙ ap₂ (λ (l m : List ℕ). l ++ m) (values_of_entry e) (values_before entries)
 
-  values_on_side : (e : Entry) → values_in d (entry_side e) (items_of e) ≡ values_of d e
+  values_on_side : (e : Entry) → values_in d (entry_side e) (items_of e) ≡ values_in_entry d e
   values_on_side Begin = refl
   values_on_side (Call items) = refl
   values_on_side Turn = refl
@@ -153,7 +153,7 @@ module _ (d : Class) where
   with_last : (entries : List Entry) (one : Entry) → values_so_far (flat_map entry_as_call entries) (entry_side one) (items_of one) d ≡ values (entries ++ one ∷ []) d
   with_last entries one =
       ap₂ (λ (l m : List ℕ). l ++ m) (values_before entries) (values_on_side one)
-      ∙ sym (flat_map-append (values_of d) entries (one ∷ []) ∙ ap (λ (l : List ℕ). values entries d ++ l) (append-nil (values_of d one)))
+      ∙ sym (flat_map-append (values_in_entry d) entries (one ∷ []) ∙ ap (λ (l : List ℕ). values entries d ++ l) (append-nil (values_in_entry d one)))
 
 -- the values so far, with those of the last entry
 pub values_with_last : (entries : List Entry) (one : Entry) → values_so_far (flat_map entry_as_call entries) (entry_side one) (items_of one) ≡ values (entries ++ one ∷ [])

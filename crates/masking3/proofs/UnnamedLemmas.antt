@@ -14,7 +14,7 @@ use Rattle.masking3.specs.declared.ways.Way.{Way}
 use Rattle.masking3.specs.declared.ways.Way.TheVariants.{Keep, Zero, Number}
 use Rattle.masking3.specs.declared.ways.Ways.{Ways}
 use Rattle.masking3.specs.Classes.{class_of, class_of_fixed, class_of_hyper, class_of_word, class_value}
-use Rattle.masking3.specs.Masked.{masked_entry, masked_item, masked_items, masked_values, substitute, value_in, value_where, values, values_in, values_of, with_value}
+use Rattle.masking3.specs.Masked.{masked_entry, masked_item, masked_items, masked_values, substitute, value_in, value_where, values, values_in, values_in_entry, with_value}
 use Rattle.masking3.specs.Unnamed.{after_first, emptied, less_by, named_by, named_entry, names_by, text_size, unnamed_credential}
 use Rattle.masking3.proofs.ClassLemmas.{seen_alike}
 use Rattle.masking3.proofs.MaskedLemmas.{unmasked}
@@ -74,7 +74,7 @@ module _ (d : Class) where
   named_values Zero l = after_values 7 l
   named_values Number l = after_values 7 l
 
-  entry_values : (way : Way) (e : Entry) → values_of d (named_entry way e) ≡ values_of d e
+  entry_values : (way : Way) (e : Entry) → values_in_entry d (named_entry way e) ≡ values_in_entry d e
   entry_values way Begin = refl
   entry_values way (Call items) = named_values way items
   entry_values way Turn = refl

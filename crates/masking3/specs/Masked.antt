@@ -35,14 +35,14 @@ value_in class side item = value_where class (class_of side item) (class_value i
 abbrev pub values_in : Class → Side → List Item → List ℕ
 values_in class side items = flat_map (value_in class side) items
 
-abbrev pub values_of : Class → Entry → List ℕ
-values_of class (Call items) = values_in class Client items
-values_of class (Reply id items) = values_in class Server items
-values_of class _ = []
+abbrev pub values_in_entry : Class → Entry → List ℕ
+values_in_entry class (Call items) = values_in class Client items
+values_in_entry class (Reply id items) = values_in class Server items
+values_in_entry class _ = []
 
 -- the values of a class in these entries, in order
 abbrev pub values : List Entry → Class → List ℕ
-values entries class = flat_map (values_of class) entries
+values entries class = flat_map (values_in_entry class) entries
 
 -- ---- what becomes of an item
 

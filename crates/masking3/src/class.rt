@@ -2,7 +2,7 @@
 
 ghost use Rattle.std.specs.Prelude.{◌≡◌};
 ghost use Rattle.masking3.specs.Classes.{class_of_fixed, class_of_group, class_of_hyper, class_of_word, position, zero_stays};
-ghost use Rattle.masking3.specs.machinery.MessageSide.{side_of};
+ghost use Rattle.masking3.specs.machinery.MessageSide.{side_by_mtype};
 
 use byteorder::{BigEndian, ByteOrder};
 use capture3::Side;
@@ -58,8 +58,8 @@ impl Class {
 
 /// Returns the side of a message whose bytes so far are these: its xid, its mtype, which is 0 in a call (RFC
 /// 5531, section 9), and some more.
-fn side_of(body: &[u8]) -> Side
-    ensures { result ≡ side_of body.now }
+fn side_by_mtype(body: &[u8]) -> Side
+    ensures { result ≡ side_by_mtype body.now }
 {
     if body.len() >= 8 && BigEndian::read_u32(&body[4..]) == 0 {
         Side::Client
@@ -81,7 +81,7 @@ fn class_of_group(side: Side) -> Option<Class>
 /// Returns the class of a word of this name, in a message whose bytes before the word are these.
 #[tactic(auto, unfolding(nfs3_types::specs::Names::names, rpc_head::specs::Names::head_names))]
 pub(crate) fn class_of_word(name: &str, body: &[u8]) -> Option<Class>
-    ensures { result ≡ class_of_word (side_of body.now) name.now }
+    ensures { result ≡ class_of_word (side_by_mtype body.now) name.now }
 {
     match name {
         "atime_sec" | "atime_nsec" | "mtime_sec" | "mtime_nsec" | "ctime_sec" | "ctime_nsec" => {
@@ -90,7 +90,7 @@ pub(crate) fn class_of_word(name: &str, body: &[u8]) -> Option<Class>
         "stamp" => Some(Class::Stamps),
         "invarsec" => Some(Class::Space),
         "uid" | "gid" => Some(Class::Owners),
-        "group" => class_of_group(side_of(body)),
+        "group" => class_of_group(side_by_mtype(body)),
         _ => None,
     }
 }

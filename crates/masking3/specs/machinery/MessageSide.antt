@@ -17,5 +17,5 @@ BeginsOn side items = (xid : ℕ) × (more back : List Item) × (items ++ more
     ≡ Word head_names.xid xid ∷ Word head_names.mtype (mtype_of side) ∷ back)
 
 -- the side of a message whose bytes begin with these
-abbrev pub side_of : List ℕ → Side
-side_of body = if nat_le 8 (length body) && (number_at 4 body == 0) then Client else Server
+abbrev pub side_by_mtype : List ℕ → Side
+side_by_mtype body = if nat_le 8 (length body) && (number_at 4 body == 0) then Client else Server
