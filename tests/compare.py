@@ -243,6 +243,20 @@ def equal_numbers_of_two_classes(place: Comparisons) -> None:
     place.wants('two classes', 0, [])
 
 
+def users_and_groups(place: Comparisons) -> None:
+    """Lists of groups are renamed with users and groups if owners are asked for, and become zero with them."""
+    def run(*owners: tuple[int, int, list[int]]) -> Conversation:
+        return [call(xid, NFS, 3, 0, b'', credential=auth_sys(1, b'box', *each)) for xid, each in enumerate(owners)], []
+    place.put('a', run((1000, 100, [100, 27]), (27, 100, [1000])))
+    place.put('b', run((1, 2, [2, 3]), (3, 2, [1])))
+    place.wants('renamed', 0, [], '--mask', '+owners')
+    place.wants('zero', 0, [], '--mask', '+owners=zero')
+    place.want('compared', place.compare('a', 'b')[0], 1)
+    place.put('b', run((1, 2, [2, 2]), (2, 2, [1])))
+    status, out, _ = place.compare('--mask', '+owners', 'a', 'b')
+    place.want('two become one', (status, set(re.findall(r'^  [-+] (\w+)=', '\n'.join(out), re.M))), (1, {'group', 'uid'}))
+
+
 def directories(place: Comparisons) -> None:
     """Entries in another order are one difference, and so is an entry that is missing."""
     def listing(made: Made, *files: int) -> list[tuple[int, bytes, bytes]]:
@@ -380,7 +394,7 @@ def refused_runs(place: Comparisons) -> None:
 
 TESTS: list[Callable[[Comparisons], None]] = [
     sequences_brought_together, elements_that_differ, words_of_masks, ordinary_runs, changed_fields, statuses_that_differ, one_call_more,
-    other_orders, bound_values, zero_cookies, equal_numbers_of_two_classes, directories, replies_of_one_call, files_by_their_paths,
+    other_orders, bound_values, zero_cookies, equal_numbers_of_two_classes, users_and_groups, directories, replies_of_one_call, files_by_their_paths,
     raw_messages, connections_of_one_run, random_traffic, example_recordings, pages, refused_runs]
 
 

@@ -1,5 +1,4 @@
-"""A masker by the layouts of `tools/layouts.py`, with which nfs3mask is compared, and which knows the classes by `tools/compare`'s names.
-Of users and groups it leaves the lists of groups in credentials alone, as nfs3mask does."""
+"""A masker by the layouts of `tools/layouts.py`, with which nfs3mask is compared, and which knows the classes by `tools/compare`'s names."""
 import random
 import sys
 from collections.abc import Iterable, Iterator
@@ -24,7 +23,7 @@ class Masker:
         self.numbers: dict[str, dict[int, int]] = {name: {} for name, way in mask.items() if way is Way.NUMBER}
 
     def class_of(self, name: str, is_call: bool) -> ValueClass | None:
-        return next((one for one in CLASSES if one.name in self.mask and one.has(name, is_call) and name not in ('group', 'machinename')), None)
+        return next((one for one in CLASSES if one.name in self.mask and one.has(name, is_call) and name != 'machinename'), None)
 
     def value(self, owner: ValueClass, content: bytes) -> bytes:
         """Returns what stands for a value, in its own width."""

@@ -150,7 +150,7 @@ class Traffic:
         return word(xid) + word(1) + word(0) + AUTH_NONE + word(status) + (self.bytes(8) if status == 2 else b'')
 
     def credential(self):
-        groups = [self.chance.randrange(1 << 32) for _ in range(self.chance.choice((0, 1, 16)))]
+        groups = [self.chance.choice((100, 1000, self.chance.randrange(1 << 32))) for _ in range(self.chance.choice((0, 1, 16)))]
         return auth_sys(1, self.text(), 1000, 100, groups) if self.likely() else word(0) + opaque(self.text())
 
     # --- Parts ---

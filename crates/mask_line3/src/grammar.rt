@@ -30,7 +30,7 @@ Classes, with their usual ways:
   cookies=number      cookies of directories; 0 stays
   cookieverfs=number  cookie verifiers; 0 stays
   createverfs=number  verifiers of exclusive creates
-  owners=keep         users and groups, but for lists of groups in credentials
+  owners=keep         users and groups, in attributes, settings and credentials
 
 Prints the line that `nfs3canon canon` prints, and then `masked` with the way of
 every class. OUT is written beside its name and gets the name when it is complete;

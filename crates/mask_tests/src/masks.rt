@@ -159,6 +159,33 @@ fn numbered_times(rt: HostRuntime) -> Result<(), Fail> {
     Ok(())
 }
 
+/// A NULL call of a user, a group, and a list of two groups.
+fn null_by(alloc: Global, owners: [u32; 4]) -> Result<Vec<u8>, AllocError> {
+    let mut bytes = Vec::new(alloc);
+    push_words(&mut bytes, &[0x4e46_5333, 0x4341_5031, 1, 72, 0x8000_0044])?;
+    push_words(&mut bytes, &[7, 0, 2, 100_003, 3, 0, 1, 28, 0, 0])?;
+    push_words(&mut bytes, &[owners[0], owners[1], 2, owners[2], owners[3]])?;
+    push_words(&mut bytes, &[0, 0, 0, 0, 0])?;
+    Ok(bytes)
+}
+
+#[test]
+fn lists_of_groups(rt: HostRuntime) -> Result<(), Fail> {
+    let bytes = null_by(rt.alloc(), [1000, 100, 27, 1000])?;
+    for (owners, form) in [
+        (Way::Keep, [1000, 100, 27, 1000]),
+        (Way::Zero, [0, 0, 0, 0]),
+        (Way::Number, [1, 2, 3, 1]),
+    ] {
+        let mut ways = Ways::none();
+        ways.owners = owners;
+        let mut sink = MemSink::new(rt.alloc(), 999, 9, 0)?;
+        assert_eq!(rt; masked(&rt, ways, &bytes, &mut sink).is_ok(), true);
+        assert_eq!(rt; sink.bytes(), null_by(rt.alloc(), form)?.as_slice());
+    }
+    Ok(())
+}
+
 #[test]
 fn a_sink_without_room(rt: HostRuntime) -> Result<(), Fail> {
     let mut sink = MemSink::new(rt.alloc(), 50, 9, 0)?;

@@ -7,7 +7,6 @@ use Rattle.capture3.specs.Entry.{Entry, Begin, Call, Turn, Reply, Close, End}
 use Rattle.canon3.specs.Bytes.{bytes_of}
 use Rattle.canon3.specs.Laws.{AreFirst}
 use Rattle.canon3.specs.Renaming.{Same}
-use Rattle.canon3.specs.machinery.Summary.{all_items}
 use Rattle.canon3.proofs.Conversations.{IsSpelledCall, IsSpelledReply}
 use Rattle.canon3.proofs.Equality.{same_reflexive, same_symmetric, same_transitive}
 use Rattle.canon3.proofs.Files.{all_entries, holds}
@@ -31,10 +30,10 @@ use Rattle.masking3.proofs.UnnamedLemmas.{all_values, values_of_named}
 use Rattle.masking3.proofs.UnnamedRenamings.{same_named}
 
 free_call : (m : List Item) → IsSpelledCall m → StartsFree m
-free_call m s = let h = is_headed_call m s.0.0 in subst StartsFree (sym h.is) xid_free
+free_call m s = let h = is_headed_call m s.0.0 in subst StartsFree (sym h.is) (λ side. xid_free side)
 
 free_reply : (r : ReplyItems) → IsSpelledReply r → StartsFree r.items
-free_reply r s = let h = is_headed_reply r.id r.items s.0.0 in subst StartsFree (sym h.is) xid_free
+free_reply r s = let h = is_headed_reply r.id r.items s.0.0 in subst StartsFree (sym h.is) (λ side. xid_free side)
 
 pub all_in_front : (P : Entry → Type 0) (a b : List Entry) → AllByRecursion P (a ++ b) → AllByRecursion P a
 all_in_front P [] b h = tt
@@ -46,7 +45,7 @@ xids_free a first =
     let all : AllByRecursion HasFreeXid first.all = subst (AllByRecursion HasFreeXid) (sym h.is) (all_entries HasFreeXid free_call free_reply tt tt tt tt h.cs h.are.converse) in
     all_in_front HasFreeXid a first.more (subst (AllByRecursion HasFreeXid) first.split all)
 
-pub room_of : (a : List Entry) → AreFirst a → (d : Class) → length (values (all_items a) d) < 2 ^ 64
+pub room_of : (a : List Entry) → AreFirst a → (d : Class) → length (values a d) < 2 ^ 64
 room_of a first d = omega (arith, few_of_first d a first)
 
 -- ---- without the names of machines
@@ -78,7 +77,7 @@ module _ (ways : Ways) (a : List Entry) (first : AreFirst a) where
   abbrev without : List Entry
   without = names_by ways.machines a
 
-  room_without : (d : Class) → length (values (all_items without) d) < 2 ^ 64
+  room_without : (d : Class) → length (values without d) < 2 ^ 64
   room_without d = subst (λ l. length l < 2 ^ 64) (sym (all_values d ways.machines a)) (room_of a first d)
 
   free_without : AllByRecursion HasFreeXid without

@@ -2,6 +2,7 @@
 pub mod ClassLemmas
 pub mod MaskedLemmas
 pub mod WriterLemmas
+pub mod SideLemmas
 pub mod FormLemmas
 pub mod AgainLemmas
 pub mod FewValues

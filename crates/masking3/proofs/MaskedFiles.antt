@@ -8,11 +8,12 @@ use Rattle.rpc_head.specs.Messages.{procedure_in}
 use Rattle.capture3.specs.Bodies.{ReplyItems, xid_in}
 use Rattle.capture3.specs.Capture.{total_size}
 use Rattle.capture3.specs.Chunks.{max_bytes}
+use Rattle.capture3.specs.declared.fault.Side.{Side}
+use Rattle.capture3.specs.declared.fault.Side.TheVariants.{Client, Server}
 use Rattle.capture3.specs.Entry.{Entry, Begin, Call, Turn, Reply, Close, End}
 use Rattle.capture3.specs.Typed.{AnswerCalls, HaveOneProcedure, IsIn, Typed, connection_entries, reply_entry}
 use Rattle.canon3.specs.Bytes.{record_bytes}
 use Rattle.canon3.specs.Laws.{AreOfTheirBytes}
-use Rattle.canon3.specs.machinery.Summary.{all_items}
 use Rattle.canon3.proofs.Conversations.{AreConversing, Conversation, IsSpelledCall, IsSpelledReply, in_map, items_of_reply, length_of_record, map_in, of_all, reply_items, stream_of, weight}
 use Rattle.canon3.proofs.Files.{AreCapture, all_of, entries_of, holds, total_of_anew, total_weight, typed_anew}
 use Rattle.canon3.proofs.RenamingLemmas.{all_mapped, all_weaker}
@@ -25,18 +26,18 @@ use Rattle.masking3.proofs.MaskedMessages.{call_under, call_xid_under, message_l
 use Rattle.masking3.proofs.UnnamedCalls.{call_named, named_length, named_procedure, named_spelled, named_xid}
 
 module _ (ways : Ways) (seen : Class → List ℕ) where
-  abbrev masks : List Item → List Item
-  masks items = under ways seen items
+  abbrev masks : Side → List Item → List Item
+  masks side items = under ways seen side items
 
   -- a call without the name of its machine, where these are masked
   abbrev calls_masked : List Item → List Item
-  calls_masked items = named_by ways.machines (masks items)
+  calls_masked items = named_by ways.machines (masks Client items)
 
   abbrev masked_one : Entry → Entry
   masked_one entry = named_entry ways.machines (masked_entry ways seen entry)
 
   abbrev masked_reply : ReplyItems → ReplyItems
-  masked_reply reply = record { id = reply.id; items = masks reply.items }
+  masked_reply reply = record { id = reply.id; items = masks Server reply.items }
 
   abbrev masked_conversation : Conversation → Conversation
   masked_conversation c = record { calls = map calls_masked c.calls; replies = map masked_reply c.replies }
@@ -49,7 +50,7 @@ module _ (ways : Ways) (seen : Class → List ℕ) where
 
   masked_replies : (replies : List ReplyItems) → map masked_one (map reply_entry replies) ≡ map reply_entry (map masked_reply replies)
   masked_replies [] = refl
-  masked_replies (r ∷ replies) = ap (λ (l : List Entry). Reply r.id (masks r.items) ∷ l) (masked_replies replies)
+  masked_replies (r ∷ replies) = ap (λ (l : List Entry). Reply r.id (masks Server r.items) ∷ l) (masked_replies replies)
 
   masked_connection : (c : Conversation) → map masked_one (connection_entries c.calls c.replies) ≡ connection_entries (map calls_masked c.calls) (map masked_reply c.replies)
   masked_connection c =
@@ -72,18 +73,18 @@ module _ (ways : Ways) (seen : Class → List ℕ) where
   module _ (few : (d : Class) → length (seen d) ≤ max_bytes) where
     call_spelled : (m : List Item) → IsSpelledCall m → IsSpelledCall (calls_masked m)
     call_spelled m s =
-        ((call_named ways.machines (masks m) (call_under ways seen m s.0.0), named_spelled ways.machines (masks m) (zero_spelling (masks m)) (message_spelled ways seen few m (zero_spelling m) s.0.1)), omega (arith, named_length ways.machines (masks m), message_length ways seen m (zero_spelling m) s.0.1, s.1))
+        ((call_named ways.machines (masks Client m) (call_under ways seen m s.0.0), named_spelled ways.machines (masks Client m) (zero_spelling (masks Client m)) (message_spelled ways seen Client few m (zero_spelling m) s.0.1)), omega (arith, named_length ways.machines (masks Client m), message_length ways seen Client m (zero_spelling m) s.0.1, s.1))
 
     reply_spelled : (r : ReplyItems) → IsSpelledReply r → IsSpelledReply (masked_reply r)
     reply_spelled r s =
-        ((reply_under ways seen r.id r.items s.0.0, message_spelled ways seen few r.items (zero_spelling r.items) s.0.1), omega (arith, message_length ways seen r.items (zero_spelling r.items) s.0.1, s.1))
+        ((reply_under ways seen r.id r.items s.0.0, message_spelled ways seen Server few r.items (zero_spelling r.items) s.0.1), omega (arith, message_length ways seen Server r.items (zero_spelling r.items) s.0.1, s.1))
 
     module _ (c : Conversation) (h : AreConversing c) where
       call_xid : (m : List Item) → IsIn m c.calls → xid_in (calls_masked m) ≡ xid_in m
-      call_xid m i = named_xid ways.machines (masks m) ∙ call_xid_under ways seen m (of_all IsSpelledCall c.calls m h.calls_are i).0.0
+      call_xid m i = named_xid ways.machines (masks Client m) ∙ call_xid_under ways seen Client m (of_all IsSpelledCall c.calls m h.calls_are i).0.0
 
       call_procedure : (m : List Item) → IsIn m c.calls → procedure_in (calls_masked m) ≡ procedure_in m
-      call_procedure m i = named_procedure ways.machines (masks m) ∙ procedure_under ways seen m (of_all IsSpelledCall c.calls m h.calls_are i).0.0
+      call_procedure m i = named_procedure ways.machines (masks Client m) ∙ procedure_under ways seen Client m (of_all IsSpelledCall c.calls m h.calls_are i).0.0
 
       one_procedure : HaveOneProcedure (map calls_masked c.calls)
       one_procedure a b i j e =
@@ -99,7 +100,7 @@ module _ (ways : Ways) (seen : Class → List ℕ) where
           let a = h.answers r p.1 in
           let s = of_all IsSpelledReply c.replies r h.replies_are p.1 in
           let xid : xid_in (calls_masked a.0) ≡ xid_in reply.items =
-          call_xid a.0 a.1 ∙ (a.2 ∙ (sym (reply_xid_under ways seen r.id r.items s.0.0) ∙ sym (ap (λ (k : ReplyItems). xid_in k.items) p.2))) in
+          call_xid a.0 a.1 ∙ (a.2 ∙ (sym (reply_xid_under ways seen Server r.id r.items s.0.0) ∙ sym (ap (λ (k : ReplyItems). xid_in k.items) p.2))) in
           (calls_masked a.0, map_in calls_masked c.calls a.0 a.1, xid, call_procedure a.0 a.1 ∙ (a.3 ∙ sym (ap (λ (k : ReplyItems). k.id) p.2)))
 
       converses : AreConversing (masked_conversation c)
@@ -128,22 +129,22 @@ module _ (ways : Ways) (seen : Class → List ℕ) where
           length_of_record (zero_spelling (f m)),
         )
 
-    items_under : (l : List ReplyItems) → reply_items (map masked_reply l) ≡ map masks (reply_items l)
+    items_under : (l : List ReplyItems) → reply_items (map masked_reply l) ≡ map (masks Server) (reply_items l)
     items_under [] = refl
-    items_under (r ∷ l) = ap (λ k. masks r.items ∷ k) (items_under l)
+    items_under (r ∷ l) = ap (λ k. masks Server r.items ∷ k) (items_under l)
 
     call_no_longer : (m : List Item) → IsSpelledCall m → IsNoLonger m (calls_masked m)
-    call_no_longer m s = omega (arith, named_length ways.machines (masks m), message_length ways seen m (zero_spelling m) s.0.1)
+    call_no_longer m s = omega (arith, named_length ways.machines (masks Client m), message_length ways seen Client m (zero_spelling m) s.0.1)
 
-    reply_no_longer : (r : ReplyItems) → IsSpelledReply r → IsNoLonger r.items (masks r.items)
-    reply_no_longer r s = omega (arith, message_length ways seen r.items (zero_spelling r.items) s.0.1)
+    reply_no_longer : (r : ReplyItems) → IsSpelledReply r → IsNoLonger r.items (masks Server r.items)
+    reply_no_longer r s = omega (arith, message_length ways seen Server r.items (zero_spelling r.items) s.0.1)
 
     no_heavier : (c : Conversation) → AreConversing c → weight (masked_conversation c) ≤ weight c
     no_heavier c h =
         omega (
           arith,
           stream_length calls_masked c.calls (all_weaker IsSpelledCall (λ m. IsNoLonger m (calls_masked m)) call_no_longer c.calls h.calls_are),
-          stream_length masks (reply_items c.replies) (all_mapped IsSpelledReply (λ m. IsNoLonger m (masks m)) items_of_reply reply_no_longer c.replies h.replies_are),
+          stream_length (masks Server) (reply_items c.replies) (all_mapped IsSpelledReply (λ m. IsNoLonger m (masks Server m)) items_of_reply reply_no_longer c.replies h.replies_are),
           ap (λ l. length (stream_of l)) (items_under c.replies),
         )
 
@@ -162,7 +163,7 @@ module _ (ways : Ways) (seen : Class → List ℕ) where
 pub masked_is_file : (ways : Ways) (file : List ℕ) (all : List Entry) (typed : Typed file all) → AreOfTheirBytes (masked ways all) (total_size typed.connections)
 masked_is_file ways file all typed =
     let h = holds file all typed in
-    let seen : Class → List ℕ = values (all_items all) in
+    let seen : Class → List ℕ = values all in
     let few : (d : Class) → length (seen d) ≤ max_bytes = λ d. few_of_file d file all typed in
     let ds = map (masked_conversation ways seen) h.cs in
     let are = capture_masked ways seen few h.cs h.are in

@@ -15,6 +15,8 @@ use Rattle.rpc_head.specs.Names.{head_names}
 use Rattle.rpc_head.specs.Shapes.{accept, call_head, credential, deny, reply_head, verifier}
 use Rattle.nfs3_types.specs.Names.{names}
 use Rattle.procs3.specs.Table.{arguments_of, results_of}
+use Rattle.capture3.specs.declared.fault.Side.{Side}
+use Rattle.capture3.specs.declared.fault.Side.TheVariants.{Client, Server}
 use Rattle.capture3.specs.Bodies.{xid_in}
 use Rattle.capture3.specs.Chunks.{max_bytes}
 use Rattle.canon3.specs.Rank.{before, rank}
@@ -42,9 +44,9 @@ length-before x (y ∷ l) = cond_either (λ (k : List ℕ). length k ≤ length 
 rank_small : (x : ℕ) (l : List ℕ) → rank nat_eq x l ≤ 1 + length l
 rank_small x l = omega (arith, length-with_keys nat_eq (equivalence nat_eq Decides-eqb) (before nat_eq x l) [], length-before x l)
 
-module _ (ways : Ways) (seen : Class → List ℕ) where
+module _ (ways : Ways) (seen : Class → List ℕ) (side : Side) where
   abbrev pub under : List Item → List Item
-  under items = masked_items ways seen items
+  under items = masked_items ways seen side items
 
   -- ---- kinds and names stay
 
@@ -60,20 +62,20 @@ module _ (ways : Ways) (seen : Class → List ℕ) where
   fixed_with name bytes None = (bytes, refl)
   fixed_with name bytes (Some m) = (big_bytes 8 m, refl)
 
-  word_under : (name : List ℕ) (n : ℕ) → (m : ℕ) × (masked_item ways seen (Word name n) ≡ Word name m)
-  word_under name n = word_with name n (substitute ways seen (class_of_word name) n)
+  word_under : (name : List ℕ) (n : ℕ) → (m : ℕ) × (masked_item ways seen side (Word name n) ≡ Word name m)
+  word_under name n = word_with name n (substitute ways seen (class_of_word side name) n)
 
   -- a word that is accepted becomes one that is, and chooses the same
-  chosen : (name : List ℕ) (accepted : ℕ → Bool) (next : ℕ → Shape) (o : Option Class) → class_of_word name ≡ o → TakesWord o accepted next → (n : ℕ) → IsTrue (accepted n)
-      → (m : ℕ) × (masked_item ways seen (Word name n) ≡ Word name m) × IsTrue (accepted m) × (next m ≡ next n)
-  chosen name accepted next None is takes n a = (n, unmasked ways seen (Word name n) is, a, refl)
+  chosen : (name : List ℕ) (accepted : ℕ → Bool) (next : ℕ → Shape) (o : Option Class) → class_of_word side name ≡ o → TakesWord o accepted next → (n : ℕ) → IsTrue (accepted n)
+      → (m : ℕ) × (masked_item ways seen side (Word name n) ≡ Word name m) × IsTrue (accepted m) × (next m ≡ next n)
+  chosen name accepted next None is takes n a = (n, unmasked ways seen side (Word name n) is, a, refl)
   chosen name accepted next (Some d) is takes n a =
       let w = word_under name n in (w.0, w.1, takes.0 w.0, takes.1 w.0 ∙ sym (takes.1 n))
 
   -- ---- lengths stay
 
   abbrev KeepsLength : Item → Type 0
-  KeepsLength i = length (zero_spelling_of (masked_item ways seen i)) ≡ length (zero_spelling_of i)
+  KeepsLength i = length (zero_spelling_of (masked_item ways seen side i)) ≡ length (zero_spelling_of i)
 
   word_length : (name : List ℕ) (n : ℕ) → KeepsLength (Word name n)
   word_length name n =
@@ -96,7 +98,7 @@ module _ (ways : Ways) (seen : Class → List ℕ) where
   all_lengths : (items : List Item) → AllByRecursion KeepsLength items → length (zero_spelling (under items)) ≡ length (zero_spelling items)
   all_lengths [] h = refl
   all_lengths (i ∷ items) h =
-      omega (arith, h.0, all_lengths items h.1, length-append (zero_spelling_of i) (zero_spelling items), length-append (zero_spelling_of (masked_item ways seen i)) (zero_spelling (under items)))
+      omega (arith, h.0, all_lengths items h.1, length-append (zero_spelling_of i) (zero_spelling items), length-append (zero_spelling_of (masked_item ways seen side i)) (zero_spelling (under items)))
 
   fitting_lengths : (s : Shape) (items : List Item) → HasParts IsNotEight s → Fits s items → length (zero_spelling (under items)) ≡ length (zero_spelling items)
   fitting_lengths s items h p =
@@ -104,9 +106,9 @@ module _ (ways : Ways) (seen : Class → List ℕ) where
 
   -- ---- shapes stay
 
-  pub fits_under : (s : Shape) (items : List Item) → TakesMasks s → Fits s items → Fits s (under items)
+  pub fits_under : (s : Shape) (items : List Item) → TakesMasks side s → Fits s items → Fits s (under items)
   fits_under (choose name accepted reason next) items h p =
-      let c = chosen name accepted next (class_of_word name) refl h.0 p.0 p.2 in
+      let c = chosen name accepted next (class_of_word side name) refl h.0 p.0 p.2 in
       (c.0, under p.1, c.2, subst (λ s. Fits s (under p.1)) (sym c.3) (fits_under (next p.0) p.1 (h.1 p.0) p.3), ap under p.4 ∙ ap (λ (i : Item). i ∷ under p.1) c.1)
   fits_under (hyper name) items h p =
       let w = hyper_with name p.0 (substitute ways seen (class_of_hyper name) p.0) in (w.0, ap under p.1 ∙ ap (λ (i : Item). i ∷ []) w.1)
@@ -116,29 +118,29 @@ module _ (ways : Ways) (seen : Class → List ℕ) where
   fits_under (opaque kind name max) items h p = (p.0, p.1, ap under p.2)
   fits_under nothing items h p = ap under p
   fits_under (both a b) items h p =
-      (under p.0, under p.1, fits_under a p.0 h.0 p.2, fits_under b p.1 h.1 p.3, ap under p.4 ∙ map-append (masked_item ways seen) p.0 p.1)
+      (under p.0, under p.1, fits_under a p.0 h.0 p.2, fits_under b p.1 h.1 p.3, ap under p.4 ∙ map-append (masked_item ways seen side) p.0 p.1)
   fits_under (linked name s) items h p = (
     map under p.0,
     all_mapped (Fits s) (Fits s) under (λ part. fits_under s part h.1) p.0 p.1,
-    ap under p.2 ∙ (map-append (masked_item ways seen) (links name p.0) (Word name 0 ∷ [])
-        ∙ ap₂ (λ (l : List Item) (i : Item). l ++ i ∷ []) (links_mapped (masked_item ways seen) name (unmasked ways seen (Word name 1) h.0) p.0) (unmasked ways seen (Word name 0) h.0)),
+    ap under p.2 ∙ (map-append (masked_item ways seen side) (links name p.0) (Word name 0 ∷ [])
+        ∙ ap₂ (λ (l : List Item) (i : Item). l ++ i ∷ []) (links_mapped (masked_item ways seen side) name (unmasked ways seen side (Word name 1) h.0) p.0) (unmasked ways seen side (Word name 0) h.0)),
   )
   fits_under (counted name max s) items h p =
       let size = length-map p.0 under in (
         map under p.0,
         all_mapped (Fits s) (Fits s) under (λ part. fits_under s part h.1) p.0 p.1,
         omega (arith, p.2, size),
-        ap under p.3 ∙ ap₂ (λ (i : Item) (l : List Item). i ∷ l) (unmasked ways seen (Word name (length p.0)) h.0 ∙ ap (Word name) (sym size)) (joined_mapped (masked_item ways seen) p.0),
+        ap under p.3 ∙ ap₂ (λ (i : Item) (l : List Item). i ∷ l) (unmasked ways seen side (Word name (length p.0)) h.0 ∙ ap (Word name) (sym size)) (joined_mapped (masked_item ways seen side) p.0),
       )
   fits_under (sized name s) items h p =
       let size = fitting_lengths s p.0 h.1 p.1 in (
         under p.0,
         fits_under s p.0 h.2 p.1,
         omega (arith, p.2, size),
-        ap under p.3 ∙ ap (λ (i : Item). i ∷ under p.0) (unmasked ways seen (Word name (length (zero_spelling p.0))) h.0 ∙ ap (Word name) (sym size)),
+        ap under p.3 ∙ ap (λ (i : Item). i ∷ under p.0) (unmasked ways seen side (Word name (length (zero_spelling p.0))) h.0 ∙ ap (Word name) (sym size)),
       )
 
-  row_under : (layout : Layout) (items : List Item) → RowTakesMasks layout → FitsLayout layout items → FitsLayout layout (under items)
+  row_under : (layout : Layout) (items : List Item) → RowTakesMasks side layout → FitsLayout layout items → FitsLayout layout (under items)
   row_under (exactly s) items h p = fits_under s items h p
   row_under (rest name) items h p = (p.0, ap under p.1)
   row_under (after s next) items h p = absurd h
@@ -194,9 +196,9 @@ reply_words head p = record {
   accepted = λ zero. accepted_words p.1 (subst (λ b. Fits (if b then (verifier then accept) else deny) p.1) zero p.3);
 }
 
-module _ (ways : Ways) (seen : Class → List ℕ) where
+module _ (ways : Ways) (seen : Class → List ℕ) (side : Side) where
   abbrev masks : List Item → List Item
-  masks items = under ways seen items
+  masks items = under ways seen side items
 
   procedure_of_words : (x version prog vers proc mtype : ℕ) (start head back : List Item) → start ≡ Word head_names.mtype mtype ∷ []
       → head ≡ Word head_names.rpcvers version ∷ Word head_names.prog prog ∷ Word head_names.vers vers ∷ Word head_names.proc proc ∷ back
@@ -231,42 +233,12 @@ module _ (ways : Ways) (seen : Class → List ℕ) where
       (λ t. let a = w.accepted t in accepted_results x w.status m.0 a.0 a.1 a.2 start head w.back a.3 m.1 w.is a.4)
       (λ f. refused_results x w.status m.0 start head w.back f m.1 w.is)
 
-  -- ---- calls and replies
+  -- ---- a message, its xid and its procedure
 
   message_is : (x : ℕ) (items start head back : List Item) → items ≡ Word head_names.xid x ∷ ((start ++ head) ++ back) → masks items ≡ Word head_names.xid x ∷ ((masks start ++ masks head) ++ masks back)
   message_is x items start head back is =
-      ap masks is ∙ ap₂ (λ (i : Item) (l : List Item). i ∷ l) (unmasked ways seen (Word head_names.xid x) xid_free)
-      (map-append (masked_item ways seen) (start ++ head) back ∙ ap (λ (l : List Item). l ++ masks back) (map-append (masked_item ways seen) start head))
-
-  pub call_under : (items : List Item) → FitsCall items → FitsCall (masks items)
-  call_under items p =
-      let h = is_headed_call items p in
-      headed_call_fits (masks items) (record {
-        number = h.number;
-        start = masks h.start;
-        head = masks h.head;
-        back = masks h.back;
-        start_fits = fits_under ways seen (listed head_names.mtype (0 ∷ [])) h.start (mtype_takes (0 ∷ [])) h.start_fits;
-        head_fits = fits_under ways seen call_head h.head call_head_takes h.head_fits;
-        back_fits = subst (λ id. FitsLayout (arguments_of id) (masks h.back)) (sym (procedure_stays h.number h.start h.head h.start_fits h.head_fits))
-            (row_under ways seen (call_next (Word head_names.xid h.number ∷ (h.start ++ h.head))) h.back (arguments_take (procedure_in (Word head_names.xid h.number ∷ (h.start ++ h.head)))) h.back_fits);
-        is = message_is h.number items h.start h.head h.back h.is;
-      })
-
-  pub reply_under : (id : ProcId) (items : List Item) → FitsReply id items → FitsReply id (masks items)
-  reply_under id items p =
-      let h = is_headed_reply id items p in
-      headed_reply_fits id (masks items) (record {
-        number = h.number;
-        start = masks h.start;
-        head = masks h.head;
-        back = masks h.back;
-        start_fits = fits_under ways seen (listed head_names.mtype (1 ∷ [])) h.start (mtype_takes (1 ∷ [])) h.start_fits;
-        head_fits = fits_under ways seen reply_head h.head reply_head_takes h.head_fits;
-        back_fits = subst (λ b. FitsLayout (if b then results_of id else exactly nothing) (masks h.back)) (sym (results_stay h.number h.start h.head h.start_fits h.head_fits))
-            (row_under ways seen (reply_next id (Word head_names.xid h.number ∷ (h.start ++ h.head))) h.back (reply_takes id (Word head_names.xid h.number ∷ (h.start ++ h.head))) h.back_fits);
-        is = message_is h.number items h.start h.head h.back h.is;
-      })
+      ap masks is ∙ ap₂ (λ (i : Item) (l : List Item). i ∷ l) (unmasked ways seen side (Word head_names.xid x) (xid_free side))
+      (map-append (masked_item ways seen side) (start ++ head) back ∙ ap (λ (l : List Item). l ++ masks back) (map-append (masked_item ways seen side) start head))
 
   xid_of_message : (x : ℕ) (items start head back : List Item) → items ≡ Word head_names.xid x ∷ ((start ++ head) ++ back) → xid_in (masks items) ≡ xid_in items
   xid_of_message x items start head back is = ap xid_in (message_is x items start head back is) ∙ sym (ap xid_in is)
@@ -291,9 +263,9 @@ module _ (ways : Ways) (seen : Class → List ℕ) where
 
   -- ---- spellings
 
-  spelled_length : (i : Item) (bytes : List ℕ) → SpellsItem i bytes → length (zero_spelling_of (masked_item ways seen i)) ≡ length (zero_spelling_of i)
-  spelled_length (Word name n) bytes p = word_length ways seen name n
-  spelled_length (Hyper name n) bytes p = hyper_length ways seen name n
+  spelled_length : (i : Item) (bytes : List ℕ) → SpellsItem i bytes → length (zero_spelling_of (masked_item ways seen side i)) ≡ length (zero_spelling_of i)
+  spelled_length (Word name n) bytes p = word_length ways seen side name n
+  spelled_length (Hyper name n) bytes p = hyper_length ways seen side name n
   spelled_length (Fixed name b) bytes p = eight (substitute ways seen (class_of_fixed name) (class_value (Fixed name b)))
     where
       eight : (o : Option ℕ) → length (zero_spelling_of (with_value (Fixed name b) o)) ≡ length b
@@ -306,7 +278,7 @@ module _ (ways : Ways) (seen : Class → List ℕ) where
   pub message_length : (items : List Item) (bytes : List ℕ) → Spells items bytes → length (zero_spelling (masks items)) ≡ length (zero_spelling items)
   message_length [] bytes p = refl
   message_length (i ∷ items) bytes p =
-      omega (arith, spelled_length i p.0 p.2, message_length items p.1 p.3, length-append (zero_spelling_of i) (zero_spelling items), length-append (zero_spelling_of (masked_item ways seen i)) (zero_spelling (masks items)))
+      omega (arith, spelled_length i p.0 p.2, message_length items p.1 p.3, length-append (zero_spelling_of i) (zero_spelling items), length-append (zero_spelling_of (masked_item ways seen side i)) (zero_spelling (masks items)))
 
   module _ (few : (d : Class) → length (seen d) ≤ max_bytes) where
     number_small : (d : Class) (n : ℕ) → number_among (seen d) d n < 2 ^ 32
@@ -333,8 +305,8 @@ module _ (ways : Ways) (seen : Class → List ℕ) where
     fixed_spelled name b bytes None p = (p.0, p.1, refl)
     fixed_spelled name b bytes (Some m) p = (length-bytes_high_first 8 m, are_bytes_of_number 8 m, refl)
 
-    item_spelled : (i : Item) (bytes : List ℕ) → SpellsItem i bytes → SpellsItem (masked_item ways seen i) (zero_spelling_of (masked_item ways seen i))
-    item_spelled (Word name n) bytes p = word_spelled name n (substitute ways seen (class_of_word name) n) (substitute_small (class_of_word name) n) p.0
+    item_spelled : (i : Item) (bytes : List ℕ) → SpellsItem i bytes → SpellsItem (masked_item ways seen side i) (zero_spelling_of (masked_item ways seen side i))
+    item_spelled (Word name n) bytes p = word_spelled name n (substitute ways seen (class_of_word side name) n) (substitute_small (class_of_word side name) n) p.0
     item_spelled (Hyper name n) bytes p = hyper_spelled name n (substitute ways seen (class_of_hyper name) n) (substitute_small (class_of_hyper name) n) p.0
     item_spelled (Fixed name b) bytes p = fixed_spelled name b bytes (substitute ways seen (class_of_fixed name) (class_value (Fixed name b))) p
     item_spelled (WriteVerf name b) bytes p = zero_spelled_one (WriteVerf name b) bytes p
@@ -344,4 +316,37 @@ module _ (ways : Ways) (seen : Class → List ℕ) where
     pub message_spelled : (items : List Item) (bytes : List ℕ) → Spells items bytes → Spells (masks items) (zero_spelling (masks items))
     message_spelled [] bytes p = refl
     message_spelled (i ∷ items) bytes p =
-        (zero_spelling_of (masked_item ways seen i), zero_spelling (masks items), item_spelled i p.0 p.2, message_spelled items p.1 p.3, refl)
+        (zero_spelling_of (masked_item ways seen side i), zero_spelling (masks items), item_spelled i p.0 p.2, message_spelled items p.1 p.3, refl)
+
+-- ---- calls and replies
+
+module _ (ways : Ways) (seen : Class → List ℕ) where
+  pub call_under : (items : List Item) → FitsCall items → FitsCall (under ways seen Client items)
+  call_under items p =
+      let h = is_headed_call items p in
+      headed_call_fits (under ways seen Client items) (record {
+        number = h.number;
+        start = under ways seen Client h.start;
+        head = under ways seen Client h.head;
+        back = under ways seen Client h.back;
+        start_fits = fits_under ways seen Client (listed head_names.mtype (0 ∷ [])) h.start (mtype_takes Client (0 ∷ [])) h.start_fits;
+        head_fits = fits_under ways seen Client call_head h.head call_head_takes h.head_fits;
+        back_fits = subst (λ id. FitsLayout (arguments_of id) (under ways seen Client h.back)) (sym (procedure_stays ways seen Client h.number h.start h.head h.start_fits h.head_fits))
+            (row_under ways seen Client (call_next (Word head_names.xid h.number ∷ (h.start ++ h.head))) h.back (arguments_take Client (procedure_in (Word head_names.xid h.number ∷ (h.start ++ h.head)))) h.back_fits);
+        is = message_is ways seen Client h.number items h.start h.head h.back h.is;
+      })
+
+  pub reply_under : (id : ProcId) (items : List Item) → FitsReply id items → FitsReply id (under ways seen Server items)
+  reply_under id items p =
+      let h = is_headed_reply id items p in
+      headed_reply_fits id (under ways seen Server items) (record {
+        number = h.number;
+        start = under ways seen Server h.start;
+        head = under ways seen Server h.head;
+        back = under ways seen Server h.back;
+        start_fits = fits_under ways seen Server (listed head_names.mtype (1 ∷ [])) h.start (mtype_takes Server (1 ∷ [])) h.start_fits;
+        head_fits = fits_under ways seen Server reply_head h.head (reply_head_takes Server) h.head_fits;
+        back_fits = subst (λ b. FitsLayout (if b then results_of id else exactly nothing) (under ways seen Server h.back)) (sym (results_stay ways seen Server h.number h.start h.head h.start_fits h.head_fits))
+            (row_under ways seen Server (reply_next id (Word head_names.xid h.number ∷ (h.start ++ h.head))) h.back (reply_takes id (Word head_names.xid h.number ∷ (h.start ++ h.head))) h.back_fits);
+        is = message_is ways seen Server h.number items h.start h.head h.back h.is;
+      })

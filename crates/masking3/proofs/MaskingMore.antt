@@ -3,12 +3,13 @@ use Rattle.std.proofs.Common.{◌≡◌, inl, inr, ℕ, List, [], refl, sym, sub
 use Rattle.std.specs.Prelude.{nat_eq, Option, None, Some}
 use Rattle.std.proofs.lemmas.Bool.Decides.{Decides-eqb}
 use Rattle.xdr3.specs.Item.{Item}
-use Rattle.capture3.specs.Entry.{Entry, items_of}
-use Rattle.canon3.specs.Pairing.{Member, here, there, Pairs}
+use Rattle.capture3.specs.declared.fault.Side.{Side}
+use Rattle.capture3.specs.declared.fault.Side.TheVariants.{Client, Server}
+use Rattle.capture3.specs.Entry.{Entry}
+use Rattle.canon3.specs.Pairing.{Pairs}
 use Rattle.canon3.specs.Renaming.{Pairwise, none, more, Same}
-use Rattle.canon3.specs.machinery.Summary.{all_items}
 use Rattle.canon3.proofs.PairingLemmas.{Agree, agree-graph, graph, member-graph}
-use Rattle.canon3.proofs.RankLemmas.{by_test, member-append_left, member-append_right}
+use Rattle.canon3.proofs.RankLemmas.{by_test}
 use Rattle.masking3.specs.declared.class.Class.{Class}
 use Rattle.masking3.specs.declared.ways.Way.{Way}
 use Rattle.masking3.specs.declared.ways.Way.TheVariants.{Keep, Zero, Number}
@@ -19,12 +20,12 @@ use Rattle.masking3.specs.Masked.{is_zero_that_stays, values}
 use Rattle.masking3.specs.SameBut.{AreAlike, ArePartners, ChangesBy, ChangesEntry, ChangesItem, ChangesOf, IsNumbered, SameBut, SameButValues, begin, call, close, end, reply, turn}
 use Rattle.masking3.specs.Unnamed.{names_by}
 use Rattle.masking3.specs.Ways.{way_of}
-use Rattle.masking3.proofs.AgainLemmas.{is_seen}
+use Rattle.masking3.proofs.MaskedLemmas.{AreAmong, EntryIsAmong, IsAmong, ItemsAreAmong, among_own}
 use Rattle.masking3.proofs.SameButLemmas.{AreAgreeing, Changes, agree_of, alike_linked, alike_put, alike_turned, from_agreeing, kept_of_same, same_of_kept, values_numbered}
 use Rattle.masking3.proofs.UnnamedLemmas.{names_kept}
 use Rattle.masking3.proofs.UnnamedRenamings.{changes_named, same_named}
 
-module _ (ways others : Ways) (much : MasksValuesAsMuch ways others) (all : List Item) (pairs : Class → Pairs ℕ) (agree : AreAgreeing ways pairs) where
+module _ (ways others : Ways) (much : MasksValuesAsMuch ways others) (all : List Entry) (pairs : Class → Pairs ℕ) (agree : AreAgreeing ways pairs) where
   -- a value that stayed is its own partner
   abbrev pairs_by : Way → Class → Pairs ℕ
   pairs_by Keep d = graph (λ n. n) (values all d)
@@ -39,49 +40,49 @@ module _ (ways others : Ways) (much : MasksValuesAsMuch ways others) (all : List
   agree_by Number d = agree d
   agree_by Zero d = record { parts = λ p m. elim m [ ]; alike = λ p q m n. elim m [ ] }
 
-  own_partner : (d : Class) (i : Item) → Member i all → class_of i ≡ Some d → ArePartners d (graph (λ n. n) (values all d)) (class_value i) (class_value i)
-  own_partner d i m is = by_test (is_zero_that_stays d (class_value i)) (λ t. inr (t, t)) (λ f. inl (member-graph (λ n. n) (is_seen all d i m is f)))
+  own_partner : (side : Side) (d : Class) (i : Item) → IsAmong (values all) side i → class_of side i ≡ Some d → ArePartners d (graph (λ n. n) (values all d)) (class_value i) (class_value i)
+  own_partner side d i among is = by_test (is_zero_that_stays d (class_value i)) (λ t. inr (t, t)) (λ f. inl (member-graph (λ n. n) (among d is f)))
 
-  alike_itself : (d : Class) (i : Item) → class_of i ≡ Some d → AreAlike i i
-  alike_itself d i is = alike_linked (alike_put i d 0 is) (alike_turned (alike_put i d 0 is))
+  alike_itself : (side : Side) (d : Class) (i : Item) → class_of side i ≡ Some d → AreAlike i i
+  alike_itself side d i is = alike_linked (alike_put side i d 0 is) (alike_turned (alike_put side i d 0 is))
 
-  by_way_more : (w v : Way) → TellsNoMore w v → (d : Class) (i j : Item) → Member i all → class_of i ≡ Some d → ChangesBy w d (pairs d) i j → ChangesBy v d (pairs_by w d) i j
-  by_way_more Keep Keep t d i j m is h = h
-  by_way_more Keep Number t d i j m is h = subst (λ k. AreAlike i k × ArePartners d (graph (λ n. n) (values all d)) (class_value i) (class_value k)) h (alike_itself d i is, own_partner d i m is)
-  by_way_more Keep Zero t d i j m is h = subst (AreAlike i) h (alike_itself d i is)
-  by_way_more Number Keep t d i j m is h = absurd t
-  by_way_more Number Number t d i j m is h = h
-  by_way_more Number Zero t d i j m is h = h.0
-  by_way_more Zero Keep t d i j m is h = absurd t
-  by_way_more Zero Number t d i j m is h = absurd t
-  by_way_more Zero Zero t d i j m is h = h
+  by_way_more : (w v : Way) → TellsNoMore w v → (side : Side) (d : Class) (i j : Item) → IsAmong (values all) side i → class_of side i ≡ Some d → ChangesBy w d (pairs d) i j → ChangesBy v d (pairs_by w d) i j
+  by_way_more Keep Keep t side d i j among is h = h
+  by_way_more Keep Number t side d i j among is h =
+      subst (λ k. AreAlike i k × ArePartners d (graph (λ n. n) (values all d)) (class_value i) (class_value k)) h (alike_itself side d i is, own_partner side d i among is)
+  by_way_more Keep Zero t side d i j among is h = subst (AreAlike i) h (alike_itself side d i is)
+  by_way_more Number Keep t side d i j among is h = absurd t
+  by_way_more Number Number t side d i j among is h = h
+  by_way_more Number Zero t side d i j among is h = h.0
+  by_way_more Zero Keep t side d i j among is h = absurd t
+  by_way_more Zero Number t side d i j among is h = absurd t
+  by_way_more Zero Zero t side d i j among is h = h
 
-  of_more : (o : Option Class) (i j : Item) → Member i all → class_of i ≡ o → ChangesOf ways pairs o i j → ChangesOf others more_pairs o i j
-  of_more None i j m is h = h
-  of_more (Some d) i j m is h = by_way_more (way_of ways d) (way_of others d) (much d) d i j m is h
+  of_more : (side : Side) (o : Option Class) (i j : Item) → IsAmong (values all) side i → class_of side i ≡ o → ChangesOf ways pairs o i j → ChangesOf others more_pairs o i j
+  of_more side None i j among is h = h
+  of_more side (Some d) i j among is h = by_way_more (way_of ways d) (way_of others d) (much d) side d i j among is h
 
-  message_more : {l m : List Item} → ((i : Item) → Member i l → Member i all) → Pairwise (ChangesItem ways pairs) l m → Pairwise (ChangesItem others more_pairs) l m
-  message_more within none = none
-  message_more within (more {x = i} {y = j} c p) = more (of_more (class_of i) i j (within i here) refl c) (message_more (λ k h. within k (there h)) p)
+  message_more : (side : Side) {l m : List Item} → ItemsAreAmong (values all) side l → Pairwise (ChangesItem ways pairs side) l m → Pairwise (ChangesItem others more_pairs side) l m
+  message_more side among none = none
+  message_more side among (more {x = i} {y = j} c p) = more (of_more side (class_of side i) i j among.0 refl c) (message_more side among.1 p)
 
-  entry_more : (e f : Entry) → ((i : Item) → Member i (items_of e) → Member i all) → ChangesEntry ways pairs e f → ChangesEntry others more_pairs e f
-  entry_more e f within begin = begin
-  entry_more e f within (call c) = call (message_more within c)
-  entry_more e f within turn = turn
-  entry_more e f within (reply c) = reply (message_more within c)
-  entry_more e f within close = close
-  entry_more e f within end = end
+  entry_more : (e f : Entry) → EntryIsAmong (values all) e → ChangesEntry ways pairs e f → ChangesEntry others more_pairs e f
+  entry_more e f among begin = begin
+  entry_more e f among (call c) = call (message_more Client among c)
+  entry_more e f among turn = turn
+  entry_more e f among (reply c) = reply (message_more Server among c)
+  entry_more e f among close = close
+  entry_more e f among end = end
 
-  changes_more : {a b : List Entry} → ((i : Item) → Member i (all_items a) → Member i all) → Changes ways pairs a b → Changes others more_pairs a b
-  changes_more within none = none
-  changes_more within (more {x = e} {y = f} {xs = a} c p) =
-      more (entry_more e f (λ i m. within i (member-append_left (all_items a) m)) c) (changes_more (λ i m. within i (member-append_right (items_of e) m)) p)
+  changes_more : {a b : List Entry} → AreAmong (values all) a → Changes ways pairs a b → Changes others more_pairs a b
+  changes_more among none = none
+  changes_more among (more {x = e} {y = f} c p) = more (entry_more e f among.0 c) (changes_more among.1 p)
 
 pub values_more : (ways others : Ways) (a b : List Entry) → MasksValuesAsMuch ways others → SameButValues ways a b → SameButValues others a b
 values_more ways others a b much s =
     let agree = agree_of ways s.value_pairs s.values_one_to_one in
-    from_agreeing others a b s.changed (more_pairs ways others much (all_items a) s.value_pairs agree) (λ d. agree_by ways others much (all_items a) s.value_pairs agree (way_of ways d) d)
-    (changes_more ways others much (all_items a) s.value_pairs agree (λ i m. m) s.changes) s.same
+    from_agreeing others a b s.changed (more_pairs ways others much a s.value_pairs agree) (λ d. agree_by ways others much a s.value_pairs agree (way_of ways d) d)
+    (changes_more ways others much a s.value_pairs agree (among_own a) s.changes) s.same
 
 -- ---- and names
 

@@ -3,6 +3,7 @@ use Rattle.std.proofs.Common.{◌≡◌, ℕ, zero, suc, false, List, refl, sym,
 use Rattle.std.specs.Prelude.{bytes_eq, Option, None, Some}
 use Rattle.xdr3.specs.Item.{Item, Word, Hyper, Fixed, WriteVerf, Opaque, Rest, Var, Text, Handle}
 use Rattle.rpc_head.specs.Names.{head_names}
+use Rattle.capture3.specs.declared.fault.Side.TheVariants.{Client}
 use Rattle.capture3.specs.Entry.{Entry}
 use Rattle.canon3.specs.Pairing.{Pairs}
 use Rattle.canon3.specs.Renaming.{IsPlain, RenamesItem, handle, verifier, plain, Pairwise, none, more, RenamesMessage, message, Renames, ended, begins, calls, turns, replies, closes, ends, Same}
@@ -145,16 +146,16 @@ no_length_alike i j hypers f = tt
 no_length_alike i j eights f = tt
 
 module _ (ways : Ways) (pairs : Class → Pairs ℕ) where
-  size_changed : (i j : Item) → ChangesItem ways pairs i j → text_size i ≡ text_size j
-  size_changed i j h = changed_is (λ i j. text_size i ≡ text_size j) (λ i. refl) size_alike ways pairs (class_of i) i j h
+  size_changed : (i j : Item) → ChangesItem ways pairs Client i j → text_size i ≡ text_size j
+  size_changed i j h = changed_is (λ i j. text_size i ≡ text_size j) (λ i. refl) size_alike ways pairs (class_of Client i) i j h
 
   -- an item that stays
-  emptied_stays : (i j : Item) → emptied i ≡ i → ChangesItem ways pairs i j → ChangesItem ways pairs (emptied i) (emptied j)
+  emptied_stays : (i j : Item) → emptied i ≡ i → ChangesItem ways pairs Client i j → ChangesItem ways pairs Client (emptied i) (emptied j)
   emptied_stays i j e h =
-      subst (λ k. ChangesItem ways pairs k (emptied j)) (sym e)
-      (subst (ChangesItem ways pairs i) (sym (changed_is (StayTogether emptied) (λ k s. s) emptied_alike ways pairs (class_of i) i j h e)) h)
+      subst (λ k. ChangesItem ways pairs Client k (emptied j)) (sym e)
+      (subst (ChangesItem ways pairs Client i) (sym (changed_is (StayTogether emptied) (λ k s. s) emptied_alike ways pairs (class_of Client i) i j h e)) h)
 
-  emptied_changed : (i j : Item) → ChangesItem ways pairs i j → ChangesItem ways pairs (emptied i) (emptied j)
+  emptied_changed : (i j : Item) → ChangesItem ways pairs Client i j → ChangesItem ways pairs Client (emptied i) (emptied j)
   emptied_changed (Word name n) j h = emptied_stays (Word name n) j refl h
   emptied_changed (Hyper name n) j h = emptied_stays (Hyper name n) j refl h
   emptied_changed (Fixed name b) j h = emptied_stays (Fixed name b) j refl h
@@ -164,14 +165,14 @@ module _ (ways : Ways) (pairs : Class → Pairs ℕ) where
   emptied_changed (Opaque Handle name b) j h = ap emptied h
   emptied_changed (Rest name b) j h = ap emptied h
 
-  less_kept : (n : ℕ) (i j : Item) → IsNoLength i → ChangesItem ways pairs i j → ChangesItem ways pairs (less_by n i) (less_by n j)
+  less_kept : (n : ℕ) (i j : Item) → IsNoLength i → ChangesItem ways pairs Client i j → ChangesItem ways pairs Client (less_by n i) (less_by n j)
   less_kept n i j f h =
-      let other = changed_is NoLengthsTogether (λ k s. s) no_length_alike ways pairs (class_of i) i j h f in
-      subst (λ k. ChangesItem ways pairs k (less_by n j)) (sym (less_stays n i f)) (subst (ChangesItem ways pairs i) (sym (less_stays n j other)) h)
+      let other = changed_is NoLengthsTogether (λ k s. s) no_length_alike ways pairs (class_of Client i) i j h f in
+      subst (λ k. ChangesItem ways pairs Client k (less_by n j)) (sym (less_stays n i f)) (subst (ChangesItem ways pairs Client i) (sym (less_stays n j other)) h)
 
-  less_changed : (n : ℕ) (i j : Item) → ChangesItem ways pairs i j → ChangesItem ways pairs (less_by n i) (less_by n j)
+  less_changed : (n : ℕ) (i j : Item) → ChangesItem ways pairs Client i j → ChangesItem ways pairs Client (less_by n i) (less_by n j)
   less_changed n (Word name m) j h = by_test (bytes_eq name head_names.cred_length)
-      (λ t. let free = free_length name t in
+      (λ t. let free = free_length Client name t in
       let same : Word name m ≡ j = subst (λ o. ChangesOf ways pairs o (Word name m) j) free h in
       subst (λ o. ChangesOf ways pairs o (less_by n (Word name m)) (less_by n j)) (sym free) (ap (less_by n) same))
       (λ f. less_kept n (Word name m) j f h)
@@ -181,10 +182,10 @@ module _ (ways : Ways) (pairs : Class → Pairs ℕ) where
   less_changed n (Opaque kind name b) j h = less_kept n (Opaque kind name b) j tt h
   less_changed n (Rest name b) j h = less_kept n (Rest name b) j tt h
 
-  message_changed : (way : Way) {l m : List Item} → Pairwise (ChangesItem ways pairs) l m → Pairwise (ChangesItem ways pairs) (named_by way l) (named_by way m)
+  message_changed : (way : Way) {l m : List Item} → Pairwise (ChangesItem ways pairs Client) l m → Pairwise (ChangesItem ways pairs Client) (named_by way l) (named_by way m)
   message_changed Keep p = p
-  message_changed Zero p = after_too (ChangesItem ways pairs) size_changed less_changed emptied_changed 7 p
-  message_changed Number p = after_too (ChangesItem ways pairs) size_changed less_changed emptied_changed 7 p
+  message_changed Zero p = after_too (ChangesItem ways pairs Client) size_changed less_changed emptied_changed 7 p
+  message_changed Number p = after_too (ChangesItem ways pairs Client) size_changed less_changed emptied_changed 7 p
 
   pub changes_named : (way : Way) {a b : List Entry} → Pairwise (ChangesEntry ways pairs) a b → Pairwise (ChangesEntry ways pairs) (names_by way a) (names_by way b)
   changes_named way none = none

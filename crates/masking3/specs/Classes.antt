@@ -5,6 +5,8 @@ use Rattle.byteorder.specs.Endian.{big_number}
 use Rattle.xdr3.specs.Item.{Item, Word, Hyper, Fixed}
 use Rattle.nfs3_types.specs.Names.{names}
 use Rattle.rpc_head.specs.Names.{head_names}
+use Rattle.capture3.specs.declared.fault.Side.{Side}
+use Rattle.capture3.specs.declared.fault.Side.TheVariants.{Client, Server}
 use Rattle.masking3.specs.declared.class.Class.{Class}
 use Rattle.masking3.specs.declared.class.Class.TheVariants.{Times, Stamps, Space, Ids, Fsids, Cookies, CookieVerifiers, CreateVerifiers, Owners}
 
@@ -27,13 +29,21 @@ names_of_space = names.used ∷ names.tbytes ∷ names.fbytes ∷ names.abytes �
 abbrev pub names_of_owners : List (List ℕ)
 names_of_owners = names.uid ∷ names.gid ∷ []
 
-abbrev pub class_of_word : List ℕ → Option Class
-class_of_word name =
+-- A word `group` of a call is a group of its credential (RFC 5531, appendix A): no other item of a
+-- call has this name. In a reply it tells whether another group of an export follows (RFC 1813,
+-- section 5.2.5), and has no class.
+abbrev pub class_of_group : Side → Option Class
+class_of_group Client = Some Owners
+class_of_group Server = None
+
+abbrev pub class_of_word : Side → List ℕ → Option Class
+class_of_word side name =
     (if is_one_of names_of_times name then Some Times else
     (if is_one_of (head_names.stamp ∷ []) name then Some Stamps else
     (if is_one_of (names.invarsec ∷ []) name then Some Space else
     (if is_one_of names_of_owners name then Some Owners else
-    None))))
+    (if is_one_of (head_names.group ∷ []) name then class_of_group side else
+    None)))))
 
 abbrev pub class_of_hyper : List ℕ → Option Class
 class_of_hyper name =
@@ -49,12 +59,12 @@ class_of_fixed name =
     (if is_one_of (names.createverf ∷ []) name then Some CreateVerifiers else
     None))
 
--- the class of an item, where it has one
-abbrev pub class_of : Item → Option Class
-class_of (Word name n) = class_of_word name
-class_of (Hyper name n) = class_of_hyper name
-class_of (Fixed name bytes) = class_of_fixed name
-class_of _ = None
+-- the class of an item in a message of this side, where it has one
+abbrev pub class_of : Side → Item → Option Class
+class_of side (Word name n) = class_of_word side name
+class_of side (Hyper name n) = class_of_hyper name
+class_of side (Fixed name bytes) = class_of_fixed name
+class_of side _ = None
 
 -- the number of an item of a class; eight bytes are one as a hyper is
 abbrev pub class_value : Item → ℕ

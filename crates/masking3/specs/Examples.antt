@@ -3,6 +3,8 @@ use Rattle.std.specs.Prelude.{◌≡◌, ℕ, List, [], ◌∷◌, codes}
 use Rattle.xdr3.specs.Item.{Item, Word, Hyper, Fixed, Opaque, Text, Var, Handle}
 use Rattle.capture3.specs.Entry.{Entry, Call}
 use Rattle.canon3.specs.Examples.{aa, bb, call_of, getattr, one, success_reply}
+use Rattle.masking3.specs.declared.ways.Way.TheVariants.{Number}
+use Rattle.masking3.specs.declared.ways.Ways.{Ways}
 use Rattle.masking3.specs.Masked.{masked}
 use Rattle.masking3.specs.SameBut.{SameBut}
 use Rattle.masking3.specs.Ways.{usual}
@@ -69,21 +71,41 @@ MasksReaddirs = AreMaskedAs
     ∷ [])
     (readdir 7 0 zeros ∷ readdir 8 1 one_verifier ∷ two_entries 7 one_verifier 1 2 2 1 ∷ [])
 
--- NULL with an AUTH_SYS credential (RFC 5531, appendix A): the stamp is 0, the name is empty, and
--- the length is less by the name and its residual byte; all else stays
-abbrev pub system_null : (xid size stamp : ℕ) → (machine : List ℕ) → Entry
-system_null xid size stamp machine =
+-- NULL with an AUTH_SYS credential (RFC 5531, appendix A) of this user and these groups
+abbrev pub system_null : (xid size stamp : ℕ) → (machine : List ℕ) → (user group other : ℕ) → Entry
+system_null xid size stamp machine user group other =
     Call (Word (codes "xid") xid ∷ Word (codes "mtype") 0 ∷ Word (codes "rpcvers") 2
     ∷ Word (codes "prog") 100003 ∷ Word (codes "vers") 3 ∷ Word (codes "proc") 0
     ∷ Word (codes "cred_flavor") 1 ∷ Word (codes "cred_length") size ∷ Word (codes "stamp") stamp
-    ∷ Opaque Text (codes "machinename") machine ∷ Word (codes "uid") 1000
-    ∷ Word (codes "gid") 100
-    ∷ Word (codes "gids") 1 ∷ Word (codes "group") 100 ∷ Word (codes "verf_flavor") 0
-    ∷ Opaque Var (codes "verf_body") [] ∷ [])
+    ∷ Opaque Text (codes "machinename") machine ∷ Word (codes "uid") user
+    ∷ Word (codes "gid") group
+    ∷ Word (codes "gids") 2 ∷ Word (codes "group") group ∷ Word (codes "group") other
+    ∷ Word (codes "verf_flavor") 0 ∷ Opaque Var (codes "verf_body") [] ∷ [])
 
+-- the stamp is 0, the name is empty, and the length is less by the name and its residual byte; all
+-- else stays
 abbrev pub MasksCredentials : Type 0
-MasksCredentials = AreMaskedAs (system_null 7 28 123456 (codes "box") ∷ [])
-    (system_null 7 24 0 [] ∷ [])
+MasksCredentials = AreMaskedAs (system_null 7 32 123456 (codes "box") 1000 100 27 ∷ [])
+    (system_null 7 28 0 [] 1000 100 27 ∷ [])
+
+-- owners have numbers too
+abbrev pub numbered_owners : Ways
+numbered_owners = record usual { owners = Number }
+
+-- EXPORT's reply (RFC 1813, section 5.2.5) of one directory for one group
+abbrev pub exported : (xid : ℕ) → Entry
+exported xid = success_reply 100005 5 xid (Word (codes "export") 1
+    ∷ Opaque Text (codes "directory") (codes "/a") ∷ Word (codes "group") 1
+    ∷ Opaque Text (codes "name") (codes "x") ∷ Word (codes "group") 0 ∷ Word (codes "export") 0
+    ∷ [])
+
+-- a user and the groups of a credential have one series of numbers, and a reply's words of the name
+-- `group` stay
+abbrev pub MasksOwners : Type 0
+MasksOwners =
+    masked numbered_owners (system_null 7 28 0 [] 1000 100 1000 ∷ exported 8
+    ∷ system_null 9 28 0 [] 27 1000 100 ∷ [])
+    ≡ system_null 7 28 0 [] 1 2 1 ∷ exported 8 ∷ system_null 9 28 0 [] 3 1 2 ∷ []
 
 -- GETATTRs of two files: their ids, and the seconds of their times
 abbrev pub getattrs_of_two : (first second sec : ℕ) → List Entry

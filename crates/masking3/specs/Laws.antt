@@ -1,7 +1,6 @@
 -- What the laws say of the masked form.
 use Rattle.std.specs.Prelude.{⊤, ◌≡◌, ◌↔◌, ◌<◌, ◌^◌, List, ◌++◌, length}
-use Rattle.std.specs.List.{flat_map}
-use Rattle.capture3.specs.Entry.{Entry, items_of}
+use Rattle.capture3.specs.Entry.{Entry}
 use Rattle.canon3.specs.Bytes.{bytes_of}
 use Rattle.canon3.specs.Canonical.{canonical}
 use Rattle.canon3.specs.Renaming.{Same}
@@ -15,8 +14,7 @@ use Rattle.masking3.specs.Ways.{way_of}
 
 -- the number of each value has room in eight bytes
 abbrev pub HasRoomForNumbers : List Entry → Type 0
-HasRoomForNumbers entries = (class : Class)
-    → length (values (flat_map items_of entries) class) < 2 ^ 64
+HasRoomForNumbers entries = (class : Class) → length (values entries class) < 2 ^ 64
 
 -- masking again changes nothing
 abbrev pub StaysMasked : Ways → List Entry → Type 0

@@ -3,7 +3,9 @@ use Rattle.std.specs.Prelude.{ℕ, ◌==◌, ◌&&◌, Bool, not, nat_eq, if◌t
 use Rattle.std.specs.List.{flat_map}
 use Rattle.byteorder.specs.Endian.{big_bytes}
 use Rattle.xdr3.specs.Item.{Item, Word, Hyper, Fixed}
-use Rattle.capture3.specs.Entry.{Entry, Call, Reply, items_of}
+use Rattle.capture3.specs.declared.fault.Side.{Side}
+use Rattle.capture3.specs.declared.fault.Side.TheVariants.{Client, Server}
+use Rattle.capture3.specs.Entry.{Entry, Call, Reply}
 use Rattle.canon3.specs.Bytes.{bytes_of}
 use Rattle.canon3.specs.Rank.{rank}
 use Rattle.masking3.specs.declared.class.Class.{Class}
@@ -26,12 +28,21 @@ value_where class None n = []
 value_where class (Some other) n =
     if (position class == position other) && not (is_zero_that_stays class n) then n ∷ [] else []
 
-abbrev pub value_in : Class → Item → List ℕ
-value_in class item = value_where class (class_of item) (class_value item)
+abbrev pub value_in : Class → Side → Item → List ℕ
+value_in class side item = value_where class (class_of side item) (class_value item)
 
--- the values of a class among these items, in order
-abbrev pub values : List Item → Class → List ℕ
-values items class = flat_map (value_in class) items
+-- the values of a class in a message of this side, in order
+abbrev pub values_in : Class → Side → List Item → List ℕ
+values_in class side items = flat_map (value_in class side) items
+
+abbrev pub values_in_entry : Class → Entry → List ℕ
+values_in_entry class (Call items) = values_in class Client items
+values_in_entry class (Reply id items) = values_in class Server items
+values_in_entry class _ = []
+
+-- the values of a class in these entries, in order
+abbrev pub values : List Entry → Class → List ℕ
+values entries class = flat_map (values_in_entry class) entries
 
 -- ---- what becomes of an item
 
@@ -57,26 +68,25 @@ with_value (Hyper name n) (Some m) = Hyper name m
 with_value (Fixed name bytes) (Some m) = Fixed name (big_bytes 8 m)
 with_value item (Some m) = item
 
--- an item whose value is masked, where these are the values of each class
-abbrev pub masked_item : Ways → (Class → List ℕ) → Item → Item
-masked_item ways seen item =
-    with_value item (substitute ways seen (class_of item) (class_value item))
+-- an item of a message of this side whose value is masked, where these are the values of each class
+abbrev pub masked_item : Ways → (Class → List ℕ) → Side → Item → Item
+masked_item ways seen side item =
+    with_value item (substitute ways seen (class_of side item) (class_value item))
 
-abbrev pub masked_items : Ways → (Class → List ℕ) → List Item → List Item
-masked_items ways seen items = map (masked_item ways seen) items
+abbrev pub masked_items : Ways → (Class → List ℕ) → Side → List Item → List Item
+masked_items ways seen side items = map (masked_item ways seen side) items
 
 -- ---- entries
 
 abbrev pub masked_entry : Ways → (Class → List ℕ) → Entry → Entry
-masked_entry ways seen (Call items) = Call (masked_items ways seen items)
-masked_entry ways seen (Reply id items) = Reply id (masked_items ways seen items)
+masked_entry ways seen (Call items) = Call (masked_items ways seen Client items)
+masked_entry ways seen (Reply id items) = Reply id (masked_items ways seen Server items)
 masked_entry ways seen entry = entry
 
 -- each value of a class is masked in the way of its class, and numbers are by rank among all of
 -- the capture
 abbrev pub masked_values : Ways → List Entry → List Entry
-masked_values ways entries =
-    map (masked_entry ways (values (flat_map items_of entries))) entries
+masked_values ways entries = map (masked_entry ways (values entries)) entries
 
 -- values are masked, and names of machines
 abbrev pub masked : Ways → List Entry → List Entry

@@ -2,6 +2,8 @@
 use Rattle.std.specs.Prelude.{◌≡◌, ◌⊎◌, ℕ, true, false, List, Option, None, Some}
 use Rattle.xdr3.specs.Item.{Item, Word, Hyper, Fixed}
 use Rattle.rpc_head.specs.declared.call.ProcId.{ProcId}
+use Rattle.capture3.specs.declared.fault.Side.{Side}
+use Rattle.capture3.specs.declared.fault.Side.TheVariants.{Client, Server}
 use Rattle.capture3.specs.Entry.{Entry, Begin, Call, Turn, Reply, Close, End}
 use Rattle.canon3.specs.Pairing.{AreBeside, OneToOne, Pairs}
 use Rattle.canon3.specs.Renaming.{Pairwise, Same}
@@ -44,18 +46,19 @@ abbrev pub ChangesOf : Ways → (Class → Pairs ℕ) → Option Class → Item 
 ChangesOf ways pairs None i j = i ≡ j
 ChangesOf ways pairs (Some class) i j = ChangesBy (way_of ways class) class (pairs class) i j
 
-abbrev pub ChangesItem : Ways → (Class → Pairs ℕ) → Item → Item → Type 0
-ChangesItem ways pairs i j = ChangesOf ways pairs (class_of i) i j
+-- an item of a message of this side
+abbrev pub ChangesItem : Ways → (Class → Pairs ℕ) → Side → Item → Item → Type 0
+ChangesItem ways pairs side i j = ChangesOf ways pairs (class_of side i) i j
 
 -- ---- entries
 
 -- only items of messages change
 pub data ChangesEntry (ways : Ways) (pairs : Class → Pairs ℕ) : Entry → Entry → Type 0 where
   begin : ChangesEntry ways pairs Begin Begin
-  call : {a b : List Item} → Pairwise (ChangesItem ways pairs) a b
+  call : {a b : List Item} → Pairwise (ChangesItem ways pairs Client) a b
       → ChangesEntry ways pairs (Call a) (Call b)
   turn : ChangesEntry ways pairs Turn Turn
-  reply : {id : ProcId} {a b : List Item} → Pairwise (ChangesItem ways pairs) a b
+  reply : {id : ProcId} {a b : List Item} → Pairwise (ChangesItem ways pairs Server) a b
       → ChangesEntry ways pairs (Reply id a) (Reply id b)
   close : ChangesEntry ways pairs Close Close
   end : ChangesEntry ways pairs End End

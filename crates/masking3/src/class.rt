@@ -1,7 +1,11 @@
 //! The classes of values that two runs of one script never share, and the items that belong to them.
 
 ghost use Rattle.std.specs.Prelude.{◌≡◌};
-ghost use Rattle.masking3.specs.Classes.{class_of_fixed, class_of_hyper, class_of_word, position, zero_stays};
+ghost use Rattle.masking3.specs.Classes.{class_of_fixed, class_of_group, class_of_hyper, class_of_word, position, zero_stays};
+ghost use Rattle.masking3.specs.machinery.MessageSide.{side_by_mtype};
+
+use byteorder::{BigEndian, ByteOrder};
+use capture3::Side;
 
 /// A class of values.
 #[derive(Clone, Copy, Debug, PartialEq, Eq)]
@@ -22,7 +26,7 @@ pub enum Class {
     CookieVerifiers,
     /// The verifiers of exclusive creates (RFC 1813, section 3.3.8).
     CreateVerifiers,
-    /// The users and groups of attributes, settings and AUTH_SYS credentials, but for lists of groups.
+    /// The users and groups of attributes, settings and AUTH_SYS credentials, with their lists of groups.
     Owners,
 }
 
@@ -52,10 +56,32 @@ impl Class {
     }
 }
 
-/// Returns the class of a word of this name.
+/// Returns the side of a message whose bytes so far are these: its xid, its mtype, which is 0 in a call (RFC
+/// 5531, section 9), and some more.
+fn side_by_mtype(body: &[u8]) -> Side
+    ensures { result ≡ side_by_mtype body.now }
+{
+    if body.len() >= 8 && BigEndian::read_u32(&body[4..]) == 0 {
+        Side::Client
+    } else {
+        Side::Server
+    }
+}
+
+/// Returns the class of a word `group`. In a reply it tells whether a group of an export follows.
+fn class_of_group(side: Side) -> Option<Class>
+    ensures { result ≡ class_of_group side }
+{
+    match side {
+        Side::Client => Some(Class::Owners),
+        Side::Server => None,
+    }
+}
+
+/// Returns the class of a word of this name, in a message whose bytes before the word are these.
 #[tactic(auto, unfolding(nfs3_types::specs::Names::names, rpc_head::specs::Names::head_names))]
-pub(crate) fn class_of_word(name: &str) -> Option<Class>
-    ensures { result ≡ class_of_word name.now }
+pub(crate) fn class_of_word(name: &str, body: &[u8]) -> Option<Class>
+    ensures { result ≡ class_of_word (side_by_mtype body.now) name.now }
 {
     match name {
         "atime_sec" | "atime_nsec" | "mtime_sec" | "mtime_nsec" | "ctime_sec" | "ctime_nsec" => {
@@ -64,6 +90,7 @@ pub(crate) fn class_of_word(name: &str) -> Option<Class>
         "stamp" => Some(Class::Stamps),
         "invarsec" => Some(Class::Space),
         "uid" | "gid" => Some(Class::Owners),
+        "group" => class_of_group(side_by_mtype(body)),
         _ => None,
     }
 }

@@ -1,11 +1,10 @@
 //! The numbers of the values of each class.
 
 ghost use Rattle.std.specs.Prelude.{◌≡◌, ◌≢◌, ◌++◌, ◌∷◌, ℕ, List, [], Some, get_or, min, nat_eq, slice_set, IfOk, OnOk};
-ghost use Rattle.xdr3.specs.Item.{Item};
 ghost use Rattle.canon3.specs.Rank.{number_limit, rank};
-ghost use Rattle.masking3.specs.Classes.{class_of, position, class_value};
-ghost use Rattle.masking3.specs.Masked.{number_among, substitute, value_where, values};
-ghost use Rattle.masking3.specs.machinery.ClassTables.{HoldsAt, HoldsValues, tables_in};
+ghost use Rattle.masking3.specs.Classes.{position};
+ghost use Rattle.masking3.specs.Masked.{number_among, substitute, value_where};
+ghost use Rattle.masking3.specs.machinery.ClassTables.{HoldsAt, HoldsValues, no_values, tables_in, with_one};
 
 use crate::class::Class;
 use crate::hashers::ClassHashers;
@@ -33,7 +32,7 @@ impl<S: BuildHasher + Drop> ClassTables<S> {
     /// Returns tables before a capture.
     pub(crate) fn new(alloc: Global, ways: Ways, hashers: ClassHashers<S>) -> ClassTables<S>
         ensures ways { result.ways ≡ ways }
-        ensures holds { HoldsValues result.ways (tables_in result) [] }
+        ensures holds { HoldsValues result.ways (tables_in result) no_values }
     {
         ClassTables {
             ways,
@@ -56,15 +55,14 @@ impl<S: BuildHasher + Drop> ClassTables<S> {
         n: u64,
     ) -> Result<Option<u32>, AllocError>
         ensures ways { self.new.ways ≡ self.old.ways }
-        ensures stands { (items : List Item) (item : Item) → class ≡ class_of item
-            → n ≡ class_value item → HoldsValues self.old.ways (tables_in self.old) items
-            → IfOk result (λ m. m ≡
-            substitute self.old.ways (values (items ++ item ∷ []))
-            (class_of item) (class_value item)) }
-        ensures holds { (items : List Item) (item : Item) → class ≡ class_of item
-            → n ≡ class_value item → HoldsValues self.old.ways (tables_in self.old) items
+        ensures stands { (seen : Class → List ℕ)
+            → HoldsValues self.old.ways (tables_in self.old) seen
+            → IfOk result
+            (λ m. m ≡ substitute self.old.ways (with_one seen class n) class n) }
+        ensures holds { (seen : Class → List ℕ)
+            → HoldsValues self.old.ways (tables_in self.old) seen
             → OnOk result
-            (HoldsValues self.new.ways (tables_in self.new) (items ++ item ∷ [])) }
+            (HoldsValues self.new.ways (tables_in self.new) (with_one seen class n)) }
     {
         let Some(class) = class else {
             return Ok(None);

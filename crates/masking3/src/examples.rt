@@ -1,7 +1,7 @@
 //! Small captures worked by hand. Each function ensures what the definitions say of some entries, and its
 //! proof computes it.
 
-ghost use Rattle.masking3.specs.Examples.{ComparesRuns, MasksGetattrs, MasksReaddirs, MasksCredentials};
+ghost use Rattle.masking3.specs.Examples.{ComparesRuns, MasksCredentials, MasksGetattrs, MasksOwners, MasksReaddirs};
 
 /// Three GETATTR replies: times and space are 0, and ids of files and of file systems are numbered apart.
 pub fn getattr_replies()
@@ -16,6 +16,12 @@ pub fn readdir_cookies()
 /// An AUTH_SYS credential: the stamp is 0, and the name of the machine is empty.
 pub fn system_credential()
     ensures { MasksCredentials }
+{}
+
+/// Two AUTH_SYS credentials and a reply to EXPORT, with numbered owners: a user and a group of one number
+/// have the same number, lists of groups too, and the words of the reply stay.
+pub fn credential_groups()
+    ensures { MasksOwners }
 {}
 
 /// Two runs that differ in times and in ids, one to one, are the same but for what is masked. Runs in which

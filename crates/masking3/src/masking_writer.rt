@@ -8,7 +8,9 @@ ghost use Rattle.canon3.specs.Bytes.{chunk_bytes, record_bytes};
 ghost use Rattle.canon3.specs.SinkWrites.{AppendsFront};
 ghost use Rattle.canon3.specs.WriteErrors.{CountsWriting, IsOfWriting};
 ghost use Rattle.masking3.specs.Ways.{usual};
-ghost use Rattle.masking3.specs.machinery.MaskingWriter.{HasMemory, MaskStands, after_messages, written_as};
+ghost use Rattle.capture3.specs.declared.fault.Side.{Side};
+ghost use Rattle.masking3.specs.machinery.MaskingWriter.{HasMemory, MaskStands, after_messages, as_in_calls, written_as};
+ghost use Rattle.masking3.specs.machinery.MessageSide.{BeginsOn};
 ghost use Rattle.masking3.specs.machinery.UnnamedBody.{body_by, unnamed_body};
 
 use crate::class::{class_of_fixed, class_of_hyper, class_of_word};
@@ -73,9 +75,10 @@ impl<P: Plan, S: BuildHasher + Drop> MaskingWriter<P, S> {
 
     /// Begins a message in place of the one before.
     pub(crate) fn begin_message(&mut self)
-        ensures stands { (front items : List Item)
+        ensures stands { (front items : List Item) (side : Side) → BeginsOn side items
             → MaskStands P.ways self.old (after_messages front items)
-            → MaskStands P.ways self.new (after_messages (front ++ items) []) }
+            → MaskStands P.ways self.new
+            (after_messages (front ++ as_in_calls side items) []) }
         ensures going { HasMemory self.old → HasMemory self.new }
     {
         self.writer.clear();
@@ -85,7 +88,8 @@ impl<P: Plan, S: BuildHasher + Drop> MaskingWriter<P, S> {
         ensures ok { OnOk result
             (Adds (MaskStands P.ways) self.old self.new (Word name.now n ∷ [])) }
     {
-        match self.classes.substitute(class_of_word(name), u64::from(n))? {
+        let class = class_of_word(name, self.writer.bytes());
+        match self.classes.substitute(class, u64::from(n))? {
             Some(substitute) => self.writer.word(name, substitute),
             None => self.writer.word(name, n),
         }

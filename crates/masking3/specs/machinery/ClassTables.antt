@@ -1,13 +1,12 @@
 -- Tables of the values of each class.
-use Rattle.std.specs.Prelude.{◌≡◌, ℕ, nat_eq, List, [], ◌∷◌, get_or}
-use Rattle.xdr3.specs.Item.{Item}
+use Rattle.std.specs.Prelude.{◌≡◌, ℕ, nat_eq, Option, List, [], ◌∷◌, ◌++◌, get_or}
 use Rattle.canon3.specs.Rank.{HoldsDistinct}
 use Rattle.masking3.specs.declared.class.Class.{Class}
 use Rattle.masking3.specs.declared.class_tables.ClassTables.{ClassTables}
 use Rattle.masking3.specs.declared.ways.Way.TheVariants.{Number}
 use Rattle.masking3.specs.declared.ways.Ways.{Ways}
 use Rattle.masking3.specs.Classes.{position}
-use Rattle.masking3.specs.Masked.{values}
+use Rattle.masking3.specs.Masked.{value_where}
 use Rattle.masking3.specs.Ways.{way_of}
 
 -- by the places of the classes
@@ -20,7 +19,15 @@ tables_in t =
 abbrev pub HoldsAt : List (List ℕ) → ℕ → List ℕ → Type 0
 HoldsAt tables place seen = HoldsDistinct nat_eq (get_or tables place []) seen
 
--- the table of each class that is numbered holds its values among these items
-abbrev pub HoldsValues : Ways → List (List ℕ) → List Item → Type 0
-HoldsValues ways tables items = (class : Class) → way_of ways class ≡ Number
-    → HoldsAt tables (position class) (values items class)
+-- the table of each class that is numbered holds its values, where these are those of each class
+abbrev pub HoldsValues : Ways → List (List ℕ) → (Class → List ℕ) → Type 0
+HoldsValues ways tables seen = (class : Class) → way_of ways class ≡ Number
+    → HoldsAt tables (position class) (seen class)
+
+-- the values of each class, where none came yet
+abbrev pub no_values : Class → List ℕ
+no_values class = []
+
+-- the values of each class, where a number of a class or of none came after these
+abbrev pub with_one : (Class → List ℕ) → Option Class → ℕ → Class → List ℕ
+with_one seen own n class = seen class ++ value_where class own n

@@ -4,7 +4,6 @@ use Rattle.nfs3_types.specs.Names.{names}
 use Rattle.rpc_head.specs.Names.{head_names}
 use Rattle.capture3.specs.Entry.{Entry}
 use Rattle.canon3.specs.Canonical.{canonical}
-use Rattle.canon3.specs.machinery.Summary.{all_items}
 use Rattle.canon3.proofs.Checks.{not_same_by, same_by}
 use Rattle.masking3.specs.declared.class.Class.{Class}
 use Rattle.masking3.specs.Examples.{list_from, getattrs_of_two}
@@ -26,10 +25,10 @@ free_cookie : (cookie : ℕ) → AllByRecursion HasFreeXid (list_from cookie)
 unfolding names head_names
 free_cookie cookie = assumption
 
-room : (first second sec : ℕ) (d : Class) → length (values (all_items (getattrs_of_two first second sec)) d) < 2 ^ 64
+room : (first second sec : ℕ) (d : Class) → length (values (getattrs_of_two first second sec) d) < 2 ^ 64
 unfolding names head_names
 room first second sec d =
-    for_each (λ d. length (values (all_items (getattrs_of_two first second sec)) d) < 2 ^ 64) (omega arith) (omega arith) (omega arith) (omega arith) (omega arith) (omega arith) (omega arith) (omega arith) (omega arith) d
+    for_each (λ d. length (values (getattrs_of_two first second sec) d) < 2 ^ 64) (omega arith) (omega arith) (omega arith) (omega arith) (omega arith) (omega arith) (omega arith) (omega arith) (omega arith) d
 
 pub returns : goal.returns
 unfolding names head_names

@@ -1,13 +1,16 @@
 use Rattle.std.proofs.Common.{List, ℕ, [], ap, append-nil, ◌∙◌, length, min, subst}
 use Rattle.std.specs.Prelude.{bytes_eq}
+use Rattle.std.specs.List.{flat_map}
+use Rattle.capture3.specs.declared.fault.Side.TheVariants.{Client}
 use Rattle.canon3.specs.HandleTable.{Gathers}
 use Rattle.canon3.specs.Rank.{distinct, number_limit}
-use Rattle.canon3.specs.machinery.Summary.{all_items}
-use Rattle.canon3.proofs.HandleTableLemmas.{handles_of_all}
+use Rattle.masking3.specs.machinery.MaskingWriter.{entry_as_call}
+use Rattle.masking3.proofs.SideLemmas.{begins_none, handles_before}
 use Rattle.masking3.proofs.WriterLemmas.{is_after}
 use Rattle.masking3.proofs.masked_form.MaskingWriterEntryWriter.handles.Goals as goal
 
 pub returns : goal.returns
 returns g c entries goes stands =
-    let gathered = subst (Gathers c.args.self.now.handles) (append-nil (all_items entries)) (is_after g.P.Plan.ways c.args.self.now (all_items entries) [] goes stands).handles in
-    c.len.ensures (all_items entries) gathered ∙ ap (λ (l : List (List ℕ)). min (length (distinct bytes_eq l)) number_limit) (handles_of_all entries)
+    let front = flat_map entry_as_call entries in
+    let gathered = subst (Gathers c.args.self.now.handles) (append-nil front) (is_after g.P.Plan.ways c.args.self.now front [] Client (begins_none Client) goes stands).handles in
+    c.len.ensures front gathered ∙ ap (λ (l : List (List ℕ)). min (length (distinct bytes_eq l)) number_limit) (handles_before entries)

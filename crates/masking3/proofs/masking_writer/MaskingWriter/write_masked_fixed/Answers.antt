@@ -11,9 +11,10 @@ returns-in-Some g c =
     let i = Fixed c.args.name.now c.args.bytes.now in
     record {
       ok = on_ok_weaker c.fixed.result
-          (adds_of_class g.P.Plan.ways c.args.self.now c.substitute.new.self c.fixed.new.self i (Fixed c.args.name.now c.write_u64.new.buf) (Some c.in-Some.substitute) refl c.substitute.ensures.ways
-          (λ items h. c.in_ok-substitute.ensures.holds items i c.class_of_fixed.ensures c.read_u64-value.ensures h)
-          (λ items h. sym c.in-Some.is ∙ c.in_ok-substitute.ensures.stands items i c.class_of_fixed.ensures c.read_u64-value.ensures h) (ap (Fixed c.args.name.now) (sym (c.write_u64.ensures ∙ (ap (λ n. big_bytes 8 n ++ []) c.from.ensures ∙ append-nil (big_bytes 8 c.in-Some.substitute))))))
+          (adds_of_class g.P.Plan.ways c.args.self.now c.class_of_fixed.result c.read_u64-value.result c.substitute.new.self c.fixed.new.self i (Fixed c.args.name.now c.write_u64.new.buf) (Some c.in-Some.substitute) c.read_u64-value.ensures refl c.substitute.ensures.ways
+          (λ side seen items b e. c.class_of_fixed.ensures)
+          (λ seen h. c.in_ok-substitute.ensures.holds seen h)
+          (λ seen h. sym c.in-Some.is ∙ c.in_ok-substitute.ensures.stands seen h) (ap (Fixed c.args.name.now) (sym (c.write_u64.ensures ∙ (ap (λ n. big_bytes 8 n ++ []) c.from.ensures ∙ append-nil (big_bytes 8 c.in-Some.substitute))))))
           c.fixed.ensures.ok;
     }
 
@@ -22,8 +23,9 @@ returns-in-None g c =
     let i = Fixed c.args.name.now c.args.bytes.now in
     record {
       ok = on_ok_weaker c.fixed-in-None.result
-          (adds_of_class g.P.Plan.ways c.args.self.now c.substitute.new.self c.fixed-in-None.new.self i i None refl c.substitute.ensures.ways
-          (λ items h. c.in_ok-substitute.ensures.holds items i c.class_of_fixed.ensures c.read_u64-value.ensures h)
-          (λ items h. sym c.in-None.is ∙ c.in_ok-substitute.ensures.stands items i c.class_of_fixed.ensures c.read_u64-value.ensures h) refl)
+          (adds_of_class g.P.Plan.ways c.args.self.now c.class_of_fixed.result c.read_u64-value.result c.substitute.new.self c.fixed-in-None.new.self i i None c.read_u64-value.ensures refl c.substitute.ensures.ways
+          (λ side seen items b e. c.class_of_fixed.ensures)
+          (λ seen h. c.in_ok-substitute.ensures.holds seen h)
+          (λ seen h. sym c.in-None.is ∙ c.in_ok-substitute.ensures.stands seen h) refl)
           c.fixed-in-None.ensures.ok;
     }

@@ -10,9 +10,10 @@ returns-in-Some g c =
     let i = Hyper c.args.name.now c.args.n in
     record {
       ok = on_ok_weaker c.hyper.result
-          (adds_of_class g.P.Plan.ways c.args.self.now c.substitute.new.self c.hyper.new.self i (Hyper c.args.name.now c.from.result) (Some c.in-Some.substitute) refl c.substitute.ensures.ways
-          (λ items h. c.in_ok-substitute.ensures.holds items i c.class_of_hyper.ensures refl h)
-          (λ items h. sym c.in-Some.is ∙ c.in_ok-substitute.ensures.stands items i c.class_of_hyper.ensures refl h) (ap (Hyper c.args.name.now) (sym c.from.ensures)))
+          (adds_of_class g.P.Plan.ways c.args.self.now c.class_of_hyper.result c.args.n c.substitute.new.self c.hyper.new.self i (Hyper c.args.name.now c.from.result) (Some c.in-Some.substitute) refl refl c.substitute.ensures.ways
+          (λ side seen items b e. c.class_of_hyper.ensures)
+          (λ seen h. c.in_ok-substitute.ensures.holds seen h)
+          (λ seen h. sym c.in-Some.is ∙ c.in_ok-substitute.ensures.stands seen h) (ap (Hyper c.args.name.now) (sym c.from.ensures)))
           c.hyper.ensures.ok;
     }
 
@@ -21,8 +22,9 @@ returns-in-None g c =
     let i = Hyper c.args.name.now c.args.n in
     record {
       ok = on_ok_weaker c.hyper-in-None.result
-          (adds_of_class g.P.Plan.ways c.args.self.now c.substitute.new.self c.hyper-in-None.new.self i i None refl c.substitute.ensures.ways
-          (λ items h. c.in_ok-substitute.ensures.holds items i c.class_of_hyper.ensures refl h)
-          (λ items h. sym c.in-None.is ∙ c.in_ok-substitute.ensures.stands items i c.class_of_hyper.ensures refl h) refl)
+          (adds_of_class g.P.Plan.ways c.args.self.now c.class_of_hyper.result c.args.n c.substitute.new.self c.hyper-in-None.new.self i i None refl refl c.substitute.ensures.ways
+          (λ side seen items b e. c.class_of_hyper.ensures)
+          (λ seen h. c.in_ok-substitute.ensures.holds seen h)
+          (λ seen h. sym c.in-None.is ∙ c.in_ok-substitute.ensures.stands seen h) refl)
           c.hyper-in-None.ensures.ok;
     }
