@@ -11,11 +11,11 @@ use Rattle.canon3.specs.Pairing.{Member, here, there, IsHandle, IsVerifier}
 use Rattle.canon3.specs.Canonical.{canonical}
 use Rattle.canon3.specs.Renaming.{Same}
 use Rattle.canon3.specs.Parting.{Parting, IsPlaceOf}
-use Rattle.canon3.proofs.Order.{Stage, Between, InCalls, InReplies, Over, begin, call, turn, reply, close, end, Runs, stays, steps, IsWellFormed}
-use Rattle.canon3.proofs.RankLemmas.{member_of_test}
-use Rattle.canon3.proofs.Equality.{same_from_canonical}
-use Rattle.canon3.proofs.Prefixes.{parts_from_first_difference}
-use Rattle.canon3.proofs.OneFormLemmas.{canonical-same}
+use Rattle.canon3.proofs.Lemmas.Order.Order.{Stage, Between, InCalls, InReplies, Over, begin, call, turn, reply, close, end, Runs, stays, steps, IsWellFormed}
+use Rattle.canon3.proofs.Lemmas.Numbers.RankLemmas.{member_of_test}
+use Rattle.canon3.proofs.Lemmas.Renaming.Equality.{same_from_canonical}
+use Rattle.canon3.proofs.Lemmas.Order.Prefixes.{parts_from_first_difference}
+use Rattle.canon3.proofs.Lemmas.Canonical.OneFormLemmas.{canonical-same}
 
 and_left : (a b : Bool) → (a && b) ≡ true → a ≡ true
 and_left true b e = refl

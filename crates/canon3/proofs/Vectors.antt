@@ -17,8 +17,8 @@ use Rattle.capture3.specs.Entry.{Entry}
 use Rattle.capture3.specs.FirstFault.{FirstFault}
 use Rattle.capture3.specs.BodyProgram.{judge_call, judge_reply}
 use Rattle.capture3.specs.FileMachine.{verdict}
-use Rattle.capture3.proofs.BytesOf.{all_bytes, checked}
-use Rattle.capture3.proofs.Verdicts.{fault_from_verdict, typed_from_verdict}
+use Rattle.capture3.proofs.Lemmas.Container.BytesOf.{all_bytes, checked}
+use Rattle.capture3.proofs.Lemmas.Files.Verdicts.{fault_from_verdict, typed_from_verdict}
 use Rattle.canon3.specs.Bytes.{bytes_of}
 use Rattle.canon3.specs.Canonical.{canonical}
 use Rattle.canon3.specs.Examples.{p, q}

@@ -1,7 +1,7 @@
 -- Which handles a table holds.
 use Rattle.std.specs.Prelude.{◌≡◌, ℕ, Bool, List, map, bytes_eq}
 use Rattle.xdr3.specs.Item.{Item}
-use Rattle.nfs3_types.specs.declared.handle.Handle.{Handle}
+use Rattle.nfs3_types.specs.declared.values.handle.Handle.{Handle}
 use Rattle.nfs3_types.specs.Handle.{handle_bytes}
 use Rattle.canon3.specs.Rank.{HoldsDistinct}
 use Rattle.canon3.specs.Values.{handles_in}

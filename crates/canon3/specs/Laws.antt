@@ -2,7 +2,7 @@
 use Rattle.std.specs.Prelude.{◌≡◌, ◌≢◌, ◌≤◌, ◌↔◌, ◌+◌, ◌⊎◌, ℕ, List, ◌++◌, take, slice_get, Some, None}
 use Rattle.xdr3.specs.Item.{Item}
 use Rattle.xdr3.specs.Layout.{FitsLayout}
-use Rattle.rpc_head.specs.declared.call.ProcId.{ProcId}
+use Rattle.rpc_head.specs.declared.values.call.ProcId.{ProcId}
 use Rattle.rpc_head.specs.Messages.{call_layout, reply_layout, procedure_in}
 use Rattle.procs3.specs.Table.{arguments_of, results_of}
 use Rattle.capture3.specs.Capture.{total_size}

@@ -1,14 +1,14 @@
 -- What clauses inside the crate and proofs name, and no reader of a public clause has to believe.
-pub mod CanonicalForm
-pub mod CanonicalStream
-pub mod Comparison
-pub mod EntryWriter
+pub mod FormSteps
+pub mod OpenXids
+pub mod ComparisonSteps
+pub mod WritingSteps
 pub mod MessageWriter
-pub mod Passed
-pub mod Progress
-pub mod SinkWrites
+pub mod CountedKinds
+pub mod ProgressSteps
+pub mod PartialWrites
 pub mod Spelling
-pub mod Summary
+pub mod Sums
 pub mod Tally
 pub mod WaitingHandles
 pub mod XidNumbers

@@ -9,7 +9,7 @@ ghost use Rattle.canon3.specs.machinery.MessageWriter.{WriterStands, told_after,
 ghost use Rattle.capture3.specs.Told.{GavePrefix};
 ghost use Rattle.canon3.specs.CanonicalForm.{canonical_bytes, RewritesGiven, WritesNoMore};
 ghost use Rattle.canon3.specs.EntryWriter.{WritesAll};
-ghost use Rattle.canon3.specs.machinery.CanonicalForm.{Follows, magic_before};
+ghost use Rattle.canon3.specs.machinery.FormSteps.{Follows, magic_before};
 ghost use Rattle.canon3.specs.Passed.{connections_in};
 ghost use Rattle.capture3.specs.Kept.{IsOfKind};
 ghost use Rattle.capture3.specs.Entry.{items_of};
@@ -115,7 +115,7 @@ fn follow<S: BuildHasher + Drop, W: Sink>(
 impl<S: BuildHasher + Drop> EntryWriter for MessageWriter<S> {
     ghost use Rattle.canon3.specs.machinery.MessageWriter.{IsGoing};
     ghost use Rattle.canon3.specs.CanonicalForm.{canonical_bytes};
-    ghost use Rattle.canon3.specs.machinery.CanonicalForm.{values_before};
+    ghost use Rattle.canon3.specs.machinery.FormSteps.{values_before};
 
     ghost form = { canonical_bytes };
 

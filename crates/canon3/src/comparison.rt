@@ -3,11 +3,11 @@
 ghost use Rattle.std.specs.Prelude.{◌≡◌, ◌≢◌, ◌<◌, ◌≤◌, ◌+◌, ◌^◌, ◌++◌, ◌∷◌, ℕ, List, [], length, None, Some, IfErr, IfOk, IsTrue, OnOk};
 ghost use Rattle.capture3.specs.Told.{GavePrefix, Told};
 ghost use Rattle.capture3.specs.Entries.{CountsReads, failure_of, loan_of, source_of};
-ghost use Rattle.capture3.specs.machinery.Entries.{entries_left, StandsFor};
+ghost use Rattle.capture3.specs.machinery.EntriesHistory.{entries_left, StandsFor};
 ghost use Rattle.capture3.specs.Entry as spec;
 ghost use Rattle.capture3.specs.Laws.{most_entries};
 ghost use Rattle.canon3.specs.Comparison.{CountsReadingOf, DecidesGiven, DecidesSame};
-ghost use Rattle.canon3.specs.machinery.Comparison.{Compares, CountsReadsOf, FindsOut, HasGiven, HasGivenOn, IsCompared, IsFound, IsReadAfter, IsReadOut, IsTold, IsComparing, Meets, met_second, ReadsOn, refusal_in, StepsOn};
+ghost use Rattle.canon3.specs.machinery.ComparisonSteps.{Compares, CountsReadsOf, FindsOut, HasGiven, HasGivenOn, IsCompared, IsFound, IsReadAfter, IsReadOut, IsTold, IsComparing, Meets, met_second, ReadsOn, refusal_in, StepsOn};
 ghost use Rattle.canon3.specs.Laws.{AreFirst};
 ghost use Rattle.canon3.specs.Progress.{steps_of};
 ghost use Rattle.capture3.specs.Kept.{IsOfKind};

@@ -4,11 +4,11 @@ ghost use Rattle.std.specs.Prelude.{◌≡◌, ◌<◌, ◌≤◌, ◌+◌, ◌^
 ghost use Rattle.capture3.specs.Told.{GavePrefix, Told};
 ghost use Rattle.xdr3.specs.Item.{Item};
 ghost use Rattle.capture3.specs.Entries.{CountsReading, CountsReads, failure_of, loan_of, source_of};
-ghost use Rattle.capture3.specs.machinery.Entries.{entries_left, StandsFor};
+ghost use Rattle.capture3.specs.machinery.EntriesHistory.{entries_left, StandsFor};
 ghost use Rattle.capture3.specs.Entry as spec;
 ghost use Rattle.capture3.specs.Laws.{most_entries};
 ghost use Rattle.canon3.specs.EntryWriter.{KeepsPrefixes, WritesAll, WritesGiven, WritesOne};
-ghost use Rattle.canon3.specs.machinery.EntryWriter.{WritesOn, HasWritten, IsEnded, WritesToTheEnd, IsWriting, WritesMore};
+ghost use Rattle.canon3.specs.machinery.WritingSteps.{WritesOn, HasWritten, IsEnded, WritesToTheEnd, IsWriting, WritesMore};
 ghost use Rattle.canon3.specs.Passed.{ArePassed, passed_steps};
 ghost use Rattle.canon3.specs.Rank.{distinct, number_limit};
 ghost use Rattle.canon3.specs.Values as values;

@@ -2,7 +2,7 @@
 
 ghost use Rattle.std.specs.Prelude.{◌≡◌, ◌++◌, ◌∷◌, List, [], bytes_eq, length, min, OnErr, OnOk};
 ghost use Rattle.xdr3.specs.Item.{Item};
-ghost use Rattle.nfs3_types.specs.declared.handle.Handle as handles;
+ghost use Rattle.nfs3_types.specs.declared.values.handle.Handle as handles;
 ghost use Rattle.canon3.specs.HandleTable.{Gathers, same_handle};
 ghost use Rattle.canon3.specs.Rank.{distinct, number_limit, HoldsDistinct};
 ghost use Rattle.canon3.specs.Values.{handles_in};
@@ -22,7 +22,7 @@ pub struct HandleTable<S: BuildHasher + Drop> {
 
 impl<S: BuildHasher + Drop> Model for HandleTable<S> {
     ghost use Rattle.std.specs.Prelude.{List};
-    ghost use Rattle.nfs3_types.specs.declared.handle.Handle.{Handle};
+    ghost use Rattle.nfs3_types.specs.declared.values.handle.Handle.{Handle};
 
     ghost Value = { List Handle };
 
@@ -58,7 +58,7 @@ impl<S: BuildHasher + Drop> HandleTable<S> {
     }
 }
 
-#[tactic(auto, using(crate::proofs::HandleTableLemmas::gathers_none), unfolding(xdr3::specs::Visit::Adds, xdr3::specs::Visit::Keeps))]
+#[tactic(auto, using(crate::proofs::Lemmas::Numbers::HandleTableLemmas::gathers_none), unfolding(xdr3::specs::Visit::Adds, xdr3::specs::Visit::Keeps))]
 impl<S: BuildHasher + Drop> Visit for HandleTable<S> {
     ghost use Rattle.canon3.specs.HandleTable.{Gathers};
 

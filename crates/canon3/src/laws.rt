@@ -3,7 +3,7 @@
 ghost use Rattle.std.specs.Prelude.{◌≡◌, ◌+◌, ℕ, List, [], ◌∷◌, ◌++◌, map, take, bytes_eq};
 ghost use Rattle.std.specs.List.{position_or_len};
 ghost use Rattle.xdr3.specs.Item.{Item};
-ghost use Rattle.rpc_head.specs.declared.call.ProcId.{ProcId};
+ghost use Rattle.rpc_head.specs.declared.values.call.ProcId.{ProcId};
 ghost use Rattle.capture3.specs.Capture.{total_size};
 ghost use Rattle.capture3.specs.Entry.{Entry};
 ghost use Rattle.capture3.specs.Reached.{Reached};

@@ -3,9 +3,9 @@
 ghost use Rattle.std.specs.Prelude.{◌≡◌, ◌<◌, ◌≤◌, ◌+◌, ◌^◌, ◌++◌, ◌∷◌, List, [], bytes_eq, if◌then◌else◌, length, min};
 ghost use Rattle.capture3.specs.Entry as spec;
 ghost use Rattle.canon3.specs.Passed.{ArePassed, connections_in, passed_steps, records_in};
-ghost use Rattle.canon3.specs.machinery.Passed.{calls, replies};
+ghost use Rattle.canon3.specs.machinery.CountedKinds.{calls, replies};
 ghost use Rattle.canon3.specs.Rank.{distinct, number_limit};
-ghost use Rattle.canon3.specs.machinery.Summary.{Sums};
+ghost use Rattle.canon3.specs.machinery.Sums.{Sums};
 ghost use Rattle.capture3.specs.Kept.{IsOfKind};
 ghost use Rattle.canon3.specs.Values as values;
 

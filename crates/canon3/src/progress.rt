@@ -2,7 +2,7 @@
 
 ghost use Rattle.std.specs.Prelude.{◌≡◌, ◌<◌, ◌≤◌, ◌+◌, ◌^◌, [], None, Some};
 ghost use Rattle.canon3.specs.Progress.{HasPassed, steps_of};
-ghost use Rattle.canon3.specs.machinery.Progress.{side_of_kind, place_from, progress_after};
+ghost use Rattle.canon3.specs.machinery.ProgressSteps.{side_of_kind, place_from, progress_after};
 
 use capture3::{Kind, Place, Side};
 

@@ -3,13 +3,13 @@
 ghost use Rattle.std.specs.Prelude.{◌≡◌, ◌≢◌, ◌<◌, ◌≤◌, ◌+◌, ℕ, List, [], Option, None, Some, IfErr, IfOk, IsTrue, OnOk};
 ghost use Rattle.capture3.specs.Told.{GavePrefix, Told};
 ghost use Rattle.capture3.specs.Entries.{CountsReading, CountsReads, failure_of, loan_of, OnRefused, source_of};
-ghost use Rattle.capture3.specs.machinery.Entries.{entries_left, StandsFor};
+ghost use Rattle.capture3.specs.machinery.EntriesHistory.{entries_left, StandsFor};
 ghost use Rattle.capture3.specs.Entry as spec;
 ghost use Rattle.capture3.specs.FirstFault.{FirstFault};
 ghost use Rattle.capture3.specs.Laws.{most_entries};
 ghost use Rattle.canon3.specs.Passed.{passed_steps};
 ghost use Rattle.canon3.specs.Summary.{ConcludesAll, ConcludesGiven, IsSummary};
-ghost use Rattle.canon3.specs.machinery.Summary.{Sums};
+ghost use Rattle.canon3.specs.machinery.Sums.{Sums};
 ghost use Rattle.canon3.specs.machinery.Tally.{TalliesOn, TalliesToTheEnd, IsTallying, Tallies};
 
 use crate::passed::Passed;

@@ -82,7 +82,7 @@ impl<S: BuildHasher + Drop> WaitingHandles<S> {
     }
 }
 
-#[tactic(auto, using(crate::proofs::HandleTableLemmas::waits_none), unfolding(xdr3::specs::Visit::Adds, xdr3::specs::Visit::Keeps))]
+#[tactic(auto, using(crate::proofs::Lemmas::Numbers::HandleTableLemmas::waits_none), unfolding(xdr3::specs::Visit::Adds, xdr3::specs::Visit::Keeps))]
 impl<S: BuildHasher + Drop> Visit for WaitingHandles<S> {
     ghost use Rattle.canon3.specs.machinery.WaitingHandles.{GathersAll};
 

@@ -6,7 +6,7 @@ use Rattle.xdr3.specs.declared.reason.Stop.{Stop}
 use Rattle.xdr3.specs.Item.{Item, Word, Spells}
 use Rattle.xdr3.specs.Layout.{Layout, FitsLayout, ReadsLayout, RefusesLayout, word_in}
 use Rattle.xdr3.specs.Shape.{Reads, Refuses}
-use Rattle.rpc_head.specs.declared.call.ProcId.{ProcId}
+use Rattle.rpc_head.specs.declared.values.call.ProcId.{ProcId}
 use Rattle.rpc_head.specs.Messages.{call_layout, reply_layout, procedure_in}
 use Rattle.rpc_head.specs.Names.{head_names}
 use Rattle.rpc_head.specs.Shapes.{message_start}

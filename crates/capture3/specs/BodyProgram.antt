@@ -5,7 +5,7 @@ use Rattle.xdr3.specs.declared.reason.Stop.{Stop}
 use Rattle.xdr3.specs.Item.{Item}
 use Rattle.xdr3.specs.Layout.{Layout, reading_layout, word_in}
 use Rattle.xdr3.specs.Reading.{◌>>=◌, reading, refused}
-use Rattle.rpc_head.specs.declared.call.ProcId.{ProcId}
+use Rattle.rpc_head.specs.declared.values.call.ProcId.{ProcId}
 use Rattle.rpc_head.specs.Messages.{call_layout, reply_layout, procedure_in}
 use Rattle.rpc_head.specs.Shapes.{message_start}
 use Rattle.procs3.specs.Table.{arguments_of, results_of}

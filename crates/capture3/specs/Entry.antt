@@ -1,6 +1,6 @@
 -- The entries of a capture.
 use Rattle.std.specs.Prelude.{List, []}
-use Rattle.rpc_head.specs.declared.call.ProcId.{ProcId}
+use Rattle.rpc_head.specs.declared.values.call.ProcId.{ProcId}
 use Rattle.xdr3.specs.Item.{Item}
 
 -- For each connection its begin, its calls, a turn, its replies and its close, and then the

@@ -13,7 +13,7 @@ use Rattle.capture3.specs.Kept.{IsOfKind}
 use Rattle.capture3.specs.Reached.{AreFirstReached}
 use Rattle.capture3.specs.Typed.{Typed}
 use Rattle.capture3.specs.Entries.{IsMetBy}
-use Rattle.capture3.specs.machinery.Entries.{StandsFor}
+use Rattle.capture3.specs.machinery.EntriesHistory.{StandsFor}
 
 module _ {R S H : Type 0} {builds : BuildHasher.Ghosts S H} {hashes : Hasher.Ghosts H} where
   -- ---- what a call makes of a history, and of a visitor

@@ -2,7 +2,7 @@
 use Rattle.std.specs.Prelude.{ℕ, List}
 use Rattle.xdr3.specs.Item.{Item}
 use Rattle.xdr3.specs.Visit.{Adds}
-use Rattle.rpc_head.specs.declared.call.ProcId.{ProcId}
+use Rattle.rpc_head.specs.declared.values.call.ProcId.{ProcId}
 use Rattle.capture3.specs.Bodies.{IsCall, IsReply}
 
 -- a visitor was told the items of the call that the body spells

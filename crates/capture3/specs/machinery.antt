@@ -2,14 +2,14 @@
 pub mod Calls
 pub mod Container
 pub mod Counting
-pub mod Entries
+pub mod EntriesHistory
 pub mod EntryParser
-pub mod MessageScan
+pub mod ScannedMessages
 pub mod Messages
 pub mod OtherCalls
 pub mod Position
 pub mod KeptStreams
 pub mod FileStanding
-pub mod SideMachine
+pub mod SideStart
 pub mod Spelled
 pub mod ContainerMachine

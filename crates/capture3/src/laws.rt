@@ -9,7 +9,7 @@ ghost use Rattle.capture3.specs.Capture.{IsCapture, Version};
 ghost use Rattle.capture3.specs.SidedChunks.{Streams};
 ghost use Rattle.capture3.specs.Connections.{calls_in_turn, replies_to};
 ghost use Rattle.capture3.specs.Entries.{KeepsLimits};
-ghost use Rattle.capture3.specs.machinery.Entries.{StandsFor};
+ghost use Rattle.capture3.specs.machinery.EntriesHistory.{StandsFor};
 ghost use Rattle.capture3.specs.Entry.{Entry};
 ghost use Rattle.capture3.specs.FirstFault.{FirstFault, IsClean};
 ghost use Rattle.capture3.specs.Laws.{AreWithinLimits, HasItsPlace, HasOneVerdict, HaveSameEntries, IsCutShort, IsJudgedInTurn, IsJudgedOnce, IsWithinVersion, most_bytes};

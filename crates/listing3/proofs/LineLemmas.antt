@@ -8,10 +8,10 @@ use Rattle.std.proofs.Math.Seq.{take-append_seam}
 use Rattle.std.proofs.lemmas.Grind.{flat_map-append}
 use Rattle.xdr3.specs.Item.{Item, Word, Opaque, Handle}
 use Rattle.xdr3.specs.Visit.{Adds, Keeps}
-use Rattle.rpc_head.specs.declared.call.ProcId.{ProcId}
+use Rattle.rpc_head.specs.declared.values.call.ProcId.{ProcId}
 use Rattle.rpc_head.specs.Messages.{procedure_in}
 use Rattle.rpc_head.specs.Names.{head_names}
-use Rattle.nfs3_types.specs.declared.handle.Handle as handles
+use Rattle.nfs3_types.specs.declared.values.handle.Handle as handles
 use Rattle.capture3.specs.declared.reader.entry.Kind.{Kind}
 use Rattle.capture3.specs.declared.reader.entry.Kind.TheVariants as kinds
 use Rattle.capture3.specs.declared.fault.Error.{Error}
@@ -25,10 +25,10 @@ use Rattle.canon3.specs.Laws.{AreFirst}
 use Rattle.canon3.specs.Progress.{HasPassed}
 use Rattle.canon3.specs.Values.{handles_in}
 use Rattle.canon3.specs.SinkWrites.{AppendsFront}
-use Rattle.canon3.proofs.HandleTableLemmas.{gathers_none}
-use Rattle.canon3.proofs.Laid.{IsLaidOut, last_laid}
-use Rattle.canon3.proofs.Messages.{is_headed_call, is_headed_reply}
-use Rattle.canon3.proofs.SinkWritesLemmas.{front_of_second}
+use Rattle.canon3.proofs.Lemmas.Numbers.HandleTableLemmas.{gathers_none}
+use Rattle.canon3.proofs.Lemmas.WellFormed.Laid.{IsLaidOut, last_laid}
+use Rattle.canon3.proofs.Lemmas.WellFormed.Messages.{is_headed_call, is_headed_reply}
+use Rattle.canon3.proofs.Lemmas.Writing.SinkWritesLemmas.{front_of_second}
 use Rattle.listing3.proofs.ListingLemmas.{shown_push}
 use Rattle.listing3.specs.machinery.LineWriter.{always, after_front, HasLineUnderWay, IsTextOf, items_before, LineStands}
 use Rattle.listing3.specs.Listing.{entry_line, line, opening, prefix, procedure_name, shown, shown_item, shown_items}

@@ -5,15 +5,15 @@ use Rattle.std.specs.List.{AllByRecursion, list_all}
 use Rattle.std.proofs.lemmas.Bool.{and_parts, leb-true}
 use Rattle.std.proofs.lemmas.Fmt.{decimal_injective}
 use Rattle.xdr3.specs.Item.{Item}
-use Rattle.rpc_head.specs.declared.call.ProcId.{ProcId}
+use Rattle.rpc_head.specs.declared.values.call.ProcId.{ProcId}
 use Rattle.rpc_head.specs.Messages.{procedure_in}
 use Rattle.procs3.specs.Names.{mount_name, name_of_procedure, nfs_name}
 use Rattle.procs3.specs.Table.{is_mount, is_nfs}
 use Rattle.capture3.specs.Bodies.{ReplyItems, xid_in}
 use Rattle.capture3.specs.Entry.{Entry, Call, Turn, Close}
 use Rattle.capture3.specs.Typed.{HaveOneProcedure, IsIn, reply_entry}
-use Rattle.canon3.proofs.Conversations.{Conversation}
-use Rattle.canon3.proofs.Files.{all_of, all_regrouped}
+use Rattle.canon3.proofs.Lemmas.WellFormed.Conversations.{Conversation}
+use Rattle.canon3.proofs.Lemmas.WellFormed.Files.{all_of, all_regrouped}
 use Rattle.listing3.specs.Listing.{client, line, lines_after, message_text, named, prefix, procedure_name, server, shown_item, shown_items}
 use Rattle.listing3.proofs.NamedItems.{AreNamed}
 use Rattle.listing3.proofs.Texts.{decimal_digits, Ends, IsSpellable, items_end, same_digits, same_item, same_items, same_runs, Stops}

@@ -4,7 +4,7 @@ use Rattle.capture3.specs.Entry.{Entry}
 use Rattle.canon3.specs.EntryWriter.{KeepsPrefixes}
 use Rattle.listing3.specs.Listing.{entry_line, lines_after, shown}
 use Rattle.canon3.specs.Parting.{connections, records_after}
-use Rattle.canon3.proofs.ProgressLemmas.{connections-append, records-append}
+use Rattle.canon3.proofs.Lemmas.Progress.ProgressLemmas.{connections-append, records-append}
 
 pub lines-append : (begun records : ℕ) (a b : List Entry) → lines_after begun records (a ++ b) ≡ lines_after begun records a ++ lines_after (begun + connections a) (records_after records a) b
 lines-append begun records [] b = ap (λ n. lines_after n records b) (omega arith)

@@ -8,10 +8,10 @@ use Rattle.capture3.specs.Entry.{Entry, Begin, Turn, Close, End}
 use Rattle.capture3.specs.Typed.{connection_entries, Typed}
 use Rattle.canon3.specs.Bytes.{record_bytes}
 use Rattle.canon3.specs.Parting.{connections, records_after}
-use Rattle.canon3.proofs.Conversations.{all_in, AreConversing, Conversation, IsSpelledCall, IsSpelledReply, length_of_record, of_all, reply_items, stream_of, weight}
-use Rattle.canon3.proofs.Files.{all_of, entries_of, holds, total_weight}
-use Rattle.canon3.proofs.Messages.{BeginsWithWord, call_begins, reply_begins}
-use Rattle.canon3.proofs.RenamingLemmas.{all_weaker}
+use Rattle.canon3.proofs.Lemmas.WellFormed.Conversations.{all_in, AreConversing, Conversation, IsSpelledCall, IsSpelledReply, length_of_record, of_all, reply_items, stream_of, weight}
+use Rattle.canon3.proofs.Lemmas.WellFormed.Files.{all_of, entries_of, holds, total_weight}
+use Rattle.canon3.proofs.Lemmas.WellFormed.Messages.{BeginsWithWord, call_begins, reply_begins}
+use Rattle.canon3.proofs.Lemmas.Renaming.RenamingLemmas.{all_weaker}
 use Rattle.listing3.specs.Laws.{AreEqualUpToSilence, silent}
 use Rattle.listing3.specs.Listing.{lines_after, shown}
 use Rattle.listing3.proofs.LineTexts.{all_text, IsTold, IsToldConversation, IsToldReply, lines_all, quiet, same_text}

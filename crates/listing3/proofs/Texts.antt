@@ -8,7 +8,7 @@ use Rattle.hex.specs.Hex.{decode_of, encode_lower, encode_with, lower_digits}
 use Rattle.hex.proofs.HexLemmas.{decode_of-encode_lower}
 use Rattle.xdr3.specs.Item.{AreBytes, Item, Word, Hyper, Fixed, WriteVerf, Opaque, Rest, Var, Text, Handle, Spells, SpellsItem}
 use Rattle.procs3.proofs.ProtocolParts.{is_name, kind_of}
-use Rattle.canon3.proofs.Items.{all_append}
+use Rattle.canon3.proofs.Lemmas.WellFormed.Items.{all_append}
 use Rattle.listing3.specs.Listing.{is_plain, item_name, opening, quoted, quoted_byte, shown_item, shown_items, value_of}
 use Rattle.listing3.proofs.NamedItems.{AreNamed, IsNamed, kind_in}
 

@@ -12,7 +12,7 @@ ghost use Rattle.capture3.specs.Kept.{IsOfKind};
 ghost use Rattle.canon3.specs.HandleTable.{Gathers};
 ghost use Rattle.canon3.specs.Laws.{AreFirst};
 ghost use Rattle.canon3.specs.Passed.{connections_in, passed_steps, records_in};
-ghost use Rattle.canon3.specs.machinery.Summary.{all_items};
+ghost use Rattle.canon3.specs.machinery.Sums.{all_items};
 ghost use Rattle.canon3.specs.WriteErrors.{CountsWriting, IsOfWriting};
 ghost use Rattle.canon3.specs.SinkWrites.{AppendsFront};
 ghost use Rattle.listing3.specs.machinery.LineWriter.{after_front, LineStands};

@@ -10,7 +10,7 @@ use Rattle.masking3.specs.declared.ways.Ways.{Ways}
 use Rattle.masking3.specs.Ways.{usual}
 use Rattle.mask_line3.specs.declared.asked.Change.{Change}
 use Rattle.mask_line3.specs.Changes.{change_told, change_word, with_change}
-use Rattle.mask_line3.specs.machinery.Changes.{AreChanges}
+use Rattle.mask_line3.specs.machinery.ChangeWords.{AreChanges}
 
 -- each of the words is that of a change
 pub says_each : (words : List (String Global)) (k : ℕ) (w : String Global) → k < length words → w ≡ slice_index_or words k w → (changes : List Change) → map string_bytes words ≡ map change_word changes → (c : Change) × (string_bytes w ≡ change_word c)

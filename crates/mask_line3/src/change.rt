@@ -3,7 +3,7 @@
 ghost use Rattle.std.specs.Prelude.{◌≡◌, ◌≢◌, ◌++◌, IfErr, IfOk, List, MatchOption, OnOk, map, string_bytes};
 ghost use Rattle.masking3.specs.Ways.{usual};
 ghost use Rattle.mask_line3.specs.Changes.{change_of, change_told, change_word, changes_of, mask_told, with_way, ways_after};
-ghost use Rattle.mask_line3.specs.machinery.Changes.{AreChanges};
+ghost use Rattle.mask_line3.specs.machinery.ChangeWords.{AreChanges};
 
 use crate::asked::{Change, MaskClass};
 use crate::names::{class_name, class_named, way_name, way_named};

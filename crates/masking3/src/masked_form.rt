@@ -5,7 +5,7 @@ ghost use Rattle.std.specs.Io.KnownBytes.{Appends};
 ghost use Rattle.capture3.specs.Entries.{CountsReading};
 ghost use Rattle.capture3.specs.Told.{GavePrefix};
 ghost use Rattle.canon3.specs.EntryWriter.{WritesAll, WritesGiven};
-ghost use Rattle.canon3.specs.machinery.CanonicalForm.{magic_before};
+ghost use Rattle.canon3.specs.machinery.FormSteps.{magic_before};
 ghost use Rattle.canon3.specs.Passed.{connections_in};
 ghost use Rattle.canon3.specs.WriteErrors.{CountsWriting};
 ghost use Rattle.canon3.specs.SinkWrites.{AppendsFront, IsFlushed};

@@ -4,7 +4,7 @@ use Rattle.std.specs.List.{flat_map}
 use Rattle.xdr3.specs.Item.{zero_spelling}
 use Rattle.xdr3.specs.Combined.{counted_items}
 use Rattle.xdr3.specs.Visit.{AreWithinLimit}
-use Rattle.nfs3_types.specs.declared.mount3.Flavor.{Flavor}
+use Rattle.nfs3_types.specs.declared.values.mount3.Flavor.{Flavor}
 use Rattle.nfs3_types.specs.Mounts.{flavor_items}
 
 four_each : (all : List Flavor) → length all ≤ length (zero_spelling (flat_map flavor_items all))

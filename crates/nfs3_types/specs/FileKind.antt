@@ -1,7 +1,7 @@
 -- The numbers of ftype3 (RFC 1813, section 2.5).
 use Rattle.std.specs.Prelude.{ℕ, List, [], ◌∷◌}
-use Rattle.nfs3_types.specs.declared.kind.FileKind.{FileKind}
-use Rattle.nfs3_types.specs.declared.kind.FileKind.TheVariants.{Reg, Dir, Blk, Chr, Lnk, Sock, Fifo}
+use Rattle.nfs3_types.specs.declared.values.kind.FileKind.{FileKind}
+use Rattle.nfs3_types.specs.declared.values.kind.FileKind.TheVariants.{Reg, Dir, Blk, Chr, Lnk, Sock, Fifo}
 
 abbrev pub file_kind_words : List ℕ
 file_kind_words = 1 ∷ 2 ∷ 3 ∷ 4 ∷ 5 ∷ 6 ∷ 7 ∷ []

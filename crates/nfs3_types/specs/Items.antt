@@ -2,17 +2,17 @@
 use Rattle.std.specs.Prelude.{ℕ, List, [], ◌∷◌, Option}
 use Rattle.xdr3.specs.Combined.{optional_items}
 use Rattle.xdr3.specs.Item.{Item, followed_by, Handle, Hyper, Opaque, Text, Word}
-use Rattle.nfs3_types.specs.declared.attributes.Fattr.{Fattr}
-use Rattle.nfs3_types.specs.declared.attributes.PostOpAttr.{PostOpAttr}
-use Rattle.nfs3_types.specs.declared.attributes.Wcc.{Wcc}
-use Rattle.nfs3_types.specs.declared.attributes.WccAttr.{WccAttr}
-use Rattle.nfs3_types.specs.declared.directory.DirOp.{DirOp}
-use Rattle.nfs3_types.specs.declared.directory.PostOpFh.{PostOpFh}
-use Rattle.nfs3_types.specs.declared.kind.FileKind.{FileKind}
-use Rattle.nfs3_types.specs.declared.settable.Guard.{Guard}
-use Rattle.nfs3_types.specs.declared.settable.Sattr.{Sattr}
-use Rattle.nfs3_types.specs.declared.status.Status.{Status}
-use Rattle.nfs3_types.specs.declared.handle.Handle as handles
+use Rattle.nfs3_types.specs.declared.values.attributes.Fattr.{Fattr}
+use Rattle.nfs3_types.specs.declared.values.attributes.PostOpAttr.{PostOpAttr}
+use Rattle.nfs3_types.specs.declared.values.attributes.Wcc.{Wcc}
+use Rattle.nfs3_types.specs.declared.values.attributes.WccAttr.{WccAttr}
+use Rattle.nfs3_types.specs.declared.values.directory.DirOp.{DirOp}
+use Rattle.nfs3_types.specs.declared.values.directory.PostOpFh.{PostOpFh}
+use Rattle.nfs3_types.specs.declared.values.kind.FileKind.{FileKind}
+use Rattle.nfs3_types.specs.declared.values.settable.Guard.{Guard}
+use Rattle.nfs3_types.specs.declared.values.settable.Sattr.{Sattr}
+use Rattle.nfs3_types.specs.declared.values.status.Status.{Status}
+use Rattle.nfs3_types.specs.declared.values.handle.Handle as handles
 use Rattle.nfs3_types.specs.FileKind.{file_kind_number}
 use Rattle.nfs3_types.specs.Handle.{handle_bytes}
 use Rattle.nfs3_types.specs.Names.{names}

@@ -2,14 +2,14 @@
 use Rattle.std.specs.Prelude.{List, [], ◌∷◌}
 use Rattle.xdr3.specs.Combined.{counted_items, linked_items}
 use Rattle.xdr3.specs.Item.{Item, followed_by, Opaque, Text, Word}
-use Rattle.nfs3_types.specs.declared.mount3.Export.{Export}
-use Rattle.nfs3_types.specs.declared.mount3.Exports.{Exports}
-use Rattle.nfs3_types.specs.declared.mount3.Flavor.{Flavor}
-use Rattle.nfs3_types.specs.declared.mount3.Group.{Group}
-use Rattle.nfs3_types.specs.declared.mount3.MountList.{MountList}
-use Rattle.nfs3_types.specs.declared.mount3.MountOk.{MountOk}
-use Rattle.nfs3_types.specs.declared.mount3.MountStatus.{MountStatus}
-use Rattle.nfs3_types.specs.declared.mount3.Mounted.{Mounted}
+use Rattle.nfs3_types.specs.declared.values.mount3.Export.{Export}
+use Rattle.nfs3_types.specs.declared.values.mount3.Exports.{Exports}
+use Rattle.nfs3_types.specs.declared.values.mount3.Flavor.{Flavor}
+use Rattle.nfs3_types.specs.declared.values.mount3.Group.{Group}
+use Rattle.nfs3_types.specs.declared.values.mount3.MountList.{MountList}
+use Rattle.nfs3_types.specs.declared.values.mount3.MountOk.{MountOk}
+use Rattle.nfs3_types.specs.declared.values.mount3.MountStatus.{MountStatus}
+use Rattle.nfs3_types.specs.declared.values.mount3.Mounted.{Mounted}
 use Rattle.nfs3_types.specs.Items.{handle_items}
 use Rattle.nfs3_types.specs.MountStatus.{mount_status_number}
 use Rattle.nfs3_types.specs.Names.{names}

@@ -1,8 +1,8 @@
 -- The items of results by a status (RFC 1813, section 3.3).
 use Rattle.std.specs.Prelude.{List, [], ◌∷◌}
 use Rattle.xdr3.specs.Item.{Item, followed_by, Word}
-use Rattle.nfs3_types.specs.declared.status.Res.{Res}
-use Rattle.nfs3_types.specs.declared.status.Res.TheVariants.{Done, Failed}
+use Rattle.nfs3_types.specs.declared.values.status.Res.{Res}
+use Rattle.nfs3_types.specs.declared.values.status.Res.TheVariants.{Done, Failed}
 use Rattle.nfs3_types.specs.Names.{names}
 use Rattle.nfs3_types.specs.Status.{failure_number}
 

@@ -1,9 +1,9 @@
 -- The numbers of nfsstat3 (RFC 1813, section 2.6).
 use Rattle.std.specs.Prelude.{ℕ, List, [], ◌∷◌}
-use Rattle.nfs3_types.specs.declared.status.Status.{Status}
-use Rattle.nfs3_types.specs.declared.status.Status.TheVariants.{Ok, Failed}
-use Rattle.nfs3_types.specs.declared.status.Failure.{Failure}
-use Rattle.nfs3_types.specs.declared.status.Failure.TheVariants.{Perm, NoEnt, Io, Nxio, Acces, Exist, XDev, NoDev, NotDir, IsDir, Inval, FBig, NoSpc, RoFs, MLink, NameTooLong, NotEmpty, DQuot, Stale, Remote, BadHandle, NotSync, BadCookie, NotSupp, TooSmall, ServerFault, BadType, Jukebox}
+use Rattle.nfs3_types.specs.declared.values.status.Status.{Status}
+use Rattle.nfs3_types.specs.declared.values.status.Status.TheVariants.{Ok, Failed}
+use Rattle.nfs3_types.specs.declared.values.status.Failure.{Failure}
+use Rattle.nfs3_types.specs.declared.values.status.Failure.TheVariants.{Perm, NoEnt, Io, Nxio, Acces, Exist, XDev, NoDev, NotDir, IsDir, Inval, FBig, NoSpc, RoFs, MLink, NameTooLong, NotEmpty, DQuot, Stale, Remote, BadHandle, NotSync, BadCookie, NotSupp, TooSmall, ServerFault, BadType, Jukebox}
 
 abbrev pub status_words : List ℕ
 status_words =

@@ -2,9 +2,9 @@
 -- they stand.
 use Rattle.std.specs.Prelude.{ℕ, List, [], ◌∷◌}
 use Rattle.xdr3.specs.Item.{Item, Word}
-use Rattle.nfs3_types.specs.declared.time.Time.{Time}
-use Rattle.nfs3_types.specs.declared.time.TimeHow.{TimeHow}
-use Rattle.nfs3_types.specs.declared.time.TimeHow.TheVariants.{Keep, Server, Client}
+use Rattle.nfs3_types.specs.declared.values.time.Time.{Time}
+use Rattle.nfs3_types.specs.declared.values.time.TimeHow.{TimeHow}
+use Rattle.nfs3_types.specs.declared.values.time.TimeHow.TheVariants.{Keep, Server, Client}
 
 abbrev pub time_items : List ℕ → List ℕ → Time → List Item
 time_items sec nsec t = Word sec t.sec ∷ Word nsec t.nsec ∷ []

@@ -1,25 +1,17 @@
 //! The parts of NFS version 3 and MOUNT version 3 messages (RFC 1813, sections 2.5, 2.6 and 5).
 #![tactic(auto)]
 
-mod attributes;
-mod directory;
-mod handle;
-mod kind;
-pub mod mount3;
-mod scan;
-mod settable;
-mod stable;
-mod status;
-mod time;
-mod void;
+mod scans;
+mod values;
 
-pub use attributes::{Fattr, PostOpAttr, Wcc, WccAttr};
-pub use directory::{DirOp, PostOpFh};
-pub use handle::Handle;
-pub use kind::FileKind;
-pub use scan::scan_path;
-pub use settable::{Guard, Sattr};
-pub use stable::Stable;
-pub use status::{Failure, Res, Status};
-pub use time::{Time, TimeHow};
-pub use void::Void;
+pub use scans::mount3::scan_path;
+pub use values::attributes::{Fattr, PostOpAttr, Wcc, WccAttr};
+pub use values::directory::{DirOp, PostOpFh};
+pub use values::handle::Handle;
+pub use values::kind::FileKind;
+pub use values::mount3;
+pub use values::settable::{Guard, Sattr};
+pub use values::stable::Stable;
+pub use values::status::{Failure, Res, Status};
+pub use values::time::{Time, TimeHow};
+pub use values::void::Void;

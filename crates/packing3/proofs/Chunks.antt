@@ -4,7 +4,7 @@ use Rattle.std.specs.Prelude.{Option}
 use Rattle.std.specs.List.{concat, flat_map}
 use Rattle.std.proofs.lemmas.Grind.{flat_map-append}
 use Rattle.capture3.specs.Told.{Gave, IsSpent, Told}
-use Rattle.capture3.proofs.ToldLemmas.{gave_both}
+use Rattle.capture3.proofs.Lemmas.Reader.ToldLemmas.{gave_both}
 use Rattle.std.proofs.KnownBytes.{Appends-nil, Appends-trans}
 use Rattle.std.specs.Io.KnownBytes.{Appends}
 use Rattle.record_mark.proofs.Words.{concat-snoc}

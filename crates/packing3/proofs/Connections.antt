@@ -2,14 +2,14 @@
 use Rattle.std.proofs.Common.{arith, refl, subst, ◌≡◌, ◌+◌, ℕ, List, [], ◌++◌, length}
 use Rattle.std.specs.Prelude.{Option}
 use Rattle.capture3.specs.Told.{Told}
-use Rattle.capture3.proofs.ToldLemmas.{gave_none}
+use Rattle.capture3.proofs.Lemmas.Reader.ToldLemmas.{gave_none}
 use Rattle.std.specs.Io.KnownBytes.{Appends}
 use Rattle.std.proofs.KnownBytes.{Appends-trans}
 use Rattle.xdr3.specs.Item.{word_bytes}
 use Rattle.capture3.specs.declared.fault.Error.{Error}
 use Rattle.capture3.specs.declared.fault.Error.TheVariants as errors
 use Rattle.canon3.specs.SinkWrites.{AppendsFront}
-use Rattle.canon3.proofs.SinkWritesLemmas.{front_of_first}
+use Rattle.canon3.proofs.Lemmas.Writing.SinkWritesLemmas.{front_of_first}
 use Rattle.packing3.specs.declared.stream.Extent.{Extent}
 use Rattle.packing3.specs.machinery.Streaming.{Grows, HasConnection, HasStream, IsStopped, StopsInConnection, StopsInStream}
 use Rattle.packing3.proofs.Chunks.{grows_more, packed_none}

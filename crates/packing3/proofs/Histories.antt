@@ -2,7 +2,7 @@
 use Rattle.std.proofs.Common.{arith, refl, sym, ap, subst, inl, inr, ◌≡◌, ◌∙◌, ◌≤◌, ◌+◌, ℕ, List, [], ◌∷◌, ◌++◌, length, length-append, append_assoc}
 use Rattle.std.specs.Prelude.{Option, None, Result, Ok, Err, OnOk, OnErr, IfErr}
 use Rattle.capture3.specs.Told.{Gave, GavePrefix, Told}
-use Rattle.capture3.proofs.ToldLemmas.{gave_none, prefix_of_kept}
+use Rattle.capture3.proofs.Lemmas.Reader.ToldLemmas.{gave_none, prefix_of_kept}
 use Rattle.std.specs.Io.KnownBytes.{Appends}
 use Rattle.std.proofs.KnownBytes.{Appends-trans}
 use Rattle.record_mark.proofs.Words.{Joins-snoc}
@@ -15,11 +15,11 @@ use Rattle.capture3.specs.Capture.{One, magic, max_connections, total_size}
 use Rattle.capture3.specs.SidedChunks.{Streams, size}
 use Rattle.capture3.specs.Chunks.{max_bytes}
 use Rattle.canon3.specs.SinkWrites.{AppendsFront}
-use Rattle.canon3.proofs.SinkWritesLemmas.{front_of_second}
+use Rattle.canon3.proofs.Lemmas.Writing.SinkWritesLemmas.{front_of_second}
 use Rattle.packing3.specs.declared.packing.Packing.{Packing}
 use Rattle.packing3.specs.Packed.{ArePacked, IsPackedConnection}
 use Rattle.packing3.specs.Packing.{AddsPair, Finishes, HasAdded, ending_of}
-use Rattle.packing3.specs.machinery.Packing.{FailsToAdd, IsFull}
+use Rattle.packing3.specs.machinery.StoppedAdds.{FailsToAdd, IsFull}
 use Rattle.packing3.specs.Stopped.{HasNoRoom, BreaksOff, Tells}
 use Rattle.packing3.specs.machinery.Streaming.{HasConnection, IsStopped, StopsInConnection}
 use Rattle.packing3.proofs.Captures.{is_capture}

@@ -41,7 +41,7 @@ pub struct Packing<W> {
 
 impl<W: Sink> Packing<W> {
     ghost use Rattle.packing3.specs.Packing.{AddsPair, CountsStart, CountsWrites, ending_of, FailsToStart, Finishes, HasAdded, sink_of};
-    ghost use Rattle.packing3.specs.machinery.Packing.{FailsToAdd};
+    ghost use Rattle.packing3.specs.machinery.StoppedAdds.{FailsToAdd};
 
     /// Allocates one chunk, and writes the magic.
     ///

@@ -3,7 +3,7 @@ use Rattle.std.specs.Prelude.{nat_eq}
 use Rattle.xdr3.specs.declared.reason.Reason.TheVariants.{RpcVersion}
 use Rattle.xdr3.specs.Item.{Var}
 use Rattle.xdr3.specs.Shape.{Shape, ◌then◌, listed, nothing, opaque, word}
-use Rattle.xdr3.proofs.ShapeParts.{HasParts, Part, parts_if, parts_weaker, word_part}
+use Rattle.xdr3.proofs.Lemmas.Shapes.ShapeParts.{HasParts, Part, parts_if, parts_weaker, word_part}
 use Rattle.rpc_head.specs.Messages.{call_start, reply_start}
 use Rattle.rpc_head.specs.Names.{head_names}
 use Rattle.rpc_head.specs.Shapes.{accept, auth_stats, auth_sys, call_head, credential, deny, gids, message_start, parameters, reply_head, verifier, versions}

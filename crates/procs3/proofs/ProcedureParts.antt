@@ -4,8 +4,8 @@ use Rattle.std.specs.Prelude.{nat_eq, ◌||◌, if◌then◌else◌}
 use Rattle.xdr3.specs.Item.{Item}
 use Rattle.xdr3.specs.Shape.{Shape, fixed, hyper, nothing, optional, word}
 use Rattle.xdr3.specs.Layout.{Layout, exactly, rest}
-use Rattle.xdr3.proofs.ShapeParts.{RowHasParts, parts_if, row_if}
-use Rattle.rpc_head.specs.declared.call.ProcId.{ProcId}
+use Rattle.xdr3.proofs.Lemmas.Shapes.ShapeParts.{RowHasParts, parts_if, row_if}
+use Rattle.rpc_head.specs.declared.values.call.ProcId.{ProcId}
 use Rattle.rpc_head.specs.Messages.{has_results}
 use Rattle.nfs3_types.specs.Names.{names}
 use Rattle.nfs3_types.specs.Shapes.{attributes, dir_op, export, exports, file_kind, flavor, group, guard, handle, mount_list, mount_ok, mounted, post_op_attr, post_op_fh, results, set_hyper, set_word, settable, time, time_how, times, wcc, wcc_attr}

@@ -4,8 +4,8 @@ use Rattle.std.specs.Prelude.{⊤, ◌==◌, not, bytes_eq, codes, if◌then◌e
 use Rattle.std.specs.List.{list_all, list_any}
 use Rattle.xdr3.specs.Item.{Kind, Var, Text, Handle}
 use Rattle.xdr3.specs.Shape.{Shape}
-use Rattle.xdr3.proofs.Reasons.{HasItemReason}
-use Rattle.xdr3.proofs.ShapeParts.{HasParts, Part, word_part, hyper_part, fixed_part, write_verf_part, rest_part, opaque_part, size_part}
+use Rattle.xdr3.proofs.Lemmas.Reading.Reasons.{HasItemReason}
+use Rattle.xdr3.proofs.Lemmas.Shapes.ShapeParts.{HasParts, Part, word_part, hyper_part, fixed_part, write_verf_part, rest_part, opaque_part, size_part}
 
 -- ---- names
 

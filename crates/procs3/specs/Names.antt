@@ -1,6 +1,6 @@
 -- The names of procedures (RFC 1813, sections 3.3 and 5.2).
 use Rattle.std.specs.Prelude.{ℕ, ◌==◌, if◌then◌else◌, List, Option, Some, None, codes}
-use Rattle.rpc_head.specs.declared.call.ProcId.{ProcId}
+use Rattle.rpc_head.specs.declared.values.call.ProcId.{ProcId}
 use Rattle.procs3.specs.Table.{is_mount, is_nfs}
 
 -- procedure n of NFS is that of section 3.3.n of RFC 1813

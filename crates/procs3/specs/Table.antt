@@ -5,7 +5,7 @@ use Rattle.xdr3.specs.Layout.{Layout, exactly, rest}
 use Rattle.xdr3.specs.Shape.{nothing}
 use Rattle.nfs3_types.specs.Names.{names}
 use Rattle.nfs3_types.specs.Shapes.{attributes, dir_op, exports, handle, mount_list, post_op_attr, results, wcc}
-use Rattle.rpc_head.specs.declared.call.ProcId.{ProcId}
+use Rattle.rpc_head.specs.declared.values.call.ProcId.{ProcId}
 use Rattle.procs3.specs.Shapes.{access_args, access_ok, commit_ok, create_args, create_ok, dirpath, file_range, fsinfo_ok, fsstat_ok, link_args, link_wcc, lookup_ok, mkdir_args, mknod_args, mount_results, pathconf_ok, read_ok, readdir_args, readdir_ok, readdirplus_args, readdirplus_ok, readlink_ok, rename_args, rename_wcc, setattr_args, symlink_args, write_args, write_ok}
 
 -- NFS version 3 is version 3 of program 100003 (RFC 1813, section 2.1)

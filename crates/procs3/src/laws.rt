@@ -2,7 +2,7 @@
 
 ghost use Rattle.std.specs.Prelude.{List, ℕ};
 ghost use Rattle.procs3.specs.Table.{arguments_of, results_of};
-ghost use Rattle.rpc_head.specs.declared.call.ProcId.{ProcId};
+ghost use Rattle.rpc_head.specs.declared.values.call.ProcId.{ProcId};
 ghost use Rattle.xdr3.specs.Item.{AreBytes};
 ghost use Rattle.xdr3.specs.Laws.{IsDecided};
 ghost use Rattle.xdr3.specs.Layout.{ReadsLayout, RefusesLayout};

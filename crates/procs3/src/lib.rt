@@ -4,9 +4,7 @@
 
 pub mod laws;
 mod names;
-mod scan;
-mod scan_items;
-mod scan_table;
+mod scans;
 
 pub use names::proc_name;
-pub use scan_table::{scan_arguments, scan_results};
+pub use scans::table::{scan_arguments, scan_results};

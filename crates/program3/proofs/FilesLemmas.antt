@@ -6,7 +6,7 @@ use Rattle.capture3.specs.declared.fault.Error.{Error}
 use Rattle.capture3.specs.declared.fault.Error.TheVariants as errors
 use Rattle.capture3.specs.Entry.{Entry}
 use Rattle.capture3.specs.Told.{Told, Gave, GavePrefix}
-use Rattle.capture3.proofs.ToldLemmas.{IsPrefixOf, prefix_of_told}
+use Rattle.capture3.proofs.Lemmas.Reader.ToldLemmas.{IsPrefixOf, prefix_of_told}
 use Rattle.canon3.specs.EntryWriter.{WritesAll}
 use Rattle.canon3.specs.declared.summary.Summary.{Summary}
 use Rattle.program3.specs.Writing.{WritesOut}

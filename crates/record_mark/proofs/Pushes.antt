@@ -8,7 +8,7 @@ use Rattle.record_mark.specs.declared.join.JoinError.TheVariants as error
 use Rattle.record_mark.specs.Machine.{Run, Runs, Stops, after}
 use Rattle.record_mark.specs.Joining.{Joining, Between, Joined, Whole, TooLong, join_next}
 use Rattle.record_mark.specs.Taking.{Taking, Led, OutOfMemory, HasTaken, IsWhole, IsRunning, joining_of, joined_body, body_of, EndsWithin, GoesOn, PassesWithin}
-use Rattle.record_mark.specs.machinery.Taking.{led_on}
+use Rattle.record_mark.specs.machinery.TakingSteps.{led_on}
 use Rattle.record_mark.proofs.Machines.{after-append, not_runs}
 use Rattle.record_mark.proofs.Joins.{record_stops, too_long_stops, joining_runs}
 use Rattle.record_mark.proofs.Endings.{stops_once}

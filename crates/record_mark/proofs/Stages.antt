@@ -5,7 +5,7 @@ use Rattle.record_mark.specs.declared.join.Stage.TheVariants.{Unbegun, Header, F
 use Rattle.record_mark.specs.RecordMark.{HasBody}
 use Rattle.record_mark.specs.Taking.{Taking, Led, OutOfMemory, HasTaken, IsRunning, unbegun}
 use Rattle.record_mark.specs.Stage.{taking_at, IsSoundAt}
-use Rattle.record_mark.specs.machinery.Stage.{IsOpenAt}
+use Rattle.record_mark.specs.machinery.OpenStages.{IsOpenAt}
 use Rattle.record_mark.proofs.Takings.{led_by, has_body}
 use Rattle.record_mark.proofs.Outcomes.{too_long_alone}
 

@@ -5,7 +5,7 @@ use Rattle.record_mark.specs.Machine.{Run, Runs, Stops, Stopped, after}
 use Rattle.record_mark.specs.RecordMark.{IsUnfinished, HasBody}
 use Rattle.record_mark.specs.Joining.{Joining, Between, Header, Bytes, Joined, Whole, TooLong, join_next, HasJoined, EndsRecord}
 use Rattle.record_mark.specs.Taking.{Taking, Led, OutOfMemory, HasTaken, unbegun, IsWhole, IsRunning, joining_of, joined_body, body_of}
-use Rattle.record_mark.specs.machinery.Taking.{led_on}
+use Rattle.record_mark.specs.machinery.TakingSteps.{led_on}
 use Rattle.record_mark.proofs.Machines.{Tells, after-append}
 use Rattle.record_mark.proofs.Joins.{join_tells, record_stops, too_long_stops, joining_runs}
 

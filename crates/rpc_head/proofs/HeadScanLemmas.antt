@@ -9,11 +9,11 @@ use Rattle.xdr3.specs.Reading.{reading, word_at, opaque_at}
 use Rattle.xdr3.specs.Scan.{Scans, ScansWord, Stops}
 use Rattle.xdr3.specs.Shape.{◌then◌, is_any, is_listed, opaque}
 use Rattle.xdr3.specs.View.{View}
-use Rattle.xdr3.proofs.Bytes.{bind_ok, pair_is}
-use Rattle.xdr3.proofs.ScanLemmas.{moves_both}
-use Rattle.xdr3.proofs.Walks.{adds_joined}
+use Rattle.xdr3.proofs.Lemmas.Reading.Bytes.{bind_ok, pair_is}
+use Rattle.xdr3.proofs.Lemmas.Scans.ScanLemmas.{moves_both}
+use Rattle.xdr3.proofs.Lemmas.Shapes.Walks.{adds_joined}
 use Rattle.rpc_head.specs.HeadScan.{ScansCallHead, ScansReplyHead}
-use Rattle.rpc_head.specs.machinery.HeadScan.{ScansAccept, credentials}
+use Rattle.rpc_head.specs.machinery.HeadEnds.{ScansAccept, credentials}
 use Rattle.rpc_head.specs.Names.{head_names}
 use Rattle.rpc_head.specs.Shapes.{accept, accept_stats, call_head, credential, deny, reply_head, reply_stats, rpc_versions, verifier, verifier_flavors}
 

@@ -3,8 +3,8 @@ use Rattle.std.proofs.Common.{◌≡◌, ℕ, ◌+◌, ◌*◌, List, [], ◌∷
 use Rattle.std.specs.List.{flat_map}
 use Rattle.std.proofs.lemmas.List.{length-append, length-replicate}
 use Rattle.xdr3.specs.Item.{Item, Opaque, Text, Word, followed_by, residue, word_bytes, zero_spelling, zero_spelling_of}
-use Rattle.xdr3.proofs.Walks.{length-zero_spelling}
-use Rattle.rpc_head.specs.declared.credential.AuthSys.{AuthSys}
+use Rattle.xdr3.proofs.Lemmas.Shapes.Walks.{length-zero_spelling}
+use Rattle.rpc_head.specs.declared.values.credential.AuthSys.{AuthSys}
 use Rattle.rpc_head.specs.Credentials.{parameter_items}
 use Rattle.rpc_head.specs.Gids.{groups_of}
 use Rattle.rpc_head.specs.Groups.{count_items, group_items}

@@ -4,8 +4,8 @@ use Rattle.xdr3.specs.Item.{AreBytes, Item}
 use Rattle.xdr3.specs.Shape.{Shape}
 use Rattle.xdr3.specs.Reading.{reading}
 use Rattle.xdr3.specs.Visit.{AreWithinLimit, body_limit}
-use Rattle.xdr3.proofs.Items.{length_of_spelling}
-use Rattle.xdr3.proofs.Sound.{sound}
+use Rattle.xdr3.proofs.Lemmas.Reading.Items.{length_of_spelling}
+use Rattle.xdr3.proofs.Lemmas.Reading.Sound.{sound}
 
 pub read_within_limit : (shape : Shape) (items : List Item) (body : List ℕ) (at to : ℕ) → AreBytes body → at ≤ length body → length body ≤ body_limit → reading shape body at ≡ Ok (items, to) → AreWithinLimit items
 unfolding AreWithinLimit

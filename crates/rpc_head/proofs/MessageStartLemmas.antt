@@ -4,8 +4,8 @@ use Rattle.xdr3.specs.declared.reason.Stop.{Stop}
 use Rattle.xdr3.specs.Item.{AreBytes}
 use Rattle.xdr3.specs.Reading.{reading}
 use Rattle.xdr3.specs.View.{Answers, View}
-use Rattle.xdr3.proofs.Sound.{sound}
-use Rattle.rpc_head.specs.declared.message_start.MessageStart.{MessageStart}
+use Rattle.xdr3.proofs.Lemmas.Reading.Sound.{sound}
+use Rattle.rpc_head.specs.declared.values.message_start.MessageStart.{MessageStart}
 use Rattle.rpc_head.specs.Shapes.{message_start}
 use Rattle.rpc_head.specs.MessageStart.{IsStart, start_items}
 

@@ -7,10 +7,10 @@ use Rattle.xdr3.specs.Layout.{Layout, after, exactly, reading_layout}
 use Rattle.xdr3.specs.Reading.{◌>>=◌, number_at, reading, refused, word_at}
 use Rattle.xdr3.specs.Shape.{Shape, ◌then◌, both, choose, is_any, is_listed, listed, nothing, word}
 use Rattle.xdr3.specs.View.{word_of}
-use Rattle.xdr3.proofs.Bytes.{accept_ok, bind_ok, ok_is}
-use Rattle.xdr3.proofs.Linked.{with_front}
-use Rattle.rpc_head.specs.declared.call.ProcId.{ProcId}
-use Rattle.rpc_head.specs.declared.message_start.MessageStart.{MessageStart}
+use Rattle.xdr3.proofs.Lemmas.Reading.Bytes.{accept_ok, bind_ok, ok_is}
+use Rattle.xdr3.proofs.Lemmas.Reading.Linked.{with_front}
+use Rattle.rpc_head.specs.declared.values.call.ProcId.{ProcId}
+use Rattle.rpc_head.specs.declared.values.message_start.MessageStart.{MessageStart}
 use Rattle.rpc_head.specs.HeadScan.{procedure_told, tells_success}
 use Rattle.rpc_head.specs.Messages.{call_layout, call_start, has_results, procedure_in, reply_layout, reply_start}
 use Rattle.rpc_head.specs.Names.{head_names}

@@ -1,7 +1,7 @@
 -- The items of a call's head (RFC 5531, section 9).
 use Rattle.std.specs.Prelude.{List, [], ◌∷◌}
 use Rattle.xdr3.specs.Item.{Item, followed_by, Word}
-use Rattle.rpc_head.specs.declared.call.CallHead.{CallHead}
+use Rattle.rpc_head.specs.declared.values.call.CallHead.{CallHead}
 use Rattle.rpc_head.specs.Credentials.{credential_items, verifier_items}
 use Rattle.rpc_head.specs.Names.{head_names}
 

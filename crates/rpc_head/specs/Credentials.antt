@@ -1,10 +1,10 @@
 -- The items of credentials and verifiers (RFC 5531, section 8.2 and appendix A).
 use Rattle.std.specs.Prelude.{List, [], ◌∷◌, length}
 use Rattle.xdr3.specs.Item.{Item, followed_by, Opaque, Text, Var, Word, zero_spelling}
-use Rattle.rpc_head.specs.declared.credential.AuthSys.{AuthSys}
-use Rattle.rpc_head.specs.declared.credential.Cred.{Cred}
-use Rattle.rpc_head.specs.declared.credential.Cred.TheVariants.{Plain, Sys}
-use Rattle.rpc_head.specs.declared.credential.Verf.{Verf}
+use Rattle.rpc_head.specs.declared.values.credential.AuthSys.{AuthSys}
+use Rattle.rpc_head.specs.declared.values.credential.Cred.{Cred}
+use Rattle.rpc_head.specs.declared.values.credential.Cred.TheVariants.{Plain, Sys}
+use Rattle.rpc_head.specs.declared.values.credential.Verf.{Verf}
 use Rattle.rpc_head.specs.Gids.{groups_of}
 use Rattle.rpc_head.specs.Groups.{count_items}
 use Rattle.rpc_head.specs.Names.{head_names}

@@ -6,7 +6,7 @@ use Rattle.xdr3.specs.Examples.{words}
 use Rattle.xdr3.specs.Layout.{Layout, exactly, rest, reading_layout}
 use Rattle.xdr3.specs.Reading.{refused}
 use Rattle.xdr3.specs.Shape.{nothing, opaque}
-use Rattle.rpc_head.specs.declared.call.ProcId.{ProcId}
+use Rattle.rpc_head.specs.declared.values.call.ProcId.{ProcId}
 use Rattle.rpc_head.specs.Messages.{call_layout, reply_layout}
 use Rattle.rpc_head.specs.Names.{head_names}
 

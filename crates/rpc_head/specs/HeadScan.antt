@@ -5,7 +5,7 @@ use Rattle.xdr3.specs.Item.{Item}
 use Rattle.xdr3.specs.Reading.{reading}
 use Rattle.xdr3.specs.View.{MovesOn, View}
 use Rattle.xdr3.specs.Visit.{Adds}
-use Rattle.rpc_head.specs.declared.call.ProcId.{ProcId}
+use Rattle.rpc_head.specs.declared.values.call.ProcId.{ProcId}
 use Rattle.rpc_head.specs.Shapes.{call_head, reply_head}
 
 -- the items of a call's head begin with rpcvers, prog, vers and proc (RFC 5531, section 9)

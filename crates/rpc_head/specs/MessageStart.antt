@@ -4,7 +4,7 @@ use Rattle.xdr3.specs.declared.reason.Stop.{Stop}
 use Rattle.xdr3.specs.Item.{Item, Word}
 use Rattle.xdr3.specs.Shape.{Reads, Refuses}
 use Rattle.xdr3.specs.View.{View, word_of}
-use Rattle.rpc_head.specs.declared.message_start.MessageStart.{MessageStart}
+use Rattle.rpc_head.specs.declared.values.message_start.MessageStart.{MessageStart}
 use Rattle.rpc_head.specs.Names.{head_names}
 use Rattle.rpc_head.specs.Shapes.{message_start}
 

@@ -1,12 +1,12 @@
 -- The items of a reply's head (RFC 5531, section 9).
 use Rattle.std.specs.Prelude.{ℕ, List, [], ◌∷◌}
 use Rattle.xdr3.specs.Item.{Item, followed_by, Word}
-use Rattle.rpc_head.specs.declared.reply.Accept.{Accept}
-use Rattle.rpc_head.specs.declared.reply.Accept.TheVariants.{Success, ProgUnavail, ProgMismatch, ProcUnavail, GarbageArgs, SystemErr}
-use Rattle.rpc_head.specs.declared.reply.Deny.{Deny}
-use Rattle.rpc_head.specs.declared.reply.Deny.TheVariants.{RpcMismatch, AuthError}
-use Rattle.rpc_head.specs.declared.reply.ReplyHead.{ReplyHead}
-use Rattle.rpc_head.specs.declared.reply.ReplyHead.TheVariants.{Accepted, Denied}
+use Rattle.rpc_head.specs.declared.values.reply.Accept.{Accept}
+use Rattle.rpc_head.specs.declared.values.reply.Accept.TheVariants.{Success, ProgUnavail, ProgMismatch, ProcUnavail, GarbageArgs, SystemErr}
+use Rattle.rpc_head.specs.declared.values.reply.Deny.{Deny}
+use Rattle.rpc_head.specs.declared.values.reply.Deny.TheVariants.{RpcMismatch, AuthError}
+use Rattle.rpc_head.specs.declared.values.reply.ReplyHead.{ReplyHead}
+use Rattle.rpc_head.specs.declared.values.reply.ReplyHead.TheVariants.{Accepted, Denied}
 use Rattle.rpc_head.specs.Credentials.{verifier_items}
 use Rattle.rpc_head.specs.Names.{head_names}
 

@@ -1,9 +1,9 @@
 -- Whole messages as values: their items, and where they have results (RFC 5531, section 9).
 use Rattle.std.specs.Prelude.{Bool, true, false, List, [], Option, Some, None}
 use Rattle.xdr3.specs.Item.{Item, followed_by}
-use Rattle.rpc_head.specs.declared.reply.Accept.TheVariants.{Success, ProgUnavail, ProgMismatch, ProcUnavail, GarbageArgs, SystemErr}
-use Rattle.rpc_head.specs.declared.reply.ReplyHead.{ReplyHead}
-use Rattle.rpc_head.specs.declared.reply.ReplyHead.TheVariants.{Accepted, Denied}
+use Rattle.rpc_head.specs.declared.values.reply.Accept.TheVariants.{Success, ProgUnavail, ProgMismatch, ProcUnavail, GarbageArgs, SystemErr}
+use Rattle.rpc_head.specs.declared.values.reply.ReplyHead.{ReplyHead}
+use Rattle.rpc_head.specs.declared.values.reply.ReplyHead.TheVariants.{Accepted, Denied}
 use Rattle.rpc_head.specs.Calls.{call_head_items}
 use Rattle.rpc_head.specs.Replies.{reply_head_items}
 use Rattle.rpc_head.specs.MessageStart.{start_items}

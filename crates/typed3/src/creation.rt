@@ -30,7 +30,7 @@ impl<'a> Walk for CreateArgs<'a> {
 
     ghost items = { create_args_items };
 
-    #[tactic(auto, using(xdr3::proofs::Walks::steps), unfolding(nfs3_types::specs::Names::names))]
+    #[tactic(auto, using(xdr3::proofs::Lemmas::Shapes::Walks::steps), unfolding(nfs3_types::specs::Names::names))]
     fn walk<V: Visit>(&self, visitor: &mut V) -> Result<(), AllocError> {
         self.place.walk(visitor)?;
         self.how.walk(visitor)?;
@@ -63,7 +63,7 @@ impl<'a> Walk for MkDirArgs<'a> {
 
     ghost items = { mkdir_args_items };
 
-    #[tactic(auto, using(xdr3::proofs::Walks::steps), unfolding(nfs3_types::specs::Names::names))]
+    #[tactic(auto, using(xdr3::proofs::Lemmas::Shapes::Walks::steps), unfolding(nfs3_types::specs::Names::names))]
     fn walk<V: Visit>(&self, visitor: &mut V) -> Result<(), AllocError> {
         self.place.walk(visitor)?;
         self.attr.walk(visitor)?;
@@ -99,7 +99,7 @@ impl<'a> Walk for SymLinkArgs<'a> {
 
     ghost items = { symlink_args_items };
 
-    #[tactic(auto, using(xdr3::proofs::Walks::steps), unfolding(nfs3_types::specs::Names::names))]
+    #[tactic(auto, using(xdr3::proofs::Lemmas::Shapes::Walks::steps), unfolding(nfs3_types::specs::Names::names))]
     fn walk<V: Visit>(&self, visitor: &mut V) -> Result<(), AllocError> {
         self.place.walk(visitor)?;
         self.attr.walk(visitor)?;
@@ -136,7 +136,7 @@ impl Walk for Device {
 
     ghost items = { device_items };
 
-    #[tactic(auto, using(xdr3::proofs::Walks::steps), unfolding(nfs3_types::specs::Names::names))]
+    #[tactic(auto, using(xdr3::proofs::Lemmas::Shapes::Walks::steps), unfolding(nfs3_types::specs::Names::names))]
     fn walk<V: Visit>(&self, visitor: &mut V) -> Result<(), AllocError> {
         self.attr.walk(visitor)?;
         let all = [
@@ -173,7 +173,7 @@ impl<'a> Walk for MkNodArgs<'a> {
 
     ghost items = { mknod_args_items };
 
-    #[tactic(auto, using(xdr3::proofs::Walks::steps), unfolding(nfs3_types::specs::Names::names))]
+    #[tactic(auto, using(xdr3::proofs::Lemmas::Shapes::Walks::steps), unfolding(nfs3_types::specs::Names::names))]
     fn walk<V: Visit>(&self, visitor: &mut V) -> Result<(), AllocError> {
         self.place.walk(visitor)?;
         self.what.walk(visitor)?;
@@ -209,7 +209,7 @@ impl Walk for CreateOk {
 
     ghost items = { create_ok_items };
 
-    #[tactic(auto, using(xdr3::proofs::Walks::steps), unfolding(nfs3_types::specs::Names::names))]
+    #[tactic(auto, using(xdr3::proofs::Lemmas::Shapes::Walks::steps), unfolding(nfs3_types::specs::Names::names))]
     fn walk<V: Visit>(&self, visitor: &mut V) -> Result<(), AllocError> {
         self.handle.walk(visitor)?;
         self.attr.walk(visitor)?;

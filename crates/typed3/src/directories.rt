@@ -32,7 +32,7 @@ impl Walk for LookupOk {
 
     ghost items = { lookup_ok_items };
 
-    #[tactic(auto, using(xdr3::proofs::Walks::steps), unfolding(nfs3_types::specs::Names::names))]
+    #[tactic(auto, using(xdr3::proofs::Lemmas::Shapes::Walks::steps), unfolding(nfs3_types::specs::Names::names))]
     fn walk<V: Visit>(&self, visitor: &mut V) -> Result<(), AllocError> {
         self.handle.walk(visitor)?;
         self.attr.walk(visitor)?;
@@ -66,7 +66,7 @@ impl<'a> Walk for RenameArgs<'a> {
 
     ghost items = { rename_args_items };
 
-    #[tactic(auto, using(xdr3::proofs::Walks::steps), unfolding(nfs3_types::specs::Names::names))]
+    #[tactic(auto, using(xdr3::proofs::Lemmas::Shapes::Walks::steps), unfolding(nfs3_types::specs::Names::names))]
     fn walk<V: Visit>(&self, visitor: &mut V) -> Result<(), AllocError> {
         self.from.walk(visitor)?;
         self.to.walk(visitor)?;
@@ -100,7 +100,7 @@ impl Walk for RenameWcc {
 
     ghost items = { rename_wcc_items };
 
-    #[tactic(auto, using(xdr3::proofs::Walks::steps), unfolding(nfs3_types::specs::Names::names))]
+    #[tactic(auto, using(xdr3::proofs::Lemmas::Shapes::Walks::steps), unfolding(nfs3_types::specs::Names::names))]
     fn walk<V: Visit>(&self, visitor: &mut V) -> Result<(), AllocError> {
         self.from.walk(visitor)?;
         self.to.walk(visitor)?;
@@ -133,7 +133,7 @@ impl<'a> Walk for LinkArgs<'a> {
 
     ghost items = { link_args_items };
 
-    #[tactic(auto, using(xdr3::proofs::Walks::steps), unfolding(nfs3_types::specs::Names::names))]
+    #[tactic(auto, using(xdr3::proofs::Lemmas::Shapes::Walks::steps), unfolding(nfs3_types::specs::Names::names))]
     fn walk<V: Visit>(&self, visitor: &mut V) -> Result<(), AllocError> {
         self.handle.walk(visitor)?;
         self.place.walk(visitor)?;
@@ -167,7 +167,7 @@ impl Walk for LinkWcc {
 
     ghost items = { link_wcc_items };
 
-    #[tactic(auto, using(xdr3::proofs::Walks::steps), unfolding(nfs3_types::specs::Names::names))]
+    #[tactic(auto, using(xdr3::proofs::Lemmas::Shapes::Walks::steps), unfolding(nfs3_types::specs::Names::names))]
     fn walk<V: Visit>(&self, visitor: &mut V) -> Result<(), AllocError> {
         self.attr.walk(visitor)?;
         self.dir.walk(visitor)?;
@@ -297,7 +297,7 @@ impl<'a> Walk for ReadDirOk<'a> {
 
     ghost items = { readdir_ok_items };
 
-    #[tactic(auto, using(xdr3::proofs::Walks::steps), unfolding(nfs3_types::specs::Names::names))]
+    #[tactic(auto, using(xdr3::proofs::Lemmas::Shapes::Walks::steps), unfolding(nfs3_types::specs::Names::names))]
     fn walk<V: Visit>(&self, visitor: &mut V) -> Result<(), AllocError> {
         self.attr.walk(visitor)?;
         walk_fields(&[Field::Fixed("cookieverf", self.cookieverf)], visitor)?;
@@ -395,7 +395,7 @@ impl<'a> Walk for EntryPlus<'a> {
 
     ghost items = { entry_plus_items };
 
-    #[tactic(auto, using(xdr3::proofs::Walks::steps), unfolding(nfs3_types::specs::Names::names))]
+    #[tactic(auto, using(xdr3::proofs::Lemmas::Shapes::Walks::steps), unfolding(nfs3_types::specs::Names::names))]
     fn walk<V: Visit>(&self, visitor: &mut V) -> Result<(), AllocError> {
         let all = [
             Field::Hyper("fileid", self.fileid),
@@ -443,7 +443,7 @@ impl<'a> Walk for ReadDirPlusOk<'a> {
 
     ghost items = { readdirplus_ok_items };
 
-    #[tactic(auto, using(xdr3::proofs::Walks::steps), unfolding(nfs3_types::specs::Names::names))]
+    #[tactic(auto, using(xdr3::proofs::Lemmas::Shapes::Walks::steps), unfolding(nfs3_types::specs::Names::names))]
     fn walk<V: Visit>(&self, visitor: &mut V) -> Result<(), AllocError> {
         self.attr.walk(visitor)?;
         walk_fields(&[Field::Fixed("cookieverf", self.cookieverf)], visitor)?;

@@ -51,7 +51,7 @@ impl Walk for FsStatOk {
 
     ghost items = { fsstat_ok_items };
 
-    #[tactic(auto, using(xdr3::proofs::Walks::steps), unfolding(nfs3_types::specs::Names::names))]
+    #[tactic(auto, using(xdr3::proofs::Lemmas::Shapes::Walks::steps), unfolding(nfs3_types::specs::Names::names))]
     fn walk<V: Visit>(&self, visitor: &mut V) -> Result<(), AllocError> {
         self.attr.walk(visitor)?;
         let all = [
@@ -124,7 +124,7 @@ impl Walk for FsInfoOk {
 
     ghost items = { fsinfo_ok_items };
 
-    #[tactic(auto, using(xdr3::proofs::Walks::steps), unfolding(nfs3_types::specs::Names::names))]
+    #[tactic(auto, using(xdr3::proofs::Lemmas::Shapes::Walks::steps), unfolding(nfs3_types::specs::Names::names))]
     fn walk<V: Visit>(&self, visitor: &mut V) -> Result<(), AllocError> {
         self.attr.walk(visitor)?;
         let all = [
@@ -188,7 +188,7 @@ impl Walk for PathConfOk {
 
     ghost items = { pathconf_ok_items };
 
-    #[tactic(auto, using(xdr3::proofs::Walks::steps), unfolding(nfs3_types::specs::Names::names))]
+    #[tactic(auto, using(xdr3::proofs::Lemmas::Shapes::Walks::steps), unfolding(nfs3_types::specs::Names::names))]
     fn walk<V: Visit>(&self, visitor: &mut V) -> Result<(), AllocError> {
         self.attr.walk(visitor)?;
         let all = [

@@ -35,7 +35,7 @@ impl Walk for SetAttrArgs {
 
     ghost items = { setattr_args_items };
 
-    #[tactic(auto, using(xdr3::proofs::Walks::steps), unfolding(nfs3_types::specs::Names::names))]
+    #[tactic(auto, using(xdr3::proofs::Lemmas::Shapes::Walks::steps), unfolding(nfs3_types::specs::Names::names))]
     fn walk<V: Visit>(&self, visitor: &mut V) -> Result<(), AllocError> {
         self.handle.walk(visitor)?;
         self.attr.walk(visitor)?;
@@ -104,7 +104,7 @@ impl Walk for AccessOk {
 
     ghost items = { access_ok_items };
 
-    #[tactic(auto, using(xdr3::proofs::Walks::steps), unfolding(nfs3_types::specs::Names::names))]
+    #[tactic(auto, using(xdr3::proofs::Lemmas::Shapes::Walks::steps), unfolding(nfs3_types::specs::Names::names))]
     fn walk<V: Visit>(&self, visitor: &mut V) -> Result<(), AllocError> {
         self.attr.walk(visitor)?;
         walk_fields(&[Field::Word("access", self.access)], visitor)?;
@@ -138,7 +138,7 @@ impl<'a> Walk for ReadLinkOk<'a> {
 
     ghost items = { readlink_ok_items };
 
-    #[tactic(auto, using(xdr3::proofs::Walks::steps), unfolding(nfs3_types::specs::Names::names))]
+    #[tactic(auto, using(xdr3::proofs::Lemmas::Shapes::Walks::steps), unfolding(nfs3_types::specs::Names::names))]
     fn walk<V: Visit>(&self, visitor: &mut V) -> Result<(), AllocError> {
         self.attr.walk(visitor)?;
         walk_fields(&[Field::Text("path", self.path)], visitor)?;
@@ -224,7 +224,7 @@ impl<'a> Walk for ReadOk<'a> {
 
     ghost items = { read_ok_items };
 
-    #[tactic(auto, using(xdr3::proofs::Walks::steps), unfolding(nfs3_types::specs::Names::names))]
+    #[tactic(auto, using(xdr3::proofs::Lemmas::Shapes::Walks::steps), unfolding(nfs3_types::specs::Names::names))]
     fn walk<V: Visit>(&self, visitor: &mut V) -> Result<(), AllocError> {
         self.attr.walk(visitor)?;
         let all = [
@@ -321,7 +321,7 @@ impl Walk for WriteOk {
 
     ghost items = { write_ok_items };
 
-    #[tactic(auto, using(xdr3::proofs::Walks::steps), unfolding(nfs3_types::specs::Names::names))]
+    #[tactic(auto, using(xdr3::proofs::Lemmas::Shapes::Walks::steps), unfolding(nfs3_types::specs::Names::names))]
     fn walk<V: Visit>(&self, visitor: &mut V) -> Result<(), AllocError> {
         self.wcc.walk(visitor)?;
         let all = [
@@ -359,7 +359,7 @@ impl Walk for CommitOk {
 
     ghost items = { commit_ok_items };
 
-    #[tactic(auto, using(xdr3::proofs::Walks::steps), unfolding(nfs3_types::specs::Names::names))]
+    #[tactic(auto, using(xdr3::proofs::Lemmas::Shapes::Walks::steps), unfolding(nfs3_types::specs::Names::names))]
     fn walk<V: Visit>(&self, visitor: &mut V) -> Result<(), AllocError> {
         self.wcc.walk(visitor)?;
         walk_fields(&[Field::WriteVerf("verf", self.verf)], visitor)?;

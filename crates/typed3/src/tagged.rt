@@ -8,7 +8,7 @@ use std::alloc::AllocError;
 use xdr3::{Visit, Walk};
 
 /// Visits the word and then the value.
-#[tactic(auto, using(xdr3::proofs::Walks::steps))]
+#[tactic(auto, using(xdr3::proofs::Lemmas::Shapes::Walks::steps))]
 pub(crate) fn walk_tagged<T: Walk, V: Visit>(
     name: &'static str,
     tag: u32,

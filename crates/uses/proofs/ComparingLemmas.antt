@@ -9,7 +9,7 @@ use Rattle.std.proofs.lemmas.List.Concat.{flat_map-append}
 use Rattle.std.proofs.lemmas.Option.{get_or_from_slice_get, none-some, slice_get-get_or, slice_get-map, slice_get_past, slice_get_read, slice_get_within}
 use Rattle.xdr3.specs.Item.{Item, Opaque, Handle}
 use Rattle.nfs3_types.specs.Handle.{handle_bytes}
-use Rattle.nfs3_types.specs.declared.handle.Handle.{Handle as FileHandle}
+use Rattle.nfs3_types.specs.declared.values.handle.Handle.{Handle as FileHandle}
 use Rattle.capture3.specs.Entry.{Entry, items_of}
 use Rattle.uses.specs.Comparing.{handle_of_item, handles_of_items}
 

@@ -1,7 +1,7 @@
 -- What one entry more adds to the calls that are counted.
 use Rattle.std.proofs.Common.{◌≡◌, ℕ, ◌+◌, Bool, true, false, cond, List, [], ◌∷◌, ◌++◌, count_by, refl, sym, ap, subst, arith, ◌∙◌}
 use Rattle.std.proofs.lemmas.List.Sums.{sum_by-append, sum_by-cons}
-use Rattle.rpc_head.specs.declared.call.ProcId.{ProcId}
+use Rattle.rpc_head.specs.declared.values.call.ProcId.{ProcId}
 use Rattle.capture3.specs.declared.reader.entry.Kind.{Kind}
 use Rattle.capture3.specs.declared.reader.entry.Kind.TheVariants as kinds
 use Rattle.capture3.specs.Entry.{Entry}

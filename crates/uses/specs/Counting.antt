@@ -1,6 +1,6 @@
 -- How many calls of a procedure a capture has.
 use Rattle.std.specs.Prelude.{◌≡◌, ℕ, ◌==◌, ◌&&◌, Bool, false, List, count_by}
-use Rattle.rpc_head.specs.declared.call.ProcId.{ProcId}
+use Rattle.rpc_head.specs.declared.values.call.ProcId.{ProcId}
 use Rattle.rpc_head.specs.Messages.{procedure_in}
 use Rattle.capture3.specs.Entry.{Entry, Call}
 use Rattle.capture3.specs.Typed.{Typed}

@@ -1,6 +1,6 @@
 -- The name that a LOOKUP call looks up.
 use Rattle.std.specs.Prelude.{◌≡◌, ℕ, List}
-use Rattle.nfs3_types.specs.declared.directory.DirOp.{DirOp}
+use Rattle.nfs3_types.specs.declared.values.directory.DirOp.{DirOp}
 use Rattle.capture3.specs.Bodies.{IsCall}
 use Rattle.typed3.specs.declared.args.Args.TheVariants.{Lookup}
 use Rattle.typed3.specs.declared.message.CallMsg.{CallMsg}

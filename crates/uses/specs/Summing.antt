@@ -3,7 +3,7 @@ use Rattle.std.specs.Prelude.{◌≡◌, ℕ, ◌-◌, ◌^◌, if◌then◌else
 use Rattle.xdr3.specs.Item.{Item, Opaque, Var}
 use Rattle.capture3.specs.Entry.{Entry, items_of}
 use Rattle.capture3.specs.Typed.{Typed}
-use Rattle.rpc_head.specs.declared.call.ProcId.{ProcId}
+use Rattle.rpc_head.specs.declared.values.call.ProcId.{ProcId}
 use Rattle.uses.specs.Counting.{is_call_of}
 use Rattle.uses.specs.declared.summing.DataBytes.{DataBytes}
 

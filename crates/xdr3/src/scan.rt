@@ -5,7 +5,7 @@ ghost use Rattle.std.specs.Int.{from_bool};
 ghost use Rattle.xdr3.specs.Item.{Handle, Text, Var};
 ghost use Rattle.xdr3.specs.Layout.{Layout, rest};
 ghost use Rattle.xdr3.specs.Scan.{Scans, ScansLayout, ScansWord, Stops, StopsWord};
-ghost use Rattle.xdr3.specs.machinery.Scan.{ScansInside, StopsInside};
+ghost use Rattle.xdr3.specs.machinery.WindowScans.{ScansInside, StopsInside};
 ghost use Rattle.xdr3.specs.Shape.{Shape, counted, fixed, hyper, is_any, is_at_most, is_bool, is_listed, linked, opaque, optional, sized, write_verf};
 
 use crate::input::Input;
@@ -228,7 +228,7 @@ pub fn scan_rest<V: Visit>(
 
 /// Reads a bool, and the shape if it is true (optional data, RFC 4506, section 4.19).
 #[inline(always)]
-#[tactic(auto, using(crate::proofs::ScanLemmas::scans), unfolding(crate::specs::Shape::optional))]
+#[tactic(auto, using(crate::proofs::Lemmas::Scans::ScanLemmas::scans), unfolding(crate::specs::Shape::optional))]
 pub fn scan_optional<T: Scan, V: Visit>(
     name: &'static str,
     input: &mut Input,
@@ -247,7 +247,7 @@ pub fn scan_optional<T: Scan, V: Visit>(
 
 /// Reads a list by optional data: a word 1 before each part, and a word 0 at the end (RFC 4506,
 /// section 4.19).
-#[tactic(auto, using(crate::proofs::LinkedScanLemmas::links))]
+#[tactic(auto, using(crate::proofs::Lemmas::Scans::LinkedScanLemmas::links))]
 pub fn scan_linked<T: Scan, V: Visit>(
     name: &'static str,
     input: &mut Input,
@@ -289,7 +289,7 @@ pub fn scan_counted<T: Scan, V: Visit>(
 /// credential (RFC 5531, section 8.2). `AuthLength` if an item passes the last of these bytes, or
 /// if some are left over.
 #[inline(always)]
-#[tactic(auto, using(crate::proofs::SizedScanLemmas::sizes))]
+#[tactic(auto, using(crate::proofs::Lemmas::Scans::SizedScanLemmas::sizes))]
 pub fn scan_sized<T: Scan, V: Visit>(
     name: &'static str,
     input: &mut Input,
@@ -306,7 +306,7 @@ pub fn scan_sized<T: Scan, V: Visit>(
 
 /// Reads the shape, which must fill the rest of a window.
 #[inline(always)]
-#[tactic(auto, unfolding(crate::specs::Scan::Scans, crate::specs::machinery::Scan::ScansInside, crate::specs::Scan::Stops, crate::specs::machinery::Scan::StopsInside))]
+#[tactic(auto, unfolding(crate::specs::Scan::Scans, crate::specs::machinery::WindowScans::ScansInside, crate::specs::Scan::Stops, crate::specs::machinery::WindowScans::StopsInside))]
 fn scan_inside<T: Scan, V: Visit>(window: &mut Input, visitor: &mut V) -> Result<(), GetError>
     ensures ok { OnOk result (ScansInside V.stands T.shape window.old visitor.old visitor.new) }
     ensures err { IfErr result (λ error. StopsInside T.shape window.old error) }

@@ -6,7 +6,7 @@ use Rattle.canon3.specs.declared.message_writer.MessageWriter.{MessageWriter}
 use Rattle.canon3.specs.declared.message_writer.Stage.{Stage}
 use Rattle.canon3.specs.declared.message_writer.Stage.TheVariants.{Begins, Goes, Failed}
 use Rattle.canon3.specs.CanonicalStream.{message_after}
-use Rattle.canon3.specs.machinery.CanonicalStream.{open_xids}
+use Rattle.canon3.specs.machinery.OpenXids.{open_xids}
 use Rattle.canon3.specs.HandleTable.{HoldsHandles}
 use Rattle.canon3.specs.Rank.{HoldsDistinct}
 use Rattle.canon3.specs.Values.{handles, handles_in, verifiers, verifiers_in}

@@ -6,12 +6,12 @@ use Rattle.std.specs.declared.hash.Hasher as Hasher
 use Rattle.capture3.specs.declared.reader.entries.Entries.{Entries}
 use Rattle.capture3.specs.declared.fault.Error.{Error}
 use Rattle.capture3.specs.Entries.{IsMetBy, source_of}
-use Rattle.capture3.specs.machinery.Entries.{StandsFor}
+use Rattle.capture3.specs.machinery.EntriesHistory.{StandsFor}
 use Rattle.capture3.specs.Entry.{Entry}
 use Rattle.capture3.specs.Typed.{Typed}
 use Rattle.canon3.specs.declared.summary.Tally.{Tally}
 use Rattle.canon3.specs.Passed.{ArePassed}
-use Rattle.canon3.specs.machinery.Summary.{all_items}
+use Rattle.canon3.specs.machinery.Sums.{all_items}
 use Rattle.canon3.specs.machinery.WaitingHandles.{GathersAll}
 
 -- these entries came, and their handles were gathered

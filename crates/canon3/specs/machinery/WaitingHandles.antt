@@ -1,7 +1,7 @@
 -- What handles that wait to be looked up stand for.
 use Rattle.std.specs.Prelude.{◌≡◌, List, ◌++◌, drop, map}
 use Rattle.xdr3.specs.Item.{Item}
-use Rattle.nfs3_types.specs.declared.handle.Handle.{Handle}
+use Rattle.nfs3_types.specs.declared.values.handle.Handle.{Handle}
 use Rattle.nfs3_types.specs.Handle.{handle_bytes}
 use Rattle.canon3.specs.declared.waiting_handles.WaitingHandles.{WaitingHandles}
 use Rattle.canon3.specs.HandleTable.{same_handle}

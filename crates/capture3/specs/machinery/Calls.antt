@@ -1,6 +1,6 @@
 -- A list of calls by their xids.
 use Rattle.std.specs.Prelude.{◌≡◌, ℕ, ◌<◌, ◌==◌, if◌then◌else◌, is_some, slice_get, List, [], ◌∷◌, ◌++◌, Option, Some, None}
-use Rattle.rpc_head.specs.declared.call.ProcId.{ProcId}
+use Rattle.rpc_head.specs.declared.values.call.ProcId.{ProcId}
 use Rattle.capture3.specs.declared.message.calls.NumberedCall.{NumberedCall}
 
 -- the procedure of the first call with this xid
@@ -27,8 +27,8 @@ abbrev pub FindsSame : List NumberedCall → List NumberedCall → Type 0
 FindsSame old new = (q : ℕ) → found new q ≡ found old q
 
 -- each call of a line stands at the home of its xid, and maybe elsewhere too
-abbrev pub IsLine : (ℕ → ℕ) → List NumberedCall → Type 0
-IsLine home line = (i : ℕ) → (call : NumberedCall)
+abbrev pub AreAtHome : (ℕ → ℕ) → List NumberedCall → Type 0
+AreAtHome home line = (i : ℕ) → (call : NumberedCall)
     → slice_get line i ≡ Some call → slice_get line (home call.xid) ≡ Some call
 
 -- no xid with a home below this has a call

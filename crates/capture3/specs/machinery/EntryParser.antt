@@ -8,7 +8,7 @@ use Rattle.xdr3.specs.Visit.{Adds}
 use Rattle.record_mark.specs.Joining.{Between, Whole, join_next}
 use Rattle.record_mark.specs.Machine.{Ends, Runs, Stops, after}
 use Rattle.record_mark.specs.Taking.{Taking, IsWhole, body_of, released}
-use Rattle.rpc_head.specs.declared.call.ProcId.{ProcId}
+use Rattle.rpc_head.specs.declared.values.call.ProcId.{ProcId}
 use Rattle.rpc_head.specs.Messages.{procedure_in}
 use Rattle.capture3.specs.declared.message.calls.NumberedCall.{NumberedCall}
 use Rattle.capture3.specs.declared.reader.entry.Kind.{Kind}

@@ -3,7 +3,7 @@ use Rattle.std.specs.Prelude.{◌≡◌, ℕ, Bool, if◌then◌else◌, List}
 use Rattle.xdr3.specs.Item.{Item}
 use Rattle.xdr3.specs.Layout.{Layout, exactly}
 use Rattle.xdr3.specs.Shape.{nothing}
-use Rattle.rpc_head.specs.declared.call.ProcId.{ProcId}
+use Rattle.rpc_head.specs.declared.values.call.ProcId.{ProcId}
 use Rattle.procs3.specs.Table.{results_of}
 use Rattle.capture3.specs.declared.message.calls.NumberedCall.{NumberedCall}
 use Rattle.capture3.specs.Bodies.{procedure_of}

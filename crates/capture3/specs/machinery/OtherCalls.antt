@@ -1,6 +1,6 @@
 -- Calls whose procedures are coded by their indices in a list, plus one.
 use Rattle.std.specs.Prelude.{◌≡◌, ℕ, ◌<◌, ◌≤◌, ◌-◌, List, map, length, slice_index_or, Some}
-use Rattle.rpc_head.specs.declared.call.ProcId.{ProcId}
+use Rattle.rpc_head.specs.declared.values.call.ProcId.{ProcId}
 use Rattle.word_table.specs.Words.{value_of_word}
 use Rattle.capture3.specs.declared.message.calls.NumberedCall.{NumberedCall}
 

@@ -1,7 +1,7 @@
 -- Bodies that spell a message of a procedure.
 use Rattle.std.specs.Prelude.{◌≡◌, ℕ, List}
 use Rattle.xdr3.specs.Item.{Item}
-use Rattle.rpc_head.specs.declared.call.ProcId.{ProcId}
+use Rattle.rpc_head.specs.declared.values.call.ProcId.{ProcId}
 use Rattle.rpc_head.specs.Messages.{procedure_in}
 use Rattle.capture3.specs.Bodies.{IsCall, IsReply}
 

@@ -1,7 +1,7 @@
 //! The calls of a connection, whose xids mostly count up.
 
 ghost use Rattle.std.specs.Prelude.{◌≡◌, ◌≤◌, ◌<◌, ◌++◌, [], None, IfOk, IfSome, IsFalse, IsTrue, OnOk, Some, length};
-ghost use Rattle.capture3.specs.machinery.Calls.{found, AreAbove, FindsSame, Gains, IsLine, Puts};
+ghost use Rattle.capture3.specs.machinery.Calls.{found, AreAbove, FindsSame, Gains, AreAtHome, Puts};
 ghost use Rattle.capture3.specs.machinery.Counting.{home_of};
 ghost use Rattle.capture3.specs.BodyProgram.{agrees};
 
@@ -26,7 +26,7 @@ pub(crate) struct CountedCalls<S: BuildHasher + Drop> {
     others: OtherCalls<S>,
     // No other call has its home below. If there is none, it is `usize::MAX`.
     nearest: usize,
-    ghost lined: { IsLine (home_of counting) line.items },
+    ghost lined: { AreAtHome (home_of counting) line.items },
     ghost above: { AreAbove (home_of counting) nearest others },
 }
 

@@ -6,7 +6,7 @@ ghost use Rattle.xdr3.specs.Item.{Item};
 ghost use Rattle.xdr3.specs.Scan.{ScansLayout, StopsLayout};
 ghost use Rattle.xdr3.specs.Visit.{Adds, body_limit};
 ghost use Rattle.capture3.specs.BodyProgram as spec;
-ghost use Rattle.capture3.specs.machinery.MessageScan.{ScansCall, ScansReply, StopsMessage};
+ghost use Rattle.capture3.specs.machinery.ScannedMessages.{ScansCall, ScansReply, StopsMessage};
 ghost use Rattle.capture3.specs.machinery.Messages.{IsTableOf, results_after};
 
 use crate::message::calls::{KnownCalls, NumberedCall};
@@ -70,7 +70,7 @@ pub(crate) fn scan_reply<C: KnownCalls, V: Visit>(
 
 /// Visits the xid and the mtype.
 #[inline]
-#[tactic(auto, using(xdr3::proofs::Walks::adds_joined), unfolding(rpc_head::specs::Names::head_names))]
+#[tactic(auto, using(xdr3::proofs::Lemmas::Shapes::Walks::adds_joined), unfolding(rpc_head::specs::Names::head_names))]
 fn tell_start<V: Visit>(start: Start, visitor: &mut V) -> Result<(), AllocError>
     ensures { OnOk result (Adds V.stands visitor.old visitor.new (start_items start)) }
 {
@@ -80,7 +80,7 @@ fn tell_start<V: Visit>(start: Start, visitor: &mut V) -> Result<(), AllocError>
 
 /// Parses the results after a reply's head: none after any but an accepted success.
 #[inline(always)]
-#[tactic(auto, using(xdr3::proofs::ScanLemmas::layouts, xdr3::proofs::ScanLemmas::nothing_scans))]
+#[tactic(auto, using(xdr3::proofs::Lemmas::Scans::ScanLemmas::layouts, xdr3::proofs::Lemmas::Scans::ScanLemmas::nothing_scans))]
 fn scan_results_after<V: Visit>(
     success: bool,
     id: ProcId,

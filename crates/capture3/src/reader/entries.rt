@@ -78,7 +78,7 @@ impl<'r, R: Source, S: BuildHasher + Drop> Entries<'r, R, S> {
     ghost use Rattle.capture3.specs.Kept.{IsLent, kind_lent};
     ghost use Rattle.capture3.specs.Entries.{block_size, CountsReads, failure_of, IsOver, last_of, loan_of, source_of};
     ghost use Rattle.capture3.specs.Handing.{HandsOutGiven};
-    ghost use Rattle.capture3.specs.machinery.Entries.{entries_left, HandsOutOrGoesOn, HasRead, StandsFor, Turns};
+    ghost use Rattle.capture3.specs.machinery.EntriesHistory.{entries_left, HandsOutOrGoesOn, HasRead, StandsFor, Turns};
 
     /// Returns a reader through a block that is not empty. It reads nothing yet. The hasher is for
     /// the calls of a connection by their xids, and affects no result.

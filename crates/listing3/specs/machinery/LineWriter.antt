@@ -3,7 +3,7 @@ use Rattle.std.specs.Prelude.{◌≡◌, ℕ, Option, None, Some, List, [], ◌�
 use Rattle.xdr3.specs.Item.{Item, Word}
 use Rattle.capture3.specs.Entry.{Entry}
 use Rattle.canon3.specs.HandleTable.{Gathers}
-use Rattle.canon3.specs.machinery.Summary.{all_items}
+use Rattle.canon3.specs.machinery.Sums.{all_items}
 use Rattle.listing3.specs.declared.line_writer.LineWriter.{LineWriter}
 use Rattle.listing3.specs.Listing.{shown_items}
 

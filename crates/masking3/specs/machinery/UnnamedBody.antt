@@ -6,22 +6,22 @@ use Rattle.masking3.specs.declared.ways.Way.{Way}
 use Rattle.masking3.specs.declared.ways.Way.TheVariants.{Keep, Zero, Number}
 
 -- the word at a place
-abbrev pub number_at : ℕ → List ℕ → ℕ
-number_at at body = big_number 4 (drop at body)
+abbrev pub body_word : ℕ → List ℕ → ℕ
+body_word at body = big_number 4 (drop at body)
 
 -- how many bytes the name has, with its residual bytes
 abbrev pub name_room : List ℕ → ℕ
-name_room body = number_at 36 body + residue (number_at 36 body)
+name_room body = body_word 36 body + residue (body_word 36 body)
 
 -- the flavor is AUTH_SYS (1), and the name is there
 abbrev pub has_name : List ℕ → Bool
 has_name body = nat_le 40 (length body)
-    && ((number_at 24 body == 1) && nat_le (name_room body) (length body - 40))
+    && ((body_word 24 body == 1) && nat_le (name_room body) (length body - 40))
 
 -- up to the name, with a length that is less by so many bytes, and an empty name
 abbrev pub head_less_by : ℕ → List ℕ → List ℕ
 head_less_by room body =
-    ((take 28 body ++ word_bytes (number_at 28 body - room)) ++ take 4 (drop 32 body))
+    ((take 28 body ++ word_bytes (body_word 28 body - room)) ++ take 4 (drop 32 body))
     ++ word_bytes 0
 
 abbrev pub unnamed_body : List ℕ → List ℕ

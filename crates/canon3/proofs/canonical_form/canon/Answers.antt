@@ -1,5 +1,5 @@
-use Rattle.canon3.proofs.CanonicalFormLemmas.{written_no_more}
-use Rattle.canon3.proofs.Growing.{form_fronts}
+use Rattle.canon3.proofs.Lemmas.Canonical.CanonicalFormLemmas.{written_no_more}
+use Rattle.canon3.proofs.Lemmas.Canonical.Growing.{form_fronts}
 use Rattle.canon3.proofs.canonical_form.canon.Goals as goal
 
 pub write_entries-requires-clause-prefixes : goal.write_entries-requires-clause-prefixes

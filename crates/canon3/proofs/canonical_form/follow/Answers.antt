@@ -1,6 +1,6 @@
 use Rattle.std.proofs.Common.{[], ◌∷◌, ◌++◌, ap, subst, ◌∙◌}
 use Rattle.std.specs.Io.KnownBytes.{Appends}
-use Rattle.capture3.proofs.PassedOn.{error_is}
+use Rattle.capture3.proofs.Lemmas.Reader.PassedOn.{error_is}
 use Rattle.canon3.specs.machinery.MessageWriter.{values_of}
 use Rattle.canon3.specs.machinery.Spelling.{spelling_of}
 use Rattle.canon3.specs.SinkWrites.{AppendsFront}

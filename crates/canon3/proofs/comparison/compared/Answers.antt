@@ -1,7 +1,7 @@
 use Rattle.std.proofs.Common.{[]}
 use Rattle.capture3.specs.Entries.{source_of}
-use Rattle.capture3.proofs.PassedOn.{error_is}
-use Rattle.canon3.proofs.ComparisonLemmas.{fresh}
+use Rattle.capture3.proofs.Lemmas.Reader.PassedOn.{error_is}
+use Rattle.canon3.proofs.Lemmas.Comparison.ComparisonLemmas.{fresh}
 use Rattle.canon3.proofs.comparison.compared.Goals as goal
 
 pub returns-clause-gave : goal.returns-clause-gave

@@ -2,8 +2,8 @@ use Rattle.std.proofs.Common.{[], ◌∷◌, ◌++◌, subst, sym}
 use Rattle.capture3.specs.Entries.{source_of}
 use Rattle.canon3.specs.declared.verdict.Which.TheVariants.{First}
 use Rattle.canon3.specs.Comparison.{CountsReadingOf}
-use Rattle.canon3.specs.machinery.Comparison.{IsFound}
-use Rattle.canon3.proofs.ComparisonLemmas.{ended_decides, first_of, first_stops, given_on, parted_decides}
+use Rattle.canon3.specs.machinery.ComparisonSteps.{IsFound}
+use Rattle.canon3.proofs.Lemmas.Comparison.ComparisonLemmas.{ended_decides, first_of, first_stops, given_on, parted_decides}
 use Rattle.canon3.proofs.comparison.conclude.Goals as goal
 
 pub returns-in-Ended-clause-gave : goal.returns-in-Ended-clause-gave

@@ -1,6 +1,6 @@
 use Rattle.std.proofs.Common.{Ok, Err, ◌++◌}
-use Rattle.capture3.proofs.PassedOn.{error_is}
-use Rattle.canon3.proofs.ComparisonLemmas.{hands, read_on}
+use Rattle.capture3.proofs.Lemmas.Reader.PassedOn.{error_is}
+use Rattle.canon3.proofs.Lemmas.Comparison.ComparisonLemmas.{hands, read_on}
 use Rattle.canon3.proofs.comparison.read_next.Goals as goal
 
 pub returns-in_err-next-clause-on : goal.returns-in_err-next-clause-on

@@ -1,6 +1,6 @@
 use Rattle.std.proofs.Common.{Ok, subst}
-use Rattle.capture3.proofs.PassedOn.{error_is}
-use Rattle.canon3.specs.machinery.Comparison.{ReadsOn}
+use Rattle.capture3.proofs.Lemmas.Reader.PassedOn.{error_is}
+use Rattle.canon3.specs.machinery.ComparisonSteps.{ReadsOn}
 use Rattle.canon3.proofs.comparison.read_out.Goals as goal
 
 pub returns-clause-out : goal.returns-clause-out

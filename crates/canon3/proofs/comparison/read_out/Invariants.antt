@@ -1,9 +1,9 @@
 use Rattle.std.proofs.Common.{◌≡◌, List, None}
 use Rattle.capture3.specs.Told.{Told}
 use Rattle.capture3.specs.Entries.{failure_of, loan_of, source_of}
-use Rattle.capture3.specs.machinery.Entries.{entries_left}
+use Rattle.capture3.specs.machinery.EntriesHistory.{entries_left}
 use Rattle.capture3.specs.Entry.{Entry}
-use Rattle.canon3.specs.machinery.Comparison.{HasGivenOn}
+use Rattle.canon3.specs.machinery.ComparisonSteps.{HasGivenOn}
 use Rattle.canon3.proofs.comparison.read_out.Given as goal
 
 abbrev pub invariant-loop : goal.invariant-loop

@@ -1,5 +1,5 @@
 use Rattle.std.proofs.Common.{refl}
-use Rattle.canon3.proofs.ComparisonLemmas.{given_on}
+use Rattle.canon3.proofs.Lemmas.Comparison.ComparisonLemmas.{given_on}
 use Rattle.canon3.proofs.comparison.read_second.Goals as goal
 
 pub returns-in-Ok-clause-out : goal.returns-in-Ok-clause-out

@@ -1,7 +1,7 @@
 use Rattle.std.proofs.Common.{sym, ◌≡◌, ◌∙◌}
 use Rattle.capture3.specs.Entries.{source_of}
-use Rattle.capture3.proofs.ToldLemmas.{prefix_of_kept, prefix_of_told}
-use Rattle.canon3.proofs.ComparisonLemmas.{decides_all}
+use Rattle.capture3.proofs.Lemmas.Reader.ToldLemmas.{prefix_of_kept, prefix_of_told}
+use Rattle.canon3.proofs.Lemmas.Comparison.ComparisonLemmas.{decides_all}
 use Rattle.canon3.proofs.comparison.same.Goals as goal
 
 -- the readers gave back the sources that they were lent

@@ -1,7 +1,7 @@
 use Rattle.std.proofs.Common.{inl}
 use Rattle.std.proofs.KnownBytes.{Appends-kept}
-use Rattle.canon3.proofs.SinkWritesLemmas.{whole_front}
-use Rattle.canon3.proofs.SummaryLemmas.{summary_is}
+use Rattle.canon3.proofs.Lemmas.Writing.SinkWritesLemmas.{whole_front}
+use Rattle.canon3.proofs.Lemmas.Progress.SummaryLemmas.{summary_is}
 use Rattle.canon3.proofs.entry_writer.close.Goals as goal
 
 pub returns-in-Ok-clause-writes : goal.returns-in-Ok-clause-writes

@@ -1,9 +1,9 @@
 use Rattle.std.proofs.Common.{List, ℕ, sym, ◌≡◌, ◌∙◌}
 use Rattle.capture3.specs.Entries.{source_of}
 use Rattle.capture3.specs.Told.{GavePrefix}
-use Rattle.capture3.proofs.ToldLemmas.{prefix_of_kept}
+use Rattle.capture3.proofs.Lemmas.Reader.ToldLemmas.{prefix_of_kept}
 use Rattle.canon3.specs.EntryWriter.{WritesAll}
-use Rattle.canon3.proofs.EntryWriterLemmas.{all_written, nothing_written}
+use Rattle.canon3.proofs.Lemmas.Writing.EntryWriterLemmas.{all_written, nothing_written}
 use Rattle.canon3.proofs.entry_writer.write_entries.Goals as goal
 
 -- the reader gave back the source that it was lent

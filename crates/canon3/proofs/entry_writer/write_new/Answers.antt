@@ -1,9 +1,9 @@
 use Rattle.std.proofs.Common.{[], sym, subst, List, ℕ}
-use Rattle.capture3.proofs.ToldLemmas.{gave_none}
+use Rattle.capture3.proofs.Lemmas.Reader.ToldLemmas.{gave_none}
 use Rattle.std.specs.Io.KnownBytes.{Appends}
 use Rattle.std.proofs.KnownBytes.{Appends-nil}
 use Rattle.capture3.specs.Entries.{source_of}
-use Rattle.capture3.proofs.PassedOn.{error_is}
+use Rattle.capture3.proofs.Lemmas.Reader.PassedOn.{error_is}
 use Rattle.canon3.proofs.entry_writer.write_new.Goals as goal
 
 pub returns-clause-writes : goal.returns-clause-writes

@@ -1,12 +1,12 @@
 use Rattle.std.proofs.Common.{Ok, [], ◌∷◌, ◌++◌, length, arith, subst, sym, ◌<◌, ◌^◌}
-use Rattle.capture3.proofs.ToldLemmas.{gave_both}
+use Rattle.capture3.proofs.Lemmas.Reader.ToldLemmas.{gave_both}
 use Rattle.xdr3.specs.Visit.{Adds}
 use Rattle.capture3.specs.Entries.{source_of}
 use Rattle.capture3.specs.Handing.{HandsOut}
-use Rattle.capture3.proofs.PassedOn.{error_is}
-use Rattle.canon3.specs.machinery.EntryWriter.{HasWritten}
-use Rattle.canon3.proofs.EntryWriterLemmas.{met_stops, written_goes_on}
-use Rattle.canon3.proofs.Reaching.{first_reached}
+use Rattle.capture3.proofs.Lemmas.Reader.PassedOn.{error_is}
+use Rattle.canon3.specs.machinery.WritingSteps.{HasWritten}
+use Rattle.canon3.proofs.Lemmas.Writing.EntryWriterLemmas.{met_stops, written_goes_on}
+use Rattle.canon3.proofs.Lemmas.Order.Reaching.{first_reached}
 use Rattle.canon3.proofs.entry_writer.write_next.Goals as goal
 
 pub returns-in-Some-clause-goes_on : goal.returns-in-Some-clause-goes_on

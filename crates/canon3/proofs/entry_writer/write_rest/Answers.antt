@@ -1,5 +1,5 @@
 use Rattle.std.proofs.Common.{Ok, subst}
-use Rattle.canon3.specs.machinery.EntryWriter.{WritesOn}
+use Rattle.canon3.specs.machinery.WritingSteps.{WritesOn}
 use Rattle.canon3.proofs.entry_writer.write_rest.Goals as goal
 
 pub returns-clause-over : goal.returns-clause-over

@@ -1,9 +1,9 @@
 use Rattle.std.proofs.Common.{◌≡◌, ◌≤◌, ◌+◌, List, ℕ, None, Option}
 use Rattle.capture3.specs.Told.{Told}
 use Rattle.capture3.specs.Entries.{failure_of, loan_of, source_of}
-use Rattle.capture3.specs.machinery.Entries.{entries_left}
+use Rattle.capture3.specs.machinery.EntriesHistory.{entries_left}
 use Rattle.capture3.specs.Laws.{most_entries}
-use Rattle.canon3.specs.machinery.EntryWriter.{IsWriting}
+use Rattle.canon3.specs.machinery.WritingSteps.{IsWriting}
 use Rattle.canon3.specs.Passed.{passed_steps}
 use Rattle.canon3.proofs.entry_writer.write_rest.Given as goal
 

@@ -1,6 +1,6 @@
-use Rattle.canon3.proofs.CanonicalLemmas.{same-canonical}
-use Rattle.canon3.proofs.Equality.{canonical-canonical}
-use Rattle.canon3.proofs.First.{first_in_order}
+use Rattle.canon3.proofs.Lemmas.Canonical.CanonicalLemmas.{same-canonical}
+use Rattle.canon3.proofs.Lemmas.Renaming.Equality.{canonical-canonical}
+use Rattle.canon3.proofs.Lemmas.Order.First.{first_in_order}
 use Rattle.canon3.proofs.laws.canonical_again.Goals as goal
 
 pub returns-clause-again : goal.returns-clause-again

@@ -1,7 +1,7 @@
 use Rattle.std.proofs.Common.{ap}
 use Rattle.canon3.specs.Bytes.{bytes_of}
-use Rattle.canon3.proofs.OneFormLemmas.{canonical-same}
-use Rattle.canon3.proofs.First.{same_from_bytes}
+use Rattle.canon3.proofs.Lemmas.Canonical.OneFormLemmas.{canonical-same}
+use Rattle.canon3.proofs.Lemmas.Order.First.{same_from_bytes}
 use Rattle.canon3.proofs.laws.canonical_bytes_decide.Goals as goal
 
 pub returns-clause-same : goal.returns-clause-same

@@ -1,7 +1,7 @@
 use Rattle.canon3.specs.Canonical.{canonical}
-use Rattle.canon3.proofs.CanonicalStreamLemmas.{canonical-after}
-use Rattle.canon3.proofs.Prefixes.{canonical-take, bytes_of-take}
-use Rattle.canon3.proofs.First.{first_in_order, first_taken}
+use Rattle.canon3.proofs.Lemmas.Canonical.CanonicalStreamLemmas.{canonical-after}
+use Rattle.canon3.proofs.Lemmas.Order.Prefixes.{canonical-take, bytes_of-take}
+use Rattle.canon3.proofs.Lemmas.Order.First.{first_in_order, first_taken}
 use Rattle.canon3.proofs.laws.canonical_forms_of_prefixes.Goals as goal
 
 pub returns-clause-entries : goal.returns-clause-entries

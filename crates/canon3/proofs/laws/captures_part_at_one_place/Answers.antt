@@ -1,4 +1,4 @@
-use Rattle.canon3.proofs.PartingLemmas.{some_parting, one_parting}
+use Rattle.canon3.proofs.Lemmas.Comparison.PartingLemmas.{some_parting, one_parting}
 use Rattle.canon3.proofs.laws.captures_part_at_one_place.Goals as goal
 
 pub returns-clause-some : goal.returns-clause-some

@@ -1,6 +1,6 @@
-use Rattle.canon3.proofs.Places.{place_from_parting}
-use Rattle.canon3.proofs.Ends.{end_together}
-use Rattle.canon3.proofs.First.{first_in_order, fronts_decided, parts_where_forms_do}
+use Rattle.canon3.proofs.Lemmas.Comparison.Places.{place_from_parting}
+use Rattle.canon3.proofs.Lemmas.Order.Ends.{end_together}
+use Rattle.canon3.proofs.Lemmas.Order.First.{first_in_order, fronts_decided, parts_where_forms_do}
 use Rattle.canon3.proofs.laws.comparison_finds_the_parting.Goals as goal
 
 pub returns-clause-fronts : goal.returns-clause-fronts

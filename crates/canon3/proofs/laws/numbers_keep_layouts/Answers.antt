@@ -1,4 +1,4 @@
-use Rattle.canon3.proofs.Messages.{call_numbered, reply_numbered, procedure_numbered, call_begins}
+use Rattle.canon3.proofs.Lemmas.WellFormed.Messages.{call_numbered, reply_numbered, procedure_numbered, call_begins}
 use Rattle.canon3.proofs.laws.numbers_keep_layouts.Goals as goal
 
 pub returns-clause-call : goal.returns-clause-call

@@ -1,8 +1,8 @@
 use Rattle.std.specs.Prelude.{bytes_eq}
 use Rattle.std.proofs.lemmas.Slice.Eq.{bytes_eq-Decides}
 use Rattle.canon3.specs.Pairing.{AreBeside}
-use Rattle.canon3.proofs.RankLemmas.{rank_paired, rank-map}
-use Rattle.canon3.proofs.PairingLemmas.{agree-from}
+use Rattle.canon3.proofs.Lemmas.Numbers.RankLemmas.{rank_paired, rank-map}
+use Rattle.canon3.proofs.Lemmas.Renaming.PairingLemmas.{agree-from}
 use Rattle.canon3.proofs.laws.ranks_are_blind.Goals as goal
 
 pub returns-clause-injective : goal.returns-clause-injective

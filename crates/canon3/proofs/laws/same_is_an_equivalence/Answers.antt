@@ -1,5 +1,5 @@
-use Rattle.canon3.proofs.Equality.{same_reflexive, same_symmetric, same_transitive}
-use Rattle.canon3.proofs.First.{first_in_order}
+use Rattle.canon3.proofs.Lemmas.Renaming.Equality.{same_reflexive, same_symmetric, same_transitive}
+use Rattle.canon3.proofs.Lemmas.Order.First.{first_in_order}
 use Rattle.canon3.proofs.laws.same_is_an_equivalence.Goals as goal
 
 pub returns-clause-reflexive : goal.returns-clause-reflexive

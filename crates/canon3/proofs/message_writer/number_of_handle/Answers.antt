@@ -1,5 +1,5 @@
 use Rattle.std.proofs.lemmas.Result.{on_ok_weaker}
-use Rattle.canon3.proofs.Tables.{holds_more, number_by_bytes}
+use Rattle.canon3.proofs.Lemmas.Numbers.Tables.{holds_more, number_by_bytes}
 use Rattle.canon3.proofs.message_writer.number_of_handle.Goals as goal
 
 pub returns-clause-number : goal.returns-clause-number

@@ -2,8 +2,8 @@ use Rattle.std.proofs.Common.{subst, ◌≡◌}
 use Rattle.capture3.specs.Entry.{Entry, Begin, items_of}
 use Rattle.capture3.specs.Kept.{IsOfKind}
 use Rattle.canon3.specs.machinery.MessageWriter.{told_after, WriterStands, values_of}
-use Rattle.canon3.proofs.Opening.{nothing_held}
-use Rattle.canon3.proofs.SpellingLemmas.{begin_spelled, message_spelled, word_spelled}
+use Rattle.canon3.proofs.Lemmas.Writing.Opening.{nothing_held}
+use Rattle.canon3.proofs.Lemmas.Writing.SpellingLemmas.{begin_spelled, message_spelled, word_spelled}
 use Rattle.canon3.proofs.spelling.spelling_of_entry.Goals as goal
 
 pub returns-in-Begin : goal.returns-in-Begin

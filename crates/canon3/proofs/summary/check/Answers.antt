@@ -1,7 +1,7 @@
 use Rattle.std.proofs.Common.{sym, ◌≡◌, ◌∙◌}
 use Rattle.capture3.specs.Entries.{source_of}
-use Rattle.capture3.proofs.ToldLemmas.{prefix_of_kept, prefix_of_told}
-use Rattle.canon3.proofs.SummaryLemmas.{concluded, nothing_concluded}
+use Rattle.capture3.proofs.Lemmas.Reader.ToldLemmas.{prefix_of_kept, prefix_of_told}
+use Rattle.canon3.proofs.Lemmas.Progress.SummaryLemmas.{concluded, nothing_concluded}
 use Rattle.canon3.proofs.summary.check.Goals as goal
 
 -- the reader gave back the source that it was lent

@@ -1,9 +1,9 @@
 use Rattle.std.proofs.Common.{[], append-nil, inl, subst, sym}
-use Rattle.capture3.proofs.ToldLemmas.{gave_none}
+use Rattle.capture3.proofs.Lemmas.Reader.ToldLemmas.{gave_none}
 use Rattle.capture3.specs.Entries.{source_of}
 use Rattle.capture3.specs.Typed.{Typed}
-use Rattle.capture3.proofs.PassedOn.{error_is}
-use Rattle.canon3.proofs.SummaryLemmas.{summary_is}
+use Rattle.capture3.proofs.Lemmas.Reader.PassedOn.{error_is}
+use Rattle.canon3.proofs.Lemmas.Progress.SummaryLemmas.{summary_is}
 use Rattle.canon3.proofs.summary.summed.Goals as goal
 
 pub returns-clause-concludes : goal.returns-clause-concludes

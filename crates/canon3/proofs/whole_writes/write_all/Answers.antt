@@ -1,5 +1,5 @@
 use Rattle.std.proofs.Common.{arith, ◌∙◌}
-use Rattle.canon3.proofs.SinkWritesLemmas.{taken_more}
+use Rattle.canon3.proofs.Lemmas.Writing.SinkWritesLemmas.{taken_more}
 use Rattle.canon3.proofs.whole_writes.write_all.Goals as goal
 
 pub loop-rest-preserved : goal.loop-rest-preserved

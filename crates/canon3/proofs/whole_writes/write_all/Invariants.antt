@@ -1,5 +1,5 @@
 use Rattle.std.proofs.Common.{◌≡◌, length}
-use Rattle.canon3.specs.machinery.SinkWrites.{TookUpTo}
+use Rattle.canon3.specs.machinery.PartialWrites.{TookUpTo}
 use Rattle.canon3.proofs.whole_writes.write_all.Given as goal
 
 abbrev pub invariant-loop-rest : goal.invariant-loop-rest

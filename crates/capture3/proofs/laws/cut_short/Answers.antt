@@ -1,4 +1,4 @@
-use Rattle.capture3.proofs.Verdicts.{is_cut_short}
+use Rattle.capture3.proofs.Lemmas.Files.Verdicts.{is_cut_short}
 use Rattle.capture3.proofs.laws.cut_short.Goals as goal
 
 pub returns : goal.returns

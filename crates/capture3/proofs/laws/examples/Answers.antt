@@ -6,10 +6,10 @@ use Rattle.capture3.specs.Entry.{Begin, Close, End, Turn}
 use Rattle.capture3.specs.Examples.{bad_mtype, bad_mtype_cut, bad_mtype_mixed, bad_mtype_mixed_cut, call_answered_by_call, client_chunk, magic_1, magic_2, null_capture, null_entries, null_mixed, null_mixed_swapped, server_chunk, word_0, word_1, word_3}
 use Rattle.capture3.specs.Sides.{file_fault}
 use Rattle.capture3.specs.Reached.{Reached}
-use Rattle.capture3.proofs.BytesOf.{all_bytes, checked}
-use Rattle.capture3.proofs.EmittedEntries.{reached_by_machine}
+use Rattle.capture3.proofs.Lemmas.Container.BytesOf.{all_bytes, checked}
+use Rattle.capture3.proofs.Lemmas.Reached.EmittedEntries.{reached_by_machine}
 use Rattle.capture3.proofs.Examples as examples
-use Rattle.capture3.proofs.Verdicts.{typed_from_verdict, fault_from_verdict}
+use Rattle.capture3.proofs.Lemmas.Files.Verdicts.{typed_from_verdict, fault_from_verdict}
 use Rattle.capture3.proofs.laws.examples.Goals as goal
 
 pub returns-clause-null : goal.returns-clause-null

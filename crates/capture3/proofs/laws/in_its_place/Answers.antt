@@ -1,4 +1,4 @@
-use Rattle.capture3.proofs.Placed.{in_its_place}
+use Rattle.capture3.proofs.Lemmas.Files.Placed.{in_its_place}
 use Rattle.capture3.proofs.laws.in_its_place.Goals as goal
 
 pub returns : goal.returns

@@ -1,4 +1,4 @@
-use Rattle.capture3.proofs.JudgedInTurn.{is_judged_in_turn}
+use Rattle.capture3.proofs.Lemmas.Connections.JudgedInTurn.{is_judged_in_turn}
 use Rattle.capture3.proofs.laws.judged_in_turn.Goals as goal
 
 pub returns : goal.returns

@@ -1,5 +1,5 @@
-use Rattle.capture3.proofs.BodiesLemmas.{the_calls, the_replies}
-use Rattle.capture3.proofs.BodyProgramLemmas.{is_judged_once}
+use Rattle.capture3.proofs.Lemmas.Messages.BodiesLemmas.{the_calls, the_replies}
+use Rattle.capture3.proofs.Lemmas.Messages.BodyProgramLemmas.{is_judged_once}
 use Rattle.capture3.proofs.laws.judged_once.Goals as goal
 
 pub returns-clause-calls : goal.returns-clause-calls

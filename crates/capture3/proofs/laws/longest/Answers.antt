@@ -1,4 +1,4 @@
-use Rattle.capture3.proofs.Sizes.{capture_size, clean_size}
+use Rattle.capture3.proofs.Lemmas.Container.Sizes.{capture_size, clean_size}
 use Rattle.capture3.proofs.laws.longest.Goals as goal
 
 pub returns-clause-captures : goal.returns-clause-captures

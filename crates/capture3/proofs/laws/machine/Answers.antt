@@ -1,7 +1,7 @@
 use Rattle.std.proofs.Common.{sym, subst}
 use Rattle.capture3.specs.Reached.{Reached}
-use Rattle.capture3.proofs.Verdicts.{verdict_from_typed, typed_from_verdict, verdict_from_fault, fault_from_verdict}
-use Rattle.capture3.proofs.EmittedEntries.{machine_reaches, reached_by_machine}
+use Rattle.capture3.proofs.Lemmas.Files.Verdicts.{verdict_from_typed, typed_from_verdict, verdict_from_fault, fault_from_verdict}
+use Rattle.capture3.proofs.Lemmas.Reached.EmittedEntries.{machine_reaches, reached_by_machine}
 use Rattle.capture3.proofs.laws.machine.Goals as goal
 
 pub returns-clause-entries : goal.returns-clause-entries

@@ -1,5 +1,5 @@
-use Rattle.capture3.proofs.ReachedMore.{reached_within}
-use Rattle.capture3.proofs.Limits.{typed_within}
+use Rattle.capture3.proofs.Lemmas.Reached.ReachedMore.{reached_within}
+use Rattle.capture3.proofs.Lemmas.Reached.Limits.{typed_within}
 use Rattle.capture3.proofs.laws.within_limits.Goals as goal
 
 pub returns-clause-typed : goal.returns-clause-typed

@@ -1,7 +1,7 @@
 use Rattle.std.proofs.Common.{◌++◌, refl}
 use Rattle.std.proofs.lemmas.Result.{on_err_weaker}
-use Rattle.xdr3.proofs.Walks.{on_err}
-use Rattle.canon3.proofs.SinkWritesLemmas.{front_of_first, front_of_second}
+use Rattle.xdr3.proofs.Lemmas.Shapes.Walks.{on_err}
+use Rattle.canon3.proofs.Lemmas.Writing.SinkWritesLemmas.{front_of_first, front_of_second}
 use Rattle.listing3.proofs.line_writer.write_two.Goals as goal
 
 pub returns-clause-err : goal.returns-clause-err

@@ -10,8 +10,8 @@ use Rattle.masking3.specs.Examples.{list_from, getattrs_of_two}
 use Rattle.masking3.specs.Masked.{masked_values, values}
 use Rattle.masking3.specs.SameBut.{SameButValues}
 use Rattle.masking3.specs.Ways.{usual}
-use Rattle.masking3.proofs.ClassLemmas.{for_each}
-use Rattle.masking3.proofs.SameButLemmas.{HasFreeXid, same_but_from_same, same_from_same_but}
+use Rattle.masking3.proofs.Lemmas.Classes.ClassLemmas.{for_each}
+use Rattle.masking3.proofs.Lemmas.Masked.SameButLemmas.{HasFreeXid, same_but_from_same, same_from_same_but}
 use Rattle.masking3.proofs.examples.compared_runs.Goals as goal
 
 told_by : (a b : List Entry) → AllByRecursion HasFreeXid a → canonical (masked_values usual a) ≢ canonical (masked_values usual b) → SameButValues usual a b → ⊥

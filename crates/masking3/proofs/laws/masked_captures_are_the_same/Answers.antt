@@ -1,5 +1,5 @@
-use Rattle.masking3.proofs.FirstEntries.{bytes_decide, decided, same_but_from_all}
-use Rattle.masking3.proofs.MaskingMore.{all_kept_of_same, same_of_all_kept}
+use Rattle.masking3.proofs.Lemmas.Classes.FirstEntries.{bytes_decide, decided, same_but_from_all}
+use Rattle.masking3.proofs.Lemmas.Masked.MaskingMore.{all_kept_of_same, same_of_all_kept}
 use Rattle.masking3.proofs.laws.masked_captures_are_the_same.Goals as goal
 
 pub returns-clause-masked : goal.returns-clause-masked

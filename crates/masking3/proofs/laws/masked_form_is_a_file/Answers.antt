@@ -1,5 +1,5 @@
-use Rattle.masking3.proofs.FirstEntries.{masked_first}
-use Rattle.masking3.proofs.MaskedFiles.{masked_is_file}
+use Rattle.masking3.proofs.Lemmas.Classes.FirstEntries.{masked_first}
+use Rattle.masking3.proofs.Lemmas.Masked.MaskedFiles.{masked_is_file}
 use Rattle.masking3.proofs.laws.masked_form_is_a_file.Goals as goal
 
 pub returns-clause-whole : goal.returns-clause-whole

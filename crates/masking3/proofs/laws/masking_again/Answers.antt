@@ -1,5 +1,5 @@
-use Rattle.masking3.proofs.AgainLemmas.{again}
-use Rattle.masking3.proofs.FirstEntries.{room_of}
+use Rattle.masking3.proofs.Lemmas.Masked.AgainLemmas.{again}
+use Rattle.masking3.proofs.Lemmas.Classes.FirstEntries.{room_of}
 use Rattle.masking3.proofs.laws.masking_again.Goals as goal
 
 pub returns-clause-again : goal.returns-clause-again

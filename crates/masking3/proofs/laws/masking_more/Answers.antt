@@ -1,4 +1,4 @@
-use Rattle.masking3.proofs.MaskingMore.{same_but_more}
+use Rattle.masking3.proofs.Lemmas.Masked.MaskingMore.{same_but_more}
 use Rattle.masking3.proofs.laws.masking_more.Goals as goal
 
 pub returns : goal.returns

@@ -1,4 +1,4 @@
-use Rattle.masking3.proofs.AgainLemmas.{all_kept}
+use Rattle.masking3.proofs.Lemmas.Masked.AgainLemmas.{all_kept}
 use Rattle.masking3.proofs.laws.nothing_masked.Goals as goal
 
 pub returns : goal.returns

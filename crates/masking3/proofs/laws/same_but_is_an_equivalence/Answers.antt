@@ -1,4 +1,4 @@
-use Rattle.masking3.proofs.FirstEntries.{same_but_reflexive, same_but_symmetric, same_but_transitive}
+use Rattle.masking3.proofs.Lemmas.Classes.FirstEntries.{same_but_reflexive, same_but_symmetric, same_but_transitive}
 use Rattle.masking3.proofs.laws.same_but_is_an_equivalence.Goals as goal
 
 pub returns-clause-reflexive : goal.returns-clause-reflexive

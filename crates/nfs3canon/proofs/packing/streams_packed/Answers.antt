@@ -1,7 +1,7 @@
 use Rattle.std.proofs.Common.{◌≡◌, ◌∙◌, ◌*◌, ◌+◌, List, [], Some, String, Global, string_bytes, slice_index_or, take, ap, sym, subst, arith}
 use Rattle.std.proofs.lemmas.List.{take_more}
 use Rattle.capture3.specs.SidedChunks.{Streams}
-use Rattle.capture3.proofs.PassedOn.{error_is}
+use Rattle.capture3.proofs.Lemmas.Reader.PassedOn.{error_is}
 use Rattle.packing3.specs.Packing.{HasAdded}
 use Rattle.program3.proofs.FilesLemmas.{gave_prefix}
 use Rattle.nfs3canon.proofs.PackingLemmas.{name_at, pair_at, stops_at}

@@ -1,7 +1,7 @@
 use Rattle.std.proofs.Common.{rules, ap, sym, ◌≡◌, ◌∙◌, ◌≤◌, ◌+◌, ℕ, List, ◌++◌, length, take}
 use Rattle.std.proofs.lemmas.List.{take-append-le, length-take-le}
 use Rattle.std.proofs.Math.Seq.{take-append-add}
-use Rattle.capture3.proofs.ToldLemmas.{gave_both}
+use Rattle.capture3.proofs.Lemmas.Reader.ToldLemmas.{gave_both}
 use Rattle.packing3.proofs.block.fill.Goals as goal
 
 -- a front of what stands after the first bytes

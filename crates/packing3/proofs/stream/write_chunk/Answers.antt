@@ -1,7 +1,7 @@
 use Rattle.std.proofs.Common.{arith, take, ◌≤◌}
 use Rattle.std.proofs.lemmas.List.{length-take-le}
-use Rattle.capture3.proofs.PassedOn.{error_is}
-use Rattle.canon3.proofs.SinkWritesLemmas.{front_of_first, front_of_second}
+use Rattle.capture3.proofs.Lemmas.Reader.PassedOn.{error_is}
+use Rattle.canon3.proofs.Lemmas.Writing.SinkWritesLemmas.{front_of_first, front_of_second}
 use Rattle.xdr3.specs.Item.{word_bytes}
 use Rattle.std.proofs.Common.{refl, subst, ◌++◌}
 use Rattle.std.specs.Io.KnownBytes.{Appends}

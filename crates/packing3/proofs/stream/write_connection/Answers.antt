@@ -1,7 +1,7 @@
 use Rattle.std.proofs.Common.{refl, subst, ◌+◌}
 use Rattle.std.proofs.lemmas.Result.{IfErr-weaker, on_ok_weaker}
 use Rattle.std.specs.Io.KnownBytes.{Appends}
-use Rattle.capture3.proofs.PassedOn.{error_is}
+use Rattle.capture3.proofs.Lemmas.Reader.PassedOn.{error_is}
 use Rattle.canon3.specs.SinkWrites.{AppendsFront}
 use Rattle.packing3.specs.declared.stream.Extent.{Extent}
 use Rattle.packing3.proofs.Chunks.{one_word}

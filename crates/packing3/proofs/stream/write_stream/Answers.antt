@@ -1,6 +1,6 @@
 use Rattle.std.proofs.Common.{rules, arith, refl, subst, ◌≤◌, ◌<◌, ◌∙◌}
 use Rattle.std.specs.Io.KnownBytes.{Appends}
-use Rattle.capture3.proofs.PassedOn.{error_is}
+use Rattle.capture3.proofs.Lemmas.Reader.PassedOn.{error_is}
 use Rattle.canon3.specs.SinkWrites.{AppendsFront}
 use Rattle.packing3.specs.Packed.{full_size}
 use Rattle.packing3.proofs.Chunks.{more_full, one_word, stops_at_end, stops_in_chunk, whole_stream}

@@ -1,4 +1,4 @@
-use Rattle.xdr3.proofs.Layouts.{layout_is_decided}
+use Rattle.xdr3.proofs.Lemmas.Shapes.Layouts.{layout_is_decided}
 use Rattle.procs3.specs.Table.{arguments_of}
 use Rattle.procs3.proofs.laws.arguments_decided.Goals as goal
 

@@ -1,4 +1,4 @@
-use Rattle.xdr3.proofs.Layouts.{layout_is_decided}
+use Rattle.xdr3.proofs.Lemmas.Shapes.Layouts.{layout_is_decided}
 use Rattle.procs3.specs.Table.{results_of}
 use Rattle.procs3.proofs.laws.results_decided.Goals as goal
 

@@ -4,9 +4,9 @@ use Rattle.xdr3.specs.declared.reason.Reason.TheVariants.{WrongSide}
 use Rattle.xdr3.specs.declared.reason.Stop.{Stop}
 use Rattle.rpc_head.specs.Calls.{call_head_items}
 use Rattle.capture3.specs.BodyProgram.{judge_call}
-use Rattle.capture3.proofs.BodiesLemmas.{the_calls}
-use Rattle.capture3.proofs.BodySteps.{CallBegins, call_accepted, call_bad_arguments, call_bad_head, call_bad_start, call_trails, call_wrong_side, refusal_judged, whole_call}
-use Rattle.capture3.proofs.MessageScanLemmas.{error_stops, stop_stops}
+use Rattle.capture3.proofs.Lemmas.Messages.BodiesLemmas.{the_calls}
+use Rattle.capture3.proofs.Lemmas.Messages.BodySteps.{CallBegins, call_accepted, call_bad_arguments, call_bad_head, call_bad_start, call_trails, call_wrong_side, refusal_judged, whole_call}
+use Rattle.capture3.proofs.Lemmas.Messages.MessageScanLemmas.{error_stops, stop_stops}
 use Rattle.typed3.specs.declared.message.CallMsg.{CallMsg}
 use Rattle.typed3.specs.Items.{args_items}
 use Rattle.typed3.proofs.MessageLemmas.{call_head_told, no_call}

@@ -2,7 +2,7 @@ use Rattle.std.proofs.Common.{◌∙◌, ℕ, List, ap}
 use Rattle.std.specs.List.{flat_map}
 use Rattle.xdr3.specs.Visit.{Adds}
 use Rattle.capture3.specs.Entry.{items_of}
-use Rattle.capture3.proofs.PassedOn.{error_is}
+use Rattle.capture3.proofs.Lemmas.Reader.PassedOn.{error_is}
 use Rattle.uses.specs.Comparing.{handles_of_items}
 use Rattle.uses.proofs.ComparingLemmas.{items_after}
 use Rattle.uses.proofs.Reading.{all_returned, none_is, one_more, refused}

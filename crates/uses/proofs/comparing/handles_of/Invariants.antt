@@ -2,7 +2,7 @@ use Rattle.std.proofs.Common.{◌≡◌, None}
 use Rattle.std.specs.List.{flat_map}
 use Rattle.capture3.specs.Entries.{failure_of, source_of}
 use Rattle.capture3.specs.Entry.{items_of}
-use Rattle.capture3.specs.machinery.Entries.{entries_left}
+use Rattle.capture3.specs.machinery.EntriesHistory.{entries_left}
 use Rattle.uses.specs.Comparing.{handles_of_items}
 use Rattle.uses.proofs.Reading.{HasReturned}
 use Rattle.uses.proofs.comparing.handles_of.Given as goal

@@ -1,6 +1,6 @@
 use Rattle.std.proofs.Common.{ap, IsSome, ℕ, refl, sym, arith, subst, ◌∙◌}
 use Rattle.capture3.specs.Kept.{IsOfKind}
-use Rattle.capture3.proofs.PassedOn.{error_is}
+use Rattle.capture3.proofs.Lemmas.Reader.PassedOn.{error_is}
 use Rattle.uses.proofs.CountingLemmas.{differ, none_counted, one_counted}
 use Rattle.uses.proofs.Reading.{all_returned, none_is, one_more, refused}
 use Rattle.uses.proofs.counting.count_calls.Goals as goal

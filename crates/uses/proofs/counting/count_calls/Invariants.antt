@@ -1,6 +1,6 @@
 use Rattle.std.proofs.Common.{◌≡◌, ◌≤◌, ◌+◌, None, count_by}
 use Rattle.capture3.specs.Entries.{failure_of, source_of}
-use Rattle.capture3.specs.machinery.Entries.{entries_left}
+use Rattle.capture3.specs.machinery.EntriesHistory.{entries_left}
 use Rattle.capture3.specs.Laws.{most_entries}
 use Rattle.uses.specs.Counting.{is_call_of}
 use Rattle.uses.proofs.Reading.{HasReturned}

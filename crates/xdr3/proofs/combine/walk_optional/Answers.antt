@@ -1,6 +1,6 @@
 use Rattle.std.proofs.Common.{[], ◌∷◌}
 use Rattle.xdr3.specs.Item.{Word}
-use Rattle.xdr3.proofs.Walks.{on_err, some_second}
+use Rattle.xdr3.proofs.Lemmas.Shapes.Walks.{on_err, some_second}
 use Rattle.xdr3.proofs.combine.walk_optional.Goals as goal
 
 pub returns-in_err-walk-in-Some-clause-err : goal.returns-in_err-walk-in-Some-clause-err

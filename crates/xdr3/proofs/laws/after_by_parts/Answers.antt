@@ -1,4 +1,4 @@
-use Rattle.xdr3.proofs.Parts as lemmas
+use Rattle.xdr3.proofs.Lemmas.Shapes.Parts as lemmas
 use Rattle.xdr3.proofs.laws.after_by_parts.Goals as goal
 
 pub returns : goal.returns

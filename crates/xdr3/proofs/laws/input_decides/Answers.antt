@@ -1,4 +1,4 @@
-use Rattle.xdr3.proofs.Inputs as lemmas
+use Rattle.xdr3.proofs.Lemmas.Reading.Inputs as lemmas
 use Rattle.xdr3.proofs.laws.input_decides.Goals as goal
 
 pub returns : goal.returns

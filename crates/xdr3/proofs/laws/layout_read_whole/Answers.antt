@@ -1,4 +1,4 @@
-use Rattle.xdr3.proofs.Layouts.{read_to_the_end, reads_whole}
+use Rattle.xdr3.proofs.Lemmas.Shapes.Layouts.{read_to_the_end, reads_whole}
 use Rattle.xdr3.proofs.laws.layout_read_whole.Goals as goal
 
 pub returns-clause-relations : goal.returns-clause-relations

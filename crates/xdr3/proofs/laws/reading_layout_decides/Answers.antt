@@ -1,4 +1,4 @@
-use Rattle.xdr3.proofs.Layouts.{layout_decides}
+use Rattle.xdr3.proofs.Lemmas.Shapes.Layouts.{layout_decides}
 use Rattle.xdr3.proofs.laws.reading_layout_decides.Goals as goal
 
 pub returns : goal.returns

@@ -1,4 +1,4 @@
-use Rattle.xdr3.proofs.Within as lemmas
+use Rattle.xdr3.proofs.Lemmas.Reading.Within as lemmas
 use Rattle.xdr3.proofs.laws.spelled_within_limit.Goals as goal
 
 pub returns : goal.returns

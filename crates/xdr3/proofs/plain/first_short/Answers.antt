@@ -1,4 +1,4 @@
-use Rattle.xdr3.proofs.PlainLemmas.{before_next, before_stops}
+use Rattle.xdr3.proofs.Lemmas.Shapes.PlainLemmas.{before_next, before_stops}
 use Rattle.xdr3.proofs.plain.first_short.Goals as goal
 
 pub returns-then-left-width : goal.returns-then-left-width

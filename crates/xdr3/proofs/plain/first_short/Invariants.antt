@@ -1,4 +1,4 @@
-use Rattle.xdr3.proofs.PlainLemmas.{IsBefore}
+use Rattle.xdr3.proofs.Lemmas.Shapes.PlainLemmas.{IsBefore}
 use Rattle.xdr3.proofs.plain.first_short.Given as goal
 
 abbrev pub invariant-loop-field : goal.invariant-loop-field

@@ -1,6 +1,6 @@
 use Rattle.std.proofs.Common.{arith}
 use Rattle.std.proofs.lemmas.Result.{err_from_is_err_and}
-use Rattle.xdr3.proofs.CountedScanLemmas.{times_begin, times_count_stops, times_finish, times_next, times_part_stops, word_within}
+use Rattle.xdr3.proofs.Lemmas.Scans.CountedScanLemmas.{times_begin, times_count_stops, times_finish, times_next, times_part_stops, word_within}
 use Rattle.xdr3.proofs.scan.scan_counted.Goals as goal
 
 pub returns-in_err-count-clause-err : goal.returns-in_err-count-clause-err

@@ -1,4 +1,4 @@
-use Rattle.xdr3.proofs.CountedScanLemmas.{ScansTimes}
+use Rattle.xdr3.proofs.Lemmas.Scans.CountedScanLemmas.{ScansTimes}
 use Rattle.xdr3.proofs.scan.scan_counted.Given as goal
 
 abbrev pub invariant-parts : goal.invariant-parts

@@ -4,7 +4,7 @@ use Rattle.std.proofs.lemmas.Result.{err_from_is_err_and}
 use Rattle.xdr3.specs.declared.reason.Reason.TheVariants.{BadBool}
 use Rattle.xdr3.specs.Shape.{is_bool}
 use Rattle.xdr3.specs.Scan.{ScansWord}
-use Rattle.xdr3.proofs.LinkedScanLemmas.{links_finish, links_part_stops, links_word_stops, scans_move, word_moves}
+use Rattle.xdr3.proofs.Lemmas.Scans.LinkedScanLemmas.{links_finish, links_part_stops, links_word_stops, scans_move, word_moves}
 use Rattle.xdr3.proofs.scan.scan_linked.Goals as goal
 
 pub returns-in_err-scan_boolean-clause-err : goal.returns-in_err-scan_boolean-clause-err

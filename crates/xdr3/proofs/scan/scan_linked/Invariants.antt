@@ -1,5 +1,5 @@
 use Rattle.std.proofs.Common.{◌-◌, length}
-use Rattle.xdr3.proofs.LinkedScanLemmas.{ScansLinks}
+use Rattle.xdr3.proofs.Lemmas.Scans.LinkedScanLemmas.{ScansLinks}
 use Rattle.xdr3.proofs.scan.scan_linked.Given as goal
 
 abbrev pub invariant-links : goal.invariant-links

@@ -1,5 +1,5 @@
-use Rattle.xdr3.proofs.Decided.{shape_is_read}
-use Rattle.xdr3.proofs.Within.{given_within}
+use Rattle.xdr3.proofs.Lemmas.Reading.Decided.{shape_is_read}
+use Rattle.xdr3.proofs.Lemmas.Reading.Within.{given_within}
 use Rattle.xdr3.proofs.xdr.read.Goals as goal
 
 pub returns-clause-read : goal.returns-clause-read

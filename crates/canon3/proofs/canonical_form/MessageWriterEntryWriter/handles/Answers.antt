@@ -1,8 +1,8 @@
 use Rattle.std.proofs.Common.{ap, ◌∙◌, min}
 use Rattle.canon3.specs.machinery.MessageWriter.{values_of}
 use Rattle.canon3.specs.Rank.{number_limit}
-use Rattle.canon3.proofs.HandleTableLemmas.{distinct_held}
-use Rattle.canon3.proofs.Opening.{nothing_held}
+use Rattle.canon3.proofs.Lemmas.Numbers.HandleTableLemmas.{distinct_held}
+use Rattle.canon3.proofs.Lemmas.Writing.Opening.{nothing_held}
 use Rattle.canon3.proofs.canonical_form.MessageWriterEntryWriter.handles.Goals as goal
 
 pub returns : goal.returns

@@ -1,9 +1,9 @@
 use Rattle.std.proofs.Common.{[], subst, sym}
 use Rattle.capture3.specs.Entry.{items_of}
-use Rattle.capture3.proofs.PassedOn.{error_is}
+use Rattle.capture3.proofs.Lemmas.Reader.PassedOn.{error_is}
 use Rattle.canon3.specs.machinery.MessageWriter.{WriterStands, values_of}
-use Rattle.canon3.proofs.CanonicalFormLemmas.{cut_in_magic, written_or_cut}
-use Rattle.canon3.proofs.Visiting.{told_after-append}
+use Rattle.canon3.proofs.Lemmas.Canonical.CanonicalFormLemmas.{cut_in_magic, written_or_cut}
+use Rattle.canon3.proofs.Lemmas.Writing.Visiting.{told_after-append}
 use Rattle.canon3.proofs.canonical_form.MessageWriterEntryWriter.write.Goals as goal
 
 pub returns-clause-writes : goal.returns-clause-writes

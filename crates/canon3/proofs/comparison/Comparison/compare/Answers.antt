@@ -2,9 +2,9 @@ use Rattle.std.proofs.Common.{◌∙◌, ap₂, ap, subst, sym, [], ◌∷◌, �
 use Rattle.canon3.specs.machinery.MessageWriter.{values_of}
 use Rattle.canon3.specs.machinery.Spelling.{spelling_of}
 use Rattle.canon3.specs.Progress.{HasPassed}
-use Rattle.canon3.specs.machinery.Progress.{place_from}
-use Rattle.canon3.proofs.ComparisonLemmas.{agree_on, parts_here}
-use Rattle.canon3.proofs.ProgressLemmas.{after_more, side_same}
+use Rattle.canon3.specs.machinery.ProgressSteps.{place_from}
+use Rattle.canon3.proofs.Lemmas.Comparison.ComparisonLemmas.{agree_on, parts_here}
+use Rattle.canon3.proofs.Lemmas.Progress.ProgressLemmas.{after_more, side_same}
 use Rattle.canon3.proofs.comparison.Comparison.compare.Goals as goal
 
 pub returns-then-are_alike-clause-compares : goal.returns-then-are_alike-clause-compares

@@ -1,5 +1,5 @@
 use Rattle.std.proofs.Common.{Ok, subst}
-use Rattle.canon3.specs.machinery.Comparison.{StepsOn}
+use Rattle.canon3.specs.machinery.ComparisonSteps.{StepsOn}
 use Rattle.canon3.proofs.comparison.Comparison.find.Goals as goal
 
 pub returns-in-Some-clause-found : goal.returns-in-Some-clause-found

@@ -1,9 +1,9 @@
 use Rattle.std.proofs.Common.{◌≡◌, ◌≤◌, ◌+◌, None}
 use Rattle.capture3.specs.Told.{Told}
 use Rattle.capture3.specs.Entries.{failure_of, loan_of, source_of}
-use Rattle.capture3.specs.machinery.Entries.{entries_left}
+use Rattle.capture3.specs.machinery.EntriesHistory.{entries_left}
 use Rattle.capture3.specs.Laws.{most_entries}
-use Rattle.canon3.specs.machinery.Comparison.{IsComparing}
+use Rattle.canon3.specs.machinery.ComparisonSteps.{IsComparing}
 use Rattle.canon3.specs.Progress.{steps_of}
 use Rattle.canon3.proofs.comparison.Comparison.find.Given as goal
 

@@ -1,8 +1,8 @@
 use Rattle.std.proofs.Common.{Ok, Err, subst, sym}
 use Rattle.capture3.specs.Entry.{items_of}
-use Rattle.canon3.specs.machinery.Comparison.{Meets}
+use Rattle.canon3.specs.machinery.ComparisonSteps.{Meets}
 use Rattle.canon3.specs.machinery.MessageWriter.{WriterStands}
-use Rattle.canon3.proofs.ComparisonLemmas.{compared_meets, Hands, hands, not_ended, refused_meets, told_second, with_second}
+use Rattle.canon3.proofs.Lemmas.Comparison.ComparisonLemmas.{compared_meets, Hands, hands, not_ended, refused_meets, told_second, with_second}
 use Rattle.canon3.proofs.comparison.Comparison.meet.Goals as goal
 
 pub returns-in_ok-compare-in-Ok-Some-clause-meets : goal.returns-in_ok-compare-in-Ok-Some-clause-meets

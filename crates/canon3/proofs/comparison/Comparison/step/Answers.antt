@@ -2,7 +2,7 @@ use Rattle.std.proofs.Common.{Ok, Err, subst}
 use Rattle.capture3.specs.Entries.{source_of}
 use Rattle.capture3.specs.Entry.{items_of}
 use Rattle.canon3.specs.machinery.MessageWriter.{WriterStands}
-use Rattle.canon3.proofs.ComparisonLemmas.{first_stops, Hands, hands, stepped, told_first}
+use Rattle.canon3.proofs.Lemmas.Comparison.ComparisonLemmas.{first_stops, Hands, hands, stepped, told_first}
 use Rattle.canon3.proofs.comparison.Comparison.step.Goals as goal
 
 pub returns-in-Ok-Some-clause-steps : goal.returns-in-Ok-Some-clause-steps

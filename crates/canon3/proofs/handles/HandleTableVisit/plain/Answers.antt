@@ -1,6 +1,6 @@
 use Rattle.xdr3.specs.Plain.{run_items}
 use Rattle.xdr3.specs.Visit.{Adds}
-use Rattle.canon3.proofs.HandleTableLemmas.{gathers_none, none_in_run}
+use Rattle.canon3.proofs.Lemmas.Numbers.HandleTableLemmas.{gathers_none, none_in_run}
 use Rattle.canon3.proofs.handles.HandleTableVisit.plain.Goals as goal
 
 pub returns : goal.returns

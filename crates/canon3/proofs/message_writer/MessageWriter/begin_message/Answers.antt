@@ -1,5 +1,5 @@
 use Rattle.std.proofs.Common.{refl}
-use Rattle.canon3.proofs.Opening.{begins}
+use Rattle.canon3.proofs.Lemmas.Writing.Opening.{begins}
 use Rattle.canon3.proofs.message_writer.MessageWriter.begin_message.Goals as goal
 
 pub returns-clause-stands : goal.returns-clause-stands

@@ -1,6 +1,6 @@
 use Rattle.std.proofs.Common.{[], refl}
 use Rattle.canon3.specs.machinery.MessageWriter.{values_of}
-use Rattle.canon3.proofs.Opening.{begins}
+use Rattle.canon3.proofs.Lemmas.Writing.Opening.{begins}
 use Rattle.canon3.proofs.message_writer.MessageWriter.new.Goals as goal
 
 pub returns-clause-stands : goal.returns-clause-stands

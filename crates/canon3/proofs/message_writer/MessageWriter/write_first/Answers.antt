@@ -1,7 +1,7 @@
 use Rattle.std.proofs.Common.{◌≡◌, ◌∷◌}
 use Rattle.std.proofs.lemmas.Result.{on_ok_weaker}
 use Rattle.std.proofs.lemmas.List.{take_rest}
-use Rattle.canon3.proofs.Visiting.{adds_nothing, adds_number_run, adds_xid_run}
+use Rattle.canon3.proofs.Lemmas.Writing.Visiting.{adds_nothing, adds_number_run, adds_xid_run}
 use Rattle.canon3.proofs.message_writer.MessageWriter.write_first.Goals as goal
 
 pub returns-in_ok-write_xid-in-Word : goal.returns-in_ok-write_xid-in-Word

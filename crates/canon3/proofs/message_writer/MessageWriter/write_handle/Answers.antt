@@ -1,7 +1,7 @@
 use Rattle.std.proofs.Common.{◌≡◌, append-nil, length, refl, sym}
 use Rattle.std.proofs.lemmas.Result.{on_ok_weaker}
 use Rattle.xdr3.specs.Item.{word_bytes}
-use Rattle.canon3.proofs.Visiting.{adds_four, adds_handle}
+use Rattle.canon3.proofs.Lemmas.Writing.Visiting.{adds_four, adds_handle}
 use Rattle.canon3.proofs.message_writer.MessageWriter.write_handle.Goals as goal
 
 pub returns : goal.returns

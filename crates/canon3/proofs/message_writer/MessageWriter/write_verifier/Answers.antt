@@ -1,7 +1,7 @@
 use Rattle.std.proofs.Common.{◌∙◌, ap, ◌++◌, []}
 use Rattle.std.proofs.lemmas.Result.{on_ok_weaker}
 use Rattle.byteorder.specs.Endian.{big_bytes}
-use Rattle.canon3.proofs.Visiting.{adds_verifier}
+use Rattle.canon3.proofs.Lemmas.Writing.Visiting.{adds_verifier}
 use Rattle.canon3.proofs.message_writer.MessageWriter.write_verifier.Goals as goal
 
 pub returns : goal.returns

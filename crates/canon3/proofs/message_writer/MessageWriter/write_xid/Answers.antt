@@ -1,5 +1,5 @@
 use Rattle.std.proofs.lemmas.Result.{on_ok_weaker}
-use Rattle.canon3.proofs.Visiting.{adds_xid}
+use Rattle.canon3.proofs.Lemmas.Writing.Visiting.{adds_xid}
 use Rattle.canon3.proofs.message_writer.MessageWriter.write_xid.Goals as goal
 
 pub returns-clause-ok : goal.returns-clause-ok

@@ -1,6 +1,6 @@
 use Rattle.std.proofs.lemmas.Result.{on_err_weaker, on_ok_weaker}
 use Rattle.xdr3.specs.Item.{Fixed}
-use Rattle.canon3.proofs.Visiting.{adds_plain, keeps_writer}
+use Rattle.canon3.proofs.Lemmas.Writing.Visiting.{adds_plain, keeps_writer}
 use Rattle.canon3.proofs.message_writer.MessageWriterVisit.fixed.Goals as goal
 
 pub returns-clause-ok : goal.returns-clause-ok

@@ -3,7 +3,7 @@ use Rattle.std.proofs.lemmas.Result.{on_err_weaker, on_ok_weaker}
 use Rattle.xdr3.specs.Item.{Handle, Opaque}
 use Rattle.xdr3.specs.Visit.{Adds}
 use Rattle.canon3.specs.machinery.MessageWriter.{WriterStands}
-use Rattle.canon3.proofs.Visiting.{adds_empty_handle, is_none, keeps_writer, settled}
+use Rattle.canon3.proofs.Lemmas.Writing.Visiting.{adds_empty_handle, is_none, keeps_writer, settled}
 use Rattle.canon3.proofs.message_writer.MessageWriterVisit.handle.Goals as goal
 
 pub returns-then-is_empty-clause-ok : goal.returns-then-is_empty-clause-ok

@@ -2,7 +2,7 @@ use Rattle.std.proofs.lemmas.Result.{on_ok_weaker}
 use Rattle.xdr3.specs.Plain.{run_items}
 use Rattle.xdr3.specs.Visit.{Adds}
 use Rattle.canon3.specs.machinery.MessageWriter.{WriterStands}
-use Rattle.canon3.proofs.Visiting.{adds_run, after_xid, settled}
+use Rattle.canon3.proofs.Lemmas.Writing.Visiting.{adds_run, after_xid, settled}
 use Rattle.canon3.proofs.message_writer.MessageWriterVisit.plain.Goals as goal
 
 pub returns-in-Goes : goal.returns-in-Goes

@@ -3,7 +3,7 @@ use Rattle.std.proofs.lemmas.Result.{on_err_weaker, on_ok_weaker}
 use Rattle.xdr3.specs.Item.{Word}
 use Rattle.xdr3.specs.Visit.{Adds}
 use Rattle.canon3.specs.machinery.MessageWriter.{WriterStands}
-use Rattle.canon3.proofs.Visiting.{adds_word, after_xid, keeps_writer, settled}
+use Rattle.canon3.proofs.Lemmas.Writing.Visiting.{adds_word, after_xid, keeps_writer, settled}
 use Rattle.canon3.proofs.message_writer.MessageWriterVisit.word.Goals as goal
 
 pub returns-in-Begins-clause-ok : goal.returns-in-Begins-clause-ok

@@ -2,7 +2,7 @@ use Rattle.std.proofs.Common.{[], ◌∷◌}
 use Rattle.xdr3.specs.Item.{WriteVerf}
 use Rattle.xdr3.specs.Visit.{Adds}
 use Rattle.canon3.specs.machinery.MessageWriter.{WriterStands}
-use Rattle.canon3.proofs.Visiting.{settled}
+use Rattle.canon3.proofs.Lemmas.Writing.Visiting.{settled}
 use Rattle.canon3.proofs.message_writer.MessageWriterVisit.write_verf.Goals as goal
 
 pub returns-clause-ok : goal.returns-clause-ok

@@ -3,7 +3,7 @@ use Rattle.std.specs.List.{position_or_len}
 use Rattle.word_table.specs.Words.{value_of_word}
 use Rattle.canon3.specs.Rank.{number_limit}
 use Rattle.canon3.specs.machinery.XidNumbers.{AreNumbers}
-use Rattle.canon3.proofs.OtherXidsLemmas.{are_after_new, number_absent}
+use Rattle.canon3.proofs.Lemmas.Numbers.OtherXidsLemmas.{are_after_new, number_absent}
 use Rattle.canon3.proofs.other_xids.OtherXids.number_of.Goals as goal
 use Rattle.canon3.proofs.other_xids.OtherXids.number_of.Given.{Over}
 use Rattle.canon3.proofs.other_xids.OtherXids.number_of.Goals.{In_default}

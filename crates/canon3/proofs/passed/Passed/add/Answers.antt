@@ -1,7 +1,7 @@
 use Rattle.std.proofs.Common.{[], ◌∷◌, ◌++◌, ap, subst, sym, ◌∙◌, arith}
 use Rattle.canon3.specs.Progress.{HasPassed, steps_of}
-use Rattle.canon3.proofs.ProgressLemmas.{after_more}
-use Rattle.canon3.proofs.SummaryLemmas.{counts_once, passed_more}
+use Rattle.canon3.proofs.Lemmas.Progress.ProgressLemmas.{after_more}
+use Rattle.canon3.proofs.Lemmas.Progress.SummaryLemmas.{counts_once, passed_more}
 use Rattle.canon3.proofs.passed.Passed.add.Goals as goal
 
 pub returns-clause-few : goal.returns-clause-few

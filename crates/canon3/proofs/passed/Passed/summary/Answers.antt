@@ -1,5 +1,5 @@
 use Rattle.std.proofs.Common.{◌∙◌}
-use Rattle.canon3.proofs.SummaryLemmas.{connections_counted}
+use Rattle.canon3.proofs.Lemmas.Progress.SummaryLemmas.{connections_counted}
 use Rattle.canon3.proofs.passed.Passed.summary.Goals as goal
 
 pub returns : goal.returns

@@ -1,13 +1,13 @@
 use Rattle.std.proofs.Common.{List, Ok, [], ◌∷◌, ◌++◌, subst, sym}
-use Rattle.capture3.proofs.ToldLemmas.{gave_both}
+use Rattle.capture3.proofs.Lemmas.Reader.ToldLemmas.{gave_both}
 use Rattle.xdr3.specs.Item.{Item}
 use Rattle.xdr3.specs.Visit.{Adds}
 use Rattle.capture3.specs.Entries.{source_of}
-use Rattle.capture3.proofs.PassedOn.{error_is}
+use Rattle.capture3.proofs.Lemmas.Reader.PassedOn.{error_is}
 use Rattle.canon3.specs.machinery.WaitingHandles.{GathersAll}
-use Rattle.canon3.specs.machinery.Summary.{all_items}
+use Rattle.canon3.specs.machinery.Sums.{all_items}
 use Rattle.capture3.specs.Handing.{HandsOut}
-use Rattle.canon3.proofs.SummaryLemmas.{items_with_last}
+use Rattle.canon3.proofs.Lemmas.Progress.SummaryLemmas.{items_with_last}
 use Rattle.canon3.proofs.summary.Tally.add_next.Goals as goal
 
 pub returns-in-Some-clause-goes_on : goal.returns-in-Some-clause-goes_on

@@ -1,8 +1,8 @@
 use Rattle.std.proofs.Common.{List, ℕ, ap, length, min, ◌∙◌}
 use Rattle.std.specs.Prelude.{bytes_eq}
 use Rattle.canon3.specs.Rank.{distinct, number_limit}
-use Rattle.canon3.specs.machinery.Summary.{all_items}
-use Rattle.canon3.proofs.HandleTableLemmas.{handles_of_all}
+use Rattle.canon3.specs.machinery.Sums.{all_items}
+use Rattle.canon3.proofs.Lemmas.Numbers.HandleTableLemmas.{handles_of_all}
 use Rattle.canon3.proofs.summary.Tally.summary.Goals as goal
 
 pub returns : goal.returns

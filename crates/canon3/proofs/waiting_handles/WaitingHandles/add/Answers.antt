@@ -1,9 +1,9 @@
 use Rattle.std.proofs.Common.{◌≡◌, ◌++◌, List, Result, Ok, Err, OnErr, arith, drop, map, ap, sym, ◌∙◌}
-use Rattle.nfs3_types.specs.declared.handle.Handle as handles
+use Rattle.nfs3_types.specs.declared.values.handle.Handle as handles
 use Rattle.nfs3_types.specs.Handle.{handle_bytes}
 use Rattle.xdr3.specs.Visit.{Adds, Keeps}
 use Rattle.canon3.specs.machinery.WaitingHandles.{GathersAll}
-use Rattle.canon3.proofs.HandleTableLemmas.{waits_one}
+use Rattle.canon3.proofs.Lemmas.Numbers.HandleTableLemmas.{waits_one}
 use Rattle.canon3.proofs.waiting_handles.WaitingHandles.add.Goals as goal
 use Rattle.canon3.proofs.waiting_handles.WaitingHandles.add.Goals.{then-self-gt0+in_ok-look_up, else-self-gt0+else-len-ge-MOST_WAITING}
 

@@ -1,6 +1,6 @@
 use Rattle.std.proofs.Common.{ap, ◌∙◌, min}
 use Rattle.canon3.specs.Rank.{number_limit}
-use Rattle.canon3.proofs.HandleTableLemmas.{count_gathered}
+use Rattle.canon3.proofs.Lemmas.Numbers.HandleTableLemmas.{count_gathered}
 use Rattle.canon3.proofs.waiting_handles.WaitingHandles.count.Goals as goal
 
 pub returns : goal.returns

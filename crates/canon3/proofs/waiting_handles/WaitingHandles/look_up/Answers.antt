@@ -1,8 +1,8 @@
 use Rattle.std.proofs.Common.{List, [], ◌+◌, ◌++◌, ◌∷◌, append-nil, ap, arith, drop, ◌∙◌, map}
 use Rattle.xdr3.specs.Visit.{Keeps}
-use Rattle.nfs3_types.specs.declared.handle.Handle.{Handle}
+use Rattle.nfs3_types.specs.declared.values.handle.Handle.{Handle}
 use Rattle.nfs3_types.specs.Handle.{handle_bytes}
-use Rattle.canon3.proofs.HandleTableLemmas.{waits_looked_up, waits_no_more}
+use Rattle.canon3.proofs.Lemmas.Numbers.HandleTableLemmas.{waits_looked_up, waits_no_more}
 use Rattle.canon3.proofs.waiting_handles.WaitingHandles.look_up.Goals as goal
 
 pub loop-self-init : goal.loop-self-init

@@ -1,6 +1,6 @@
 use Rattle.xdr3.specs.Plain.{run_items}
 use Rattle.xdr3.specs.Visit.{Adds}
-use Rattle.canon3.proofs.HandleTableLemmas.{none_in_run, waits_none}
+use Rattle.canon3.proofs.Lemmas.Numbers.HandleTableLemmas.{none_in_run, waits_none}
 use Rattle.canon3.proofs.waiting_handles.WaitingHandlesVisit.plain.Goals as goal
 
 pub returns : goal.returns

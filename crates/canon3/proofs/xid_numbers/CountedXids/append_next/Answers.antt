@@ -1,7 +1,7 @@
 use Rattle.std.proofs.Common.{rules, ◌≡◌, ◌+◌, ◌++◌, ◌∷◌, [], List, ℕ, suc, ap, arith, ◌∙◌}
 use Rattle.std.proofs.lemmas.Grind.{common_steps}
 use Rattle.canon3.specs.machinery.XidNumbers.{counted_from, placed}
-use Rattle.canon3.proofs.XidNumbersLemmas.{counted_push, placed_twice}
+use Rattle.canon3.proofs.Lemmas.Numbers.XidNumbersLemmas.{counted_push, placed_twice}
 use Rattle.canon3.proofs.xid_numbers.CountedXids.append_next.Goals as goal
 
 pub returns-clause-next : goal.returns-clause-next

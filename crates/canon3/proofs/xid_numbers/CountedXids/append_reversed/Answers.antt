@@ -1,6 +1,6 @@
 use Rattle.std.proofs.Common.{◌≡◌, ◌++◌, ◌∷◌, [], List, ℕ, length, not, ap, arith, sym, ◌∙◌}
 use Rattle.canon3.specs.machinery.XidNumbers.{counted_from, placed}
-use Rattle.canon3.proofs.XidNumbersLemmas.{counted_length, placed_anew}
+use Rattle.canon3.proofs.Lemmas.Numbers.XidNumbersLemmas.{counted_length, placed_anew}
 use Rattle.canon3.proofs.xid_numbers.CountedXids.append_reversed.Goals as goal
 
 pub returns-clause-next : goal.returns-clause-next

@@ -1,5 +1,5 @@
 use Rattle.std.proofs.Common.{ap, length, sym, ◌∙◌}
-use Rattle.canon3.proofs.XidNumbersLemmas.{counted_length}
+use Rattle.canon3.proofs.Lemmas.Numbers.XidNumbersLemmas.{counted_length}
 use Rattle.canon3.proofs.xid_numbers.CountedXids.len.Goals as goal
 
 pub returns : goal.returns

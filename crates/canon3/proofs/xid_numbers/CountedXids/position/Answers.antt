@@ -1,7 +1,7 @@
 use Rattle.std.proofs.Common.{◌<◌, ◌≤◌, ◌+◌, ◌-◌, ◌⊎◌, inl, inr, nat_eq, ap, arith, sym, ◌∙◌}
 use Rattle.std.specs.List.{list_any, position_or_len}
 use Rattle.canon3.specs.machinery.XidNumbers.{placed}
-use Rattle.canon3.proofs.XidNumbersLemmas.{counted_absent, counted_place}
+use Rattle.canon3.proofs.Lemmas.Numbers.XidNumbersLemmas.{counted_absent, counted_place}
 use Rattle.canon3.proofs.xid_numbers.CountedXids.position.Goals as goal
 use Rattle.canon3.proofs.xid_numbers.CountedXids.position.Goals.{else-place-self-via-then-place-self+else-place-self-2, else-place-self-via-else-place-self}
 

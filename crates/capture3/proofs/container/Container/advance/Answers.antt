@@ -1,8 +1,8 @@
 use Rattle.std.proofs.Common.{sym, ◌∙◌, arith}
 use Rattle.std.proofs.lemmas.Grind.{common_steps}
 use Rattle.capture3.specs.machinery.Container.{unpacking_in}
-use Rattle.capture3.proofs.ContainerLemmas.{arrives_more, fails_more, goes_on_more, room_on, still_running, stored_on}
-use Rattle.capture3.proofs.PassedOn.{error_is}
+use Rattle.capture3.proofs.Lemmas.Container.ContainerLemmas.{arrives_more, fails_more, goes_on_more, room_on, still_running, stored_on}
+use Rattle.capture3.proofs.Lemmas.Reader.PassedOn.{error_is}
 use Rattle.capture3.proofs.container.Container.advance.Goals as goal
 
 pub returns-then-is_some-clause-machine : goal.returns-then-is_some-clause-machine

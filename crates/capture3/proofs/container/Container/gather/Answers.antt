@@ -1,5 +1,5 @@
 use Rattle.std.proofs.Common.{◌≡◌, ◌≤◌, length, take, length-take, arith}
-use Rattle.capture3.proofs.ContainerLemmas.{gathers}
+use Rattle.capture3.proofs.Lemmas.Container.ContainerLemmas.{gathers}
 use Rattle.capture3.proofs.container.Container.gather.Goals as goal
 
 pub returns-clause-machine : goal.returns-clause-machine

@@ -1,5 +1,5 @@
 use Rattle.std.proofs.Common.{◌≤◌, Err, ap, arith}
-use Rattle.capture3.proofs.ContainerLemmas.{join_goes_on, join_has_record, join_too_long}
+use Rattle.capture3.proofs.Lemmas.Container.ContainerLemmas.{join_goes_on, join_has_record, join_too_long}
 use Rattle.capture3.proofs.container.Container.join.Goals as goal
 
 pub returns-in-Ok-default-Record-clause-machine : goal.returns-in-Ok-default-Record-clause-machine

@@ -2,7 +2,7 @@ use Rattle.std.proofs.Common.{◌<◌, Some, sym, subst, arith}
 use Rattle.std.proofs.lemmas.Grind.{common_steps}
 use Rattle.record_mark.specs.Taking.{IsRunning}
 use Rattle.capture3.specs.machinery.Container.{AreStored}
-use Rattle.capture3.proofs.ContainerLemmas.{record_takes, stored_end}
+use Rattle.capture3.proofs.Lemmas.Container.ContainerLemmas.{record_takes, stored_end}
 use Rattle.capture3.proofs.container.Container.recall.Goals as goal
 
 pub returns-in-Ok-default-Record-clause-stored : goal.returns-in-Ok-default-Record-clause-stored

@@ -1,5 +1,5 @@
 use Rattle.capture3.specs.machinery.Container.{unpacking_in}
-use Rattle.capture3.proofs.ContainerLemmas.{moved_arrives, moved_fails}
+use Rattle.capture3.proofs.Lemmas.Container.ContainerLemmas.{moved_arrives, moved_fails}
 use Rattle.record_mark.specs.Taking.{joining_of}
 use Rattle.capture3.proofs.container.Container.step.Goals as goal
 

@@ -1,5 +1,5 @@
 use Rattle.std.proofs.Common.{◌≤◌, arith}
-use Rattle.capture3.proofs.ContainerLemmas.{join_has_record}
+use Rattle.capture3.proofs.Lemmas.Container.ContainerLemmas.{join_has_record}
 use Rattle.capture3.proofs.container.Container.take_whole.Goals as goal
 
 pub returns-clause-machine : goal.returns-clause-machine

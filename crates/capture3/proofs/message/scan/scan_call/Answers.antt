@@ -3,8 +3,8 @@ use Rattle.std.proofs.lemmas.Bool.{false≢true}
 use Rattle.xdr3.specs.declared.reason.Reason.TheVariants.{WrongSide}
 use Rattle.xdr3.specs.declared.reason.Stop.{Stop}
 use Rattle.capture3.specs.BodyProgram.{judge_call}
-use Rattle.capture3.proofs.BodySteps.{call_bad_start, call_trails, call_wrong_side, refusal_judged}
-use Rattle.capture3.proofs.MessageScanLemmas.{StartRead, arguments_stop, call_head_stops, call_scans, call_told, error_stops, stop_stops}
+use Rattle.capture3.proofs.Lemmas.Messages.BodySteps.{call_bad_start, call_trails, call_wrong_side, refusal_judged}
+use Rattle.capture3.proofs.Lemmas.Messages.MessageScanLemmas.{StartRead, arguments_stop, call_head_stops, call_scans, call_told, error_stops, stop_stops}
 use Rattle.capture3.proofs.message.scan.scan_call.Goals as goal
 
 pub returns-in_err-start-clause-err : goal.returns-in_err-start-clause-err

@@ -4,8 +4,8 @@ use Rattle.xdr3.specs.declared.reason.Reason.TheVariants.{NoCall, WrongSide}
 use Rattle.xdr3.specs.declared.reason.Stop.{Stop}
 use Rattle.capture3.specs.Bodies.{procedure_of}
 use Rattle.capture3.specs.BodyProgram.{judge_reply}
-use Rattle.capture3.proofs.BodySteps.{not_false, not_true, refusal_judged, reply_bad_start, reply_trails, reply_unasked, reply_wrong_side}
-use Rattle.capture3.proofs.MessageScanLemmas.{StartRead, error_stops, reply_head_stops, reply_scans, reply_told, results_stop, stop_stops}
+use Rattle.capture3.proofs.Lemmas.Messages.BodySteps.{not_false, not_true, refusal_judged, reply_bad_start, reply_trails, reply_unasked, reply_wrong_side}
+use Rattle.capture3.proofs.Lemmas.Messages.MessageScanLemmas.{StartRead, error_stops, reply_head_stops, reply_scans, reply_told, results_stop, stop_stops}
 use Rattle.capture3.proofs.message.scan.scan_reply.Goals as goal
 
 pub returns-in_err-start-clause-err : goal.returns-in_err-start-clause-err

@@ -2,9 +2,9 @@ use Rattle.std.proofs.Common.{Err, Option, arith, ap, subst, ◌≡◌, ◌∙�
 use Rattle.capture3.specs.Entry.{End}
 use Rattle.capture3.specs.declared.reader.entry.Kind.{Kind}
 use Rattle.capture3.specs.machinery.EntryParser.{entry_cost, SpellsLast}
-use Rattle.capture3.proofs.Limits.{typed_within}
-use Rattle.capture3.proofs.PassedOn.{error_is}
-use Rattle.capture3.proofs.WholeFiles.{begun_is, cut_at, first_fault, judged_all, kept_snoc, keeps_more, keeps_on, not_recalling, typed_at}
+use Rattle.capture3.proofs.Lemmas.Reached.Limits.{typed_within}
+use Rattle.capture3.proofs.Lemmas.Reader.PassedOn.{error_is}
+use Rattle.capture3.proofs.Lemmas.Reader.WholeFiles.{begun_is, cut_at, first_fault, judged_all, kept_snoc, keeps_more, keeps_on, not_recalling, typed_at}
 use Rattle.capture3.proofs.reader.whole.parse.Goals as goal
 
 pub loop-taken-preserved-in-Continue-branch-3 : goal.loop-taken-preserved-in-Continue-branch-3

@@ -1,6 +1,6 @@
 use Rattle.std.proofs.Common.{◌∙◌, arith}
 use Rattle.std.proofs.lemmas.Grind.{common_steps}
-use Rattle.xdr3.proofs.Walks.{on_err}
+use Rattle.xdr3.proofs.Lemmas.Shapes.Walks.{on_err}
 use Rattle.listing3.proofs.Rooms.{kept_below}
 use Rattle.listing3.proofs.line_text.LineText.append_quoted.Goals as goal
 

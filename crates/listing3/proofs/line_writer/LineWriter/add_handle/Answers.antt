@@ -3,8 +3,8 @@ use Rattle.std.proofs.lemmas.Result.{on_ok_weaker}
 use Rattle.hex.specs.Hex.{encode_lower}
 use Rattle.xdr3.specs.Item.{Handle, Opaque}
 use Rattle.xdr3.specs.Visit.{Adds, Keeps}
-use Rattle.xdr3.proofs.Walks.{on_err}
-use Rattle.canon3.proofs.Visiting.{settled}
+use Rattle.xdr3.proofs.Lemmas.Shapes.Walks.{on_err}
+use Rattle.canon3.proofs.Lemmas.Writing.Visiting.{settled}
 use Rattle.listing3.specs.machinery.LineWriter.{LineStands}
 use Rattle.listing3.specs.Listing.{opening}
 use Rattle.listing3.proofs.LineLemmas.{adds_both, keeps_same, keeps_text, settled_err}

@@ -3,10 +3,10 @@ use Rattle.std.specs.Prelude.{OnErr, OnOk}
 use Rattle.std.specs.Io.KnownBytes.{Appends}
 use Rattle.std.proofs.KnownBytes.{Appends-nil}
 use Rattle.xdr3.specs.Item.{Word}
-use Rattle.rpc_head.specs.declared.call.ProcId.{ProcId}
+use Rattle.rpc_head.specs.declared.values.call.ProcId.{ProcId}
 use Rattle.rpc_head.specs.Names.{head_names}
 use Rattle.capture3.specs.Entry.{Entry, items_of}
-use Rattle.canon3.specs.machinery.Summary.{all_items}
+use Rattle.canon3.specs.machinery.Sums.{all_items}
 use Rattle.canon3.specs.SinkWrites.{AppendsFront}
 use Rattle.listing3.specs.machinery.LineWriter.{after_front, LineStands}
 use Rattle.listing3.specs.Listing.{client, entry_line, line}

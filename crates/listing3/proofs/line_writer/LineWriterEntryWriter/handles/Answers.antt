@@ -2,8 +2,8 @@ use Rattle.std.proofs.Common.{List, ℕ, [], ap, append-nil, ◌∙◌, length, 
 use Rattle.std.specs.Prelude.{bytes_eq}
 use Rattle.canon3.specs.HandleTable.{Gathers}
 use Rattle.canon3.specs.Rank.{distinct, number_limit}
-use Rattle.canon3.specs.machinery.Summary.{all_items}
-use Rattle.canon3.proofs.HandleTableLemmas.{handles_of_all}
+use Rattle.canon3.specs.machinery.Sums.{all_items}
+use Rattle.canon3.proofs.Lemmas.Numbers.HandleTableLemmas.{handles_of_all}
 use Rattle.listing3.proofs.LineLemmas.{is_after}
 use Rattle.listing3.proofs.line_writer.LineWriterEntryWriter.handles.Goals as goal
 

@@ -2,8 +2,8 @@ use Rattle.std.proofs.Common.{List, [], ◌++◌, subst, sym}
 use Rattle.xdr3.specs.Item.{Item}
 use Rattle.capture3.specs.Entry.{items_of}
 use Rattle.canon3.specs.HandleTable.{Gathers}
-use Rattle.canon3.specs.machinery.Summary.{all_items}
-use Rattle.canon3.proofs.SummaryLemmas.{items_with_last}
+use Rattle.canon3.specs.machinery.Sums.{all_items}
+use Rattle.canon3.proofs.Lemmas.Progress.SummaryLemmas.{items_with_last}
 use Rattle.listing3.specs.machinery.LineWriter.{after_front, LineStands}
 use Rattle.listing3.proofs.LineLemmas.{after_front-append, is_after, listed_more}
 use Rattle.listing3.proofs.line_writer.LineWriterEntryWriter.write.Goals as goal

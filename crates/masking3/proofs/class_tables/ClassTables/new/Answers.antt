@@ -1,7 +1,7 @@
 use Rattle.std.proofs.Common.{◌≡◌, [], ◌∷◌}
 use Rattle.std.specs.Prelude.{get_or}
 use Rattle.masking3.specs.Classes.{position}
-use Rattle.masking3.proofs.ClassLemmas.{for_each}
+use Rattle.masking3.proofs.Lemmas.Classes.ClassLemmas.{for_each}
 use Rattle.masking3.proofs.class_tables.ClassTables.new.Goals as goal
 
 pub returns-clause-holds : goal.returns-clause-holds

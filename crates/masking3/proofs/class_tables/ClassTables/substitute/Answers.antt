@@ -1,6 +1,6 @@
 use Rattle.std.proofs.Common.{◌∙◌, sym, subst}
 use Rattle.masking3.specs.machinery.ClassTables.{HoldsValues, tables_in, with_one}
-use Rattle.masking3.proofs.ClassLemmas.{holds_numbered, holds_unnumbered, holds_without}
+use Rattle.masking3.proofs.Lemmas.Classes.ClassLemmas.{holds_numbered, holds_unnumbered, holds_without}
 use Rattle.masking3.proofs.class_tables.ClassTables.substitute.Goals as goal
 
 pub returns-in_default-clause-holds : goal.returns-in_default-clause-holds

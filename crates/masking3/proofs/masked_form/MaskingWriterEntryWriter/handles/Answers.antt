@@ -5,8 +5,8 @@ use Rattle.capture3.specs.declared.fault.Side.TheVariants.{Client}
 use Rattle.canon3.specs.HandleTable.{Gathers}
 use Rattle.canon3.specs.Rank.{distinct, number_limit}
 use Rattle.masking3.specs.machinery.MaskingWriter.{entry_as_call}
-use Rattle.masking3.proofs.SideLemmas.{begins_none, handles_before}
-use Rattle.masking3.proofs.WriterLemmas.{is_after}
+use Rattle.masking3.proofs.Lemmas.Classes.SideLemmas.{begins_none, handles_before}
+use Rattle.masking3.proofs.Lemmas.Writing.WriterLemmas.{is_after}
 use Rattle.masking3.proofs.masked_form.MaskingWriterEntryWriter.handles.Goals as goal
 
 pub returns : goal.returns

@@ -2,12 +2,12 @@ use Rattle.std.proofs.Common.{List, [], ap, subst, sym, ◌∙◌}
 use Rattle.std.specs.List.{flat_map}
 use Rattle.xdr3.specs.Item.{Item}
 use Rattle.capture3.specs.Entry.{items_of}
-use Rattle.capture3.proofs.PassedOn.{error_is}
+use Rattle.capture3.proofs.Lemmas.Reader.PassedOn.{error_is}
 use Rattle.masking3.specs.declared.ways.Ways.{Ways}
 use Rattle.masking3.specs.machinery.MaskingWriter.{after_messages, entry_as_call, MaskStands}
-use Rattle.masking3.proofs.FormLemmas.{all_written, cut_in_entry, cut_in_magic, entry_is, last_begins, nothing_more}
-use Rattle.masking3.proofs.SideLemmas.{before_with_last, entry_side}
-use Rattle.masking3.proofs.WriterLemmas.{after_messages-append, is_after}
+use Rattle.masking3.proofs.Lemmas.Writing.FormLemmas.{all_written, cut_in_entry, cut_in_magic, entry_is, last_begins, nothing_more}
+use Rattle.masking3.proofs.Lemmas.Classes.SideLemmas.{before_with_last, entry_side}
+use Rattle.masking3.proofs.Lemmas.Writing.WriterLemmas.{after_messages-append, is_after}
 use Rattle.masking3.specs.machinery.MaskingWriter.{written_as}
 use Rattle.masking3.proofs.masked_form.MaskingWriterEntryWriter.write.Goals as goal
 

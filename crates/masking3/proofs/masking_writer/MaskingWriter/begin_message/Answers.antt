@@ -1,4 +1,4 @@
-use Rattle.masking3.proofs.WriterLemmas.{begun}
+use Rattle.masking3.proofs.Lemmas.Writing.WriterLemmas.{begun}
 use Rattle.masking3.proofs.masking_writer.MaskingWriter.begin_message.Goals as goal
 
 pub returns-clause-stands : goal.returns-clause-stands

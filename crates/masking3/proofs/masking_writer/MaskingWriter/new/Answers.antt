@@ -1,6 +1,6 @@
 use Rattle.std.proofs.Common.{[], subst, ◌∙◌}
 use Rattle.masking3.specs.machinery.ClassTables.{HoldsValues, no_values, tables_in}
-use Rattle.masking3.proofs.WriterLemmas.{stands_after}
+use Rattle.masking3.proofs.Lemmas.Writing.WriterLemmas.{stands_after}
 use Rattle.masking3.proofs.masking_writer.MaskingWriter.new.Goals as goal
 
 pub returns-clause-stands : goal.returns-clause-stands

@@ -1,7 +1,7 @@
 use Rattle.std.proofs.Common.{refl}
 use Rattle.std.proofs.lemmas.Result.{on_ok_weaker}
 use Rattle.xdr3.specs.Item.{Handle, Opaque}
-use Rattle.masking3.proofs.WriterLemmas.{adds_handle}
+use Rattle.masking3.proofs.Lemmas.Writing.WriterLemmas.{adds_handle}
 use Rattle.masking3.proofs.masking_writer.MaskingWriter.write_handle.Goals as goal
 
 pub returns : goal.returns

@@ -3,7 +3,7 @@ use Rattle.std.specs.Prelude.{None, Some}
 use Rattle.std.proofs.lemmas.Result.{on_ok_weaker}
 use Rattle.byteorder.specs.Endian.{big_bytes}
 use Rattle.xdr3.specs.Item.{Fixed}
-use Rattle.masking3.proofs.WriterLemmas.{adds_of_class}
+use Rattle.masking3.proofs.Lemmas.Writing.WriterLemmas.{adds_of_class}
 use Rattle.masking3.proofs.masking_writer.MaskingWriter.write_masked_fixed.Goals as goal
 
 pub returns-in-Some : goal.returns-in-Some

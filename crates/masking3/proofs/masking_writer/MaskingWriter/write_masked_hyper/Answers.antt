@@ -2,7 +2,7 @@ use Rattle.std.proofs.Common.{refl, ap, sym, ◌∙◌}
 use Rattle.std.specs.Prelude.{None, Some}
 use Rattle.std.proofs.lemmas.Result.{on_ok_weaker}
 use Rattle.xdr3.specs.Item.{Hyper}
-use Rattle.masking3.proofs.WriterLemmas.{adds_of_class}
+use Rattle.masking3.proofs.Lemmas.Writing.WriterLemmas.{adds_of_class}
 use Rattle.masking3.proofs.masking_writer.MaskingWriter.write_masked_hyper.Goals as goal
 
 pub returns-in-Some : goal.returns-in-Some

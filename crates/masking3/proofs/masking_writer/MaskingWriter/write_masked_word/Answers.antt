@@ -4,8 +4,8 @@ use Rattle.std.proofs.lemmas.Result.{on_ok_weaker}
 use Rattle.xdr3.specs.Item.{Word}
 use Rattle.masking3.specs.Classes.{class_of_word}
 use Rattle.masking3.specs.machinery.MessageSide.{side_by_mtype}
-use Rattle.masking3.proofs.SideLemmas.{word_class}
-use Rattle.masking3.proofs.WriterLemmas.{adds_of_class}
+use Rattle.masking3.proofs.Lemmas.Classes.SideLemmas.{word_class}
+use Rattle.masking3.proofs.Lemmas.Writing.WriterLemmas.{adds_of_class}
 use Rattle.masking3.proofs.masking_writer.MaskingWriter.write_masked_word.Goals as goal
 
 pub returns-in-Some : goal.returns-in-Some

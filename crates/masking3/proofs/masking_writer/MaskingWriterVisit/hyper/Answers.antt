@@ -1,7 +1,7 @@
 use Rattle.std.proofs.Common.{[], ◌∷◌}
 use Rattle.xdr3.specs.Item.{Hyper}
 use Rattle.xdr3.specs.Visit.{Adds}
-use Rattle.canon3.proofs.Visiting.{settled}
+use Rattle.canon3.proofs.Lemmas.Writing.Visiting.{settled}
 use Rattle.masking3.specs.machinery.MaskingWriter.{MaskStands}
 use Rattle.masking3.proofs.masking_writer.MaskingWriterVisit.hyper.Goals as goal
 

@@ -1,7 +1,7 @@
 use Rattle.std.proofs.Common.{refl}
 use Rattle.std.proofs.lemmas.Result.{on_err_weaker, on_ok_weaker}
 use Rattle.xdr3.specs.Item.{WriteVerf}
-use Rattle.masking3.proofs.WriterLemmas.{adds_plain, keeps_spelled}
+use Rattle.masking3.proofs.Lemmas.Writing.WriterLemmas.{adds_plain, keeps_spelled}
 use Rattle.masking3.proofs.masking_writer.MaskingWriterVisit.write_verf.Goals as goal
 
 pub returns-clause-ok : goal.returns-clause-ok

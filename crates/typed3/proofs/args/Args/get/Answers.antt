@@ -1,5 +1,5 @@
-use Rattle.xdr3.proofs.Layouts.{layout_is_read}
-use Rattle.xdr3.proofs.Within.{layout_given_within}
+use Rattle.xdr3.proofs.Lemmas.Shapes.Layouts.{layout_is_read}
+use Rattle.xdr3.proofs.Lemmas.Reading.Within.{layout_given_within}
 use Rattle.typed3.specs.Items.{args_items}
 use Rattle.procs3.specs.Table.{arguments_of}
 use Rattle.typed3.proofs.args.Args.get.Goals as goal

@@ -1,4 +1,4 @@
-use Rattle.xdr3.proofs.Walks.{next_adds_some, on_err, steps_add}
+use Rattle.xdr3.proofs.Lemmas.Shapes.Walks.{next_adds_some, on_err, steps_add}
 use Rattle.nfs3_types.specs.Names.{names}
 use Rattle.typed3.proofs.directories.ReadDirOkWalk.walk.Goals as goal
 

@@ -1,4 +1,4 @@
-use Rattle.xdr3.proofs.Walks.{next_adds_some, next_within, on_err, steps_add}
+use Rattle.xdr3.proofs.Lemmas.Shapes.Walks.{next_adds_some, next_within, on_err, steps_add}
 use Rattle.nfs3_types.specs.Names.{names}
 use Rattle.typed3.proofs.file_system.PathConfOkWalk.walk.Goals as goal
 

@@ -1,6 +1,6 @@
 use Rattle.std.proofs.Common.{[], List, sym, subst}
 use Rattle.std.proofs.lemmas.List.{append-nil}
-use Rattle.xdr3.proofs.Walks.{steps_add}
+use Rattle.xdr3.proofs.Lemmas.Shapes.Walks.{steps_add}
 use Rattle.xdr3.specs.Item.{Item}
 use Rattle.xdr3.specs.Visit.{Adds}
 use Rattle.rpc_head.specs.Names.{head_names}

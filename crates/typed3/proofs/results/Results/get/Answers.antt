@@ -1,5 +1,5 @@
-use Rattle.xdr3.proofs.Layouts.{layout_is_read}
-use Rattle.xdr3.proofs.Within.{layout_given_within}
+use Rattle.xdr3.proofs.Lemmas.Shapes.Layouts.{layout_is_read}
+use Rattle.xdr3.proofs.Lemmas.Reading.Within.{layout_given_within}
 use Rattle.typed3.specs.Items.{results_items}
 use Rattle.procs3.specs.Table.{results_of}
 use Rattle.typed3.proofs.results.Results.get.Goals as goal

@@ -1,6 +1,6 @@
 use Rattle.std.proofs.Common.{◌∙◌, ap}
 use Rattle.std.proofs.lemmas.List.{take_rest}
-use Rattle.xdr3.proofs.PlainLemmas.{telling_ends, telling_next}
+use Rattle.xdr3.proofs.Lemmas.Shapes.PlainLemmas.{telling_ends, telling_next}
 use Rattle.xdr3.proofs.visit.Visit.plain.Goals as goal
 use Rattle.xdr3.proofs.visit.Visit.plain.Goals.{in-Word+in_ok-word-in-Word, in-Hyper+in_ok-hyper-in-Hyper}
 

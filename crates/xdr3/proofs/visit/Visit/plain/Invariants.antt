@@ -1,4 +1,4 @@
-use Rattle.xdr3.proofs.PlainLemmas.{IsTelling}
+use Rattle.xdr3.proofs.Lemmas.Shapes.PlainLemmas.{IsTelling}
 use Rattle.xdr3.proofs.visit.Visit.plain.Given as goal
 
 abbrev pub invariant-loop-field : goal.invariant-loop-field

@@ -1,7 +1,7 @@
 use Rattle.std.proofs.Common.{rules}
 use Rattle.std.proofs.lemmas.Result.{on_ok_weaker}
 use Rattle.xdr3.specs.Item.{AreBytes}
-use Rattle.xdr3.proofs.PlainLemmas.{run_written}
+use Rattle.xdr3.proofs.Lemmas.Shapes.PlainLemmas.{run_written}
 use Rattle.xdr3.proofs.writer.WriterVisit.plain.Goals as goal
 
 pub returns : goal.returns

@@ -1,7 +1,7 @@
 use Rattle.capture3.specs.machinery.Position.{AreEmpty, version_of}
 use Rattle.std.proofs.Common.{◌≡◌, ap, ◌∙◌, refl}
 use Rattle.record_mark.specs.Machine.{landed}
-use Rattle.capture3.proofs.PositionLemmas.{marked_one}
+use Rattle.capture3.proofs.Lemmas.Container.PositionLemmas.{marked_one}
 use Rattle.capture3.proofs.container.position.Position.after_mark.Goals as goal
 
 pub returns-in-1-clause-machine : goal.returns-in-1-clause-machine

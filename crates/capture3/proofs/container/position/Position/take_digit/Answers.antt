@@ -1,4 +1,4 @@
-use Rattle.capture3.proofs.PositionLemmas.{digit_one, digit_two}
+use Rattle.capture3.proofs.Lemmas.Container.PositionLemmas.{digit_one, digit_two}
 use Rattle.capture3.proofs.container.position.Position.take_digit.Goals as goal
 
 pub returns-in-49-clause-machine : goal.returns-in-49-clause-machine

@@ -2,7 +2,7 @@ use Rattle.std.proofs.Common.{◌≡◌, sym, ◌∙◌}
 use Rattle.record_mark.specs.Machine.{Ends}
 use Rattle.capture3.specs.machinery.Position.{unpacking_at}
 use Rattle.capture3.specs.machinery.ContainerMachine.{stream_ended, chunk_counted}
-use Rattle.capture3.proofs.PositionLemmas.{lands_moves, length_part, length_whole}
+use Rattle.capture3.proofs.Lemmas.Container.PositionLemmas.{lands_moves, length_part, length_whole}
 use Rattle.capture3.proofs.container.position.Position.take_length.Goals as goal
 
 pub returns-in-Part-clause-machine : goal.returns-in-Part-clause-machine

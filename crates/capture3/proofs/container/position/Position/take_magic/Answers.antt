@@ -1,5 +1,5 @@
 use Rattle.std.proofs.Common.{◌<◌, ◌+◌, length, arith}
-use Rattle.capture3.proofs.PositionLemmas.{agree_more, magic_fault}
+use Rattle.capture3.proofs.Lemmas.Container.PositionLemmas.{agree_more, magic_fault}
 use Rattle.capture3.proofs.container.position.Position.take_magic.Goals as goal
 
 pub loop-i-preserved : goal.loop-i-preserved

@@ -1,4 +1,4 @@
-use Rattle.capture3.proofs.PositionLemmas.{AgreeWithMagic}
+use Rattle.capture3.proofs.Lemmas.Container.PositionLemmas.{AgreeWithMagic}
 use Rattle.capture3.proofs.container.position.Position.take_magic.Given as goal
 
 abbrev pub invariant-loop-i : goal.invariant-loop-i

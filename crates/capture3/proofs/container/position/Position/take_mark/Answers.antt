@@ -1,6 +1,6 @@
 use Rattle.capture3.specs.machinery.Position.{unpacking_at, version_of}
 use Rattle.capture3.specs.machinery.ContainerMachine.{connection_marked}
-use Rattle.capture3.proofs.PositionLemmas.{lands_moves, mark_part, mark_whole}
+use Rattle.capture3.proofs.Lemmas.Container.PositionLemmas.{lands_moves, mark_part, mark_whole}
 use Rattle.capture3.proofs.container.position.Position.take_mark.Goals as goal
 
 pub returns-in-Part-clause-machine : goal.returns-in-Part-clause-machine

@@ -1,6 +1,6 @@
 use Rattle.capture3.specs.machinery.Position.{unpacking_at}
 use Rattle.capture3.specs.machinery.ContainerMachine.{sides_counted}
-use Rattle.capture3.proofs.PositionLemmas.{lands_moves, side_length_part, side_length_whole}
+use Rattle.capture3.proofs.Lemmas.Container.PositionLemmas.{lands_moves, side_length_part, side_length_whole}
 use Rattle.capture3.proofs.container.position.Position.take_side_length.Goals as goal
 
 pub returns-in-Part-clause-machine : goal.returns-in-Part-clause-machine

@@ -1,5 +1,5 @@
 use Rattle.std.proofs.Common.{refl, ap, sym, is_some}
-use Rattle.capture3.proofs.LineLemmas.{gains_known}
+use Rattle.capture3.proofs.Lemmas.Connections.LineLemmas.{gains_known}
 use Rattle.capture3.proofs.message.calls.CallListCallTable.admit.Goals as goal
 
 pub returns-in-Some-clause-added : goal.returns-in-Some-clause-added

@@ -1,12 +1,12 @@
 use Rattle.std.proofs.Common.{◌++◌, ◌∷◌, [], ap, sym, ◌∙◌, refl, is_some, Option, List, arith}
-use Rattle.rpc_head.specs.declared.call.ProcId.{ProcId}
+use Rattle.rpc_head.specs.declared.values.call.ProcId.{ProcId}
 use Rattle.capture3.specs.declared.message.calls.NumberedCall.{NumberedCall}
 use Rattle.capture3.specs.machinery.Calls.{found}
 use Rattle.capture3.specs.machinery.Counting.{home_of}
 use Rattle.capture3.specs.BodyProgram.{agrees}
-use Rattle.capture3.proofs.HashedCallsLemmas.{none_anywhere}
-use Rattle.capture3.proofs.LineLemmas.{found_before, gains_put, gains_known, lined_either, lined_push, puts_before, puts_push}
-use Rattle.capture3.proofs.OtherCallsLemmas.{eq-same}
+use Rattle.capture3.proofs.Lemmas.Connections.HashedCallsLemmas.{none_anywhere}
+use Rattle.capture3.proofs.Lemmas.Connections.LineLemmas.{found_before, gains_put, gains_known, lined_either, lined_push, puts_before, puts_push}
+use Rattle.capture3.proofs.Lemmas.Connections.OtherCallsLemmas.{eq-same}
 use Rattle.capture3.proofs.message.counted_calls.CountedCalls.admit.Goals as goal
 
 pub returns-in-Some-clause-agrees : goal.returns-in-Some-clause-agrees

@@ -1,11 +1,11 @@
 use Rattle.std.proofs.Common.{◌≡◌, ◌==◌, ◌++◌, if◌then◌else◌, ap, sym, ◌∙◌, Option, Some, None, List, arith}
 use Rattle.std.proofs.lemmas.Result.{IfOk-weaker}
-use Rattle.rpc_head.specs.declared.call.ProcId.{ProcId}
+use Rattle.rpc_head.specs.declared.values.call.ProcId.{ProcId}
 use Rattle.capture3.specs.declared.message.calls.NumberedCall.{NumberedCall}
 use Rattle.capture3.specs.machinery.Calls.{found, FindsSame, Puts}
 use Rattle.capture3.specs.BodyProgram.{agrees}
-use Rattle.capture3.proofs.HashedCallsLemmas.{none_anywhere}
-use Rattle.capture3.proofs.LineLemmas.{gains_put, gains_along, puts_before, same_before}
+use Rattle.capture3.proofs.Lemmas.Connections.HashedCallsLemmas.{none_anywhere}
+use Rattle.capture3.proofs.Lemmas.Connections.LineLemmas.{gains_put, gains_along, puts_before, same_before}
 use Rattle.capture3.proofs.message.counted_calls.CountedCalls.admit_aside.Goals as goal
 
 pub returns-then-branch-clause-agrees : goal.returns-then-branch-clause-agrees

@@ -1,11 +1,11 @@
 use Rattle.std.proofs.Math.Nat.{min-le_left, min-le_right}
 use Rattle.std.proofs.Common.{arith, ap, sym, ◌∙◌, IfOk, Option, Result, Ok, Err}
 use Rattle.std.proofs.lemmas.Result.{IfOk-weaker}
-use Rattle.rpc_head.specs.declared.call.ProcId.{ProcId}
+use Rattle.rpc_head.specs.declared.values.call.ProcId.{ProcId}
 use Rattle.capture3.specs.machinery.Counting.{home_of}
 use Rattle.capture3.specs.BodyProgram.{agrees}
-use Rattle.capture3.proofs.HashedCallsLemmas.{above_admitted, admitted}
-use Rattle.capture3.proofs.LineLemmas.{found_behind}
+use Rattle.capture3.proofs.Lemmas.Connections.HashedCallsLemmas.{above_admitted, admitted}
+use Rattle.capture3.proofs.Lemmas.Connections.LineLemmas.{found_behind}
 use Rattle.capture3.proofs.message.counted_calls.CountedCalls.admit_other.Goals as goal
 
 if_ok_both : {A E : Type 0} (r : Result A E) (P Q R : A → Type 0) → ((x : A) → P x → Q x → R x) → IfOk r P → IfOk r Q → IfOk r R

@@ -2,7 +2,7 @@ use Rattle.std.proofs.Common.{◌≡◌, sym, ◌∙◌, refl, Some, length}
 use Rattle.std.specs.List.{slice_get}
 use Rattle.std.proofs.lemmas.Option.{slice_get_read}
 use Rattle.capture3.specs.machinery.Counting.{home_of}
-use Rattle.capture3.proofs.LineLemmas.{is_apart, lined_set, puts_set}
+use Rattle.capture3.proofs.Lemmas.Connections.LineLemmas.{is_apart, lined_set, puts_set}
 use Rattle.capture3.proofs.message.counted_calls.CountedCalls.fill.Goals as goal
 
 pub invariant_of-self-clause-lined : goal.invariant_of-self-clause-lined

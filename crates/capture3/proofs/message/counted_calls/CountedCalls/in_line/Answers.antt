@@ -3,7 +3,7 @@ use Rattle.std.specs.List.{slice_get}
 use Rattle.std.proofs.lemmas.Option.{MatchOption-at_none, slice_get_past, slice_get_read}
 use Rattle.capture3.specs.declared.message.calls.NumberedCall.{NumberedCall}
 use Rattle.capture3.specs.machinery.Counting.{home_of}
-use Rattle.capture3.proofs.LineLemmas.{found_there, is_apart}
+use Rattle.capture3.proofs.Lemmas.Connections.LineLemmas.{found_there, is_apart}
 use Rattle.capture3.proofs.message.counted_calls.CountedCalls.in_line.Goals as goal
 
 -- the element that a slice lends, in the line

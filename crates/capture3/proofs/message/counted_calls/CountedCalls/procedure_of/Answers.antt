@@ -1,5 +1,5 @@
 use Rattle.std.proofs.Common.{sym, ◌∙◌}
-use Rattle.capture3.proofs.LineLemmas.{found_before, found_behind}
+use Rattle.capture3.proofs.Lemmas.Connections.LineLemmas.{found_before, found_behind}
 use Rattle.capture3.proofs.message.counted_calls.CountedCalls.procedure_of.Goals as goal
 
 pub returns-in-Some-clause-found : goal.returns-in-Some-clause-found

@@ -1,5 +1,5 @@
 use Rattle.std.proofs.Common.{arith}
-use Rattle.capture3.proofs.HashedCallsLemmas.{home-below}
+use Rattle.capture3.proofs.Lemmas.Connections.HashedCallsLemmas.{home-below}
 use Rattle.capture3.proofs.message.counted_calls.CountedCalls.start_with.Goals as goal
 
 pub invariant_of-self-clause-above : goal.invariant_of-self-clause-above

@@ -3,7 +3,7 @@ use Rattle.std.specs.List.{slice_get}
 use Rattle.capture3.specs.declared.message.calls.NumberedCall.{NumberedCall}
 use Rattle.capture3.specs.machinery.Calls.{found}
 use Rattle.capture3.specs.machinery.Counting.{home_of}
-use Rattle.capture3.proofs.LineLemmas.{lined_either, lined_widened, same_widened}
+use Rattle.capture3.proofs.Lemmas.Connections.LineLemmas.{lined_either, lined_widened, same_widened}
 use Rattle.capture3.proofs.message.counted_calls.CountedCalls.widen.Goals as goal
 
 pub invariant_of-self-clause-lined : goal.invariant_of-self-clause-lined

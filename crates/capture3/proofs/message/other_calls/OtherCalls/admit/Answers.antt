@@ -1,12 +1,12 @@
 use Rattle.std.proofs.Common.{◌≡◌, ◌==◌, ◌-◌, if◌then◌else◌, arith, ap, sym, ◌∙◌, refl, Option, Some, None, List}
 use Rattle.std.proofs.lemmas.List.{get_or_read}
 use Rattle.word_table.specs.Words.{value_of_word}
-use Rattle.rpc_head.specs.declared.call.ProcId.{ProcId}
+use Rattle.rpc_head.specs.declared.values.call.ProcId.{ProcId}
 use Rattle.capture3.specs.declared.message.calls.NumberedCall.{NumberedCall}
 use Rattle.capture3.specs.machinery.Calls.{found}
 use Rattle.capture3.specs.machinery.OtherCalls.{no_procedure, procedure_at}
 use Rattle.capture3.specs.BodyProgram.{agrees}
-use Rattle.capture3.proofs.OtherCallsLemmas.{found-kept, found-known, eq-same, others_admitted, puts_admitted}
+use Rattle.capture3.proofs.Lemmas.Connections.OtherCallsLemmas.{found-kept, found-known, eq-same, others_admitted, puts_admitted}
 use Rattle.capture3.proofs.message.other_calls.OtherCalls.admit.Goals as goal
 
 pub returns-in_err-code-clause-others : goal.returns-in_err-code-clause-others

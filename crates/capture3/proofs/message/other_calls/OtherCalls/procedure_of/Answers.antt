@@ -1,10 +1,10 @@
 use Rattle.std.proofs.Common.{◌-◌, arith, Some, None, List, ap, sym, ◌∙◌}
 use Rattle.std.proofs.lemmas.List.{get_or_read}
-use Rattle.rpc_head.specs.declared.call.ProcId.{ProcId}
+use Rattle.rpc_head.specs.declared.values.call.ProcId.{ProcId}
 use Rattle.capture3.specs.declared.message.calls.NumberedCall.{NumberedCall}
 use Rattle.capture3.specs.machinery.Calls.{found}
 use Rattle.capture3.specs.machinery.OtherCalls.{no_procedure}
-use Rattle.capture3.proofs.OtherCallsLemmas.{found-known}
+use Rattle.capture3.proofs.Lemmas.Connections.OtherCallsLemmas.{found-known}
 use Rattle.capture3.proofs.message.other_calls.OtherCalls.procedure_of.Goals as goal
 
 pub returns-in-Some : goal.returns-in-Some

@@ -1,5 +1,5 @@
 use Rattle.std.proofs.Common.{refl}
-use Rattle.capture3.proofs.EntriesLemmas.{cut_short, finished}
+use Rattle.capture3.proofs.Lemmas.Reader.EntriesLemmas.{cut_short, finished}
 use Rattle.capture3.proofs.reader.entries.Entries.finish.Goals as goal
 
 pub returns-in-Ok-clause-ok : goal.returns-in-Ok-clause-ok

@@ -1,6 +1,6 @@
 use Rattle.std.proofs.Common.{ap, arith, refl, subst, List, ℕ, ◌-◌, ◌+◌, ◌++◌, ◌≤◌, take, drop, slice_range, length, length-take}
 use Rattle.capture3.specs.machinery.EntryParser.{FailsAt, GoesTo}
-use Rattle.capture3.proofs.EntriesLemmas.{failed_not_write, judged_failed, judged_on, not_read, ready_joiner, sound_position, stored_container}
+use Rattle.capture3.proofs.Lemmas.Reader.EntriesLemmas.{failed_not_write, judged_failed, judged_on, not_read, ready_joiner, sound_position, stored_container}
 use Rattle.capture3.proofs.reader.entries.Entries.judge.Goals as goal
 
 pub next-requires-clause-sound : goal.next-requires-clause-sound

@@ -1,4 +1,4 @@
-use Rattle.capture3.proofs.EntriesLemmas.{answers, answers_again, answers_none}
+use Rattle.capture3.proofs.Lemmas.Reader.EntriesLemmas.{answers, answers_again, answers_none}
 use Rattle.capture3.proofs.reader.entries.Entries.next.Goals as goal
 
 pub returns-in-Over-clause-answers : goal.returns-in-Over-clause-answers

@@ -1,6 +1,6 @@
 use Rattle.std.proofs.Common.{arith, ◌∙◌, ap, subst, Err, Ok, Some}
-use Rattle.capture3.specs.machinery.Entries.{Turns}
-use Rattle.capture3.proofs.EntriesLemmas.{read_more, too_long, turned_more}
+use Rattle.capture3.specs.machinery.EntriesHistory.{Turns}
+use Rattle.capture3.proofs.Lemmas.Reader.EntriesLemmas.{read_more, too_long, turned_more}
 use Rattle.capture3.proofs.reader.entries.Entries.read_on.Goals as goal
 
 pub returns-in-Err-clause-turns : goal.returns-in-Err-clause-turns

@@ -1,7 +1,7 @@
 use Rattle.std.proofs.Common.{◌≡◌, ◌≤◌, ◌+◌, ◌-◌, List, ℕ}
 use Rattle.capture3.specs.declared.reader.entries.Stage.TheVariants.{Reading}
 use Rattle.capture3.specs.Entries.{block_size}
-use Rattle.capture3.specs.machinery.Entries.{entries_left, HasRead, StandsFor}
+use Rattle.capture3.specs.machinery.EntriesHistory.{entries_left, HasRead, StandsFor}
 use Rattle.capture3.specs.Entry.{Entry}
 use Rattle.capture3.specs.Capture.{Two}
 use Rattle.capture3.specs.Laws.{most_bytes}

@@ -1,7 +1,7 @@
 use Rattle.std.proofs.Common.{◌≡◌, ◌∙◌, ap, arith, length, length-take, refl, take, drop, take-append-drop, sym, vec_len}
 use Rattle.std.proofs.lemmas.List.{with_items_is}
-use Rattle.capture3.proofs.BytesOf.{split_bytes}
-use Rattle.capture3.proofs.EntriesLemmas.{front_range, has_failed, has_read}
+use Rattle.capture3.proofs.Lemmas.Container.BytesOf.{split_bytes}
+use Rattle.capture3.proofs.Lemmas.Reader.EntriesLemmas.{front_range, has_failed, has_read}
 use Rattle.capture3.proofs.reader.entries.Entries.refill.Goals as goal
 
 pub returns-in-Ok-clause-has_read : goal.returns-in-Ok-clause-has_read

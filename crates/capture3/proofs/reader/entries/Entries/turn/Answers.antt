@@ -1,8 +1,8 @@
 use Rattle.std.proofs.Common.{Ok, Some, subst, sym}
 use Rattle.capture3.specs.declared.reader.entry.Kind.TheVariants as kinds
-use Rattle.capture3.specs.machinery.Entries.{HasRead}
+use Rattle.capture3.specs.machinery.EntriesHistory.{HasRead}
 use Rattle.capture3.proofs.reader.entries.Entries.turn.Goals.{then-is_used_up+in-Ok-true, else-is_used_up}
-use Rattle.capture3.proofs.EntriesLemmas.{ended_on, nothing_read, turned}
+use Rattle.capture3.proofs.Lemmas.Reader.EntriesLemmas.{ended_on, nothing_read, turned}
 use Rattle.capture3.proofs.reader.entries.Entries.turn.Goals as goal
 
 pub returns-clause-turns : goal.returns-clause-turns

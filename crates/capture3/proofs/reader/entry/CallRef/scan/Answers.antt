@@ -1,7 +1,7 @@
 use Rattle.std.proofs.Common.{[]}
 use Rattle.std.proofs.Math.Logic.{∥∥₁_elim}
 use mathlib.Core.HLevel.{⊥_prop}
-use Rattle.capture3.proofs.SpelledLemmas.{call_never_stops}
+use Rattle.capture3.proofs.Lemmas.Messages.SpelledLemmas.{call_never_stops}
 use Rattle.capture3.proofs.reader.entry.CallRef.scan.Goals as goal
 
 pub unreachable-requires : goal.unreachable-requires

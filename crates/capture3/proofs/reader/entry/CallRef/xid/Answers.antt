@@ -1,6 +1,6 @@
 use Rattle.std.proofs.Math.Logic.{∥∥₁_elim}
 use mathlib.Core.HLevel.{⊥_prop}
-use Rattle.capture3.proofs.SpelledLemmas.{call_has_xid, call_start_is_whole}
+use Rattle.capture3.proofs.Lemmas.Messages.SpelledLemmas.{call_has_xid, call_start_is_whole}
 use Rattle.capture3.proofs.reader.entry.CallRef.xid.Goals as goal
 
 pub unreachable-requires : goal.unreachable-requires

@@ -1,9 +1,9 @@
 use Rattle.std.proofs.Common.{◌≡◌, [], ◌∷◌, nat_eq, refl, subst, ◌∙◌}
 use Rattle.std.proofs.Math.Logic.{∥∥₁_elim}
 use mathlib.Core.HLevel.{⊥_prop}
-use Rattle.rpc_head.specs.declared.call.ProcId.{ProcId}
+use Rattle.rpc_head.specs.declared.values.call.ProcId.{ProcId}
 use Rattle.capture3.specs.Bodies.{IsReply, xid_in}
-use Rattle.capture3.proofs.SpelledLemmas.{asking, only_one, reply_never_stops}
+use Rattle.capture3.proofs.Lemmas.Messages.SpelledLemmas.{asking, only_one, reply_never_stops}
 use Rattle.capture3.proofs.reader.entry.ReplyRef.scan.Goals as goal
 
 pub unreachable-requires : goal.unreachable-requires

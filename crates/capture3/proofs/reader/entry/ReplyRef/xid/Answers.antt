@@ -1,6 +1,6 @@
 use Rattle.std.proofs.Math.Logic.{∥∥₁_elim}
 use mathlib.Core.HLevel.{⊥_prop}
-use Rattle.capture3.proofs.SpelledLemmas.{reply_has_xid, reply_start_is_whole}
+use Rattle.capture3.proofs.Lemmas.Messages.SpelledLemmas.{reply_has_xid, reply_start_is_whole}
 use Rattle.capture3.proofs.reader.entry.ReplyRef.xid.Goals as goal
 
 pub unreachable-requires : goal.unreachable-requires

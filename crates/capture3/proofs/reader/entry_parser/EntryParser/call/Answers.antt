@@ -1,8 +1,8 @@
 use Rattle.std.proofs.Common.{ap, subst, sym, ◌∙◌, List, ℕ}
 use Rattle.capture3.specs.Bodies.{IsCall}
 use Rattle.capture3.specs.BodyProgram.{judge_call}
-use Rattle.capture3.proofs.EntryParserLemmas.{table_added, table_agrees}
-use Rattle.capture3.proofs.MessageScanLemmas.{call_agrees}
+use Rattle.capture3.proofs.Lemmas.Reader.EntryParserLemmas.{table_added, table_agrees}
+use Rattle.capture3.proofs.Lemmas.Messages.MessageScanLemmas.{call_agrees}
 use Rattle.capture3.proofs.reader.entry_parser.EntryParser.call.Goals as goal
 
 pub returns-then-branch-clause-ok : goal.returns-then-branch-clause-ok

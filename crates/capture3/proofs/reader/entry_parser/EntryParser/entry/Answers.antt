@@ -2,7 +2,7 @@ use Rattle.std.proofs.Common.{Some, subst}
 use Rattle.capture3.specs.declared.container.position.Event.{Event}
 use Rattle.capture3.specs.machinery.Container.{Leaves}
 use Rattle.capture3.specs.machinery.EntryParser.{MeetsEvent}
-use Rattle.capture3.proofs.EntryParserLemmas.{begin_goes, close_goes, turn_goes}
+use Rattle.capture3.proofs.Lemmas.Reader.EntryParserLemmas.{begin_goes, close_goes, turn_goes}
 use Rattle.capture3.proofs.reader.entry_parser.EntryParser.entry.Goals as goal
 
 pub returns-in-Begin-clause-machine : goal.returns-in-Begin-clause-machine

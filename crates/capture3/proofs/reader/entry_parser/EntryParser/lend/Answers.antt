@@ -1,6 +1,6 @@
 use Rattle.std.proofs.Common.{subst, sym, List, ℕ}
 use Rattle.capture3.specs.machinery.Spelled.{SpellsCall, SpellsReply}
-use Rattle.capture3.proofs.Lending.{call_spelled, call_whole, reply_spelled, reply_whole}
+use Rattle.capture3.proofs.Lemmas.Reader.Lending.{call_spelled, call_whole, reply_spelled, reply_whole}
 use Rattle.capture3.proofs.reader.entry_parser.EntryParser.lend.Goals as goal
 
 pub body-requires : goal.body-requires

@@ -2,7 +2,7 @@ use Rattle.std.proofs.Common.{subst, sym}
 use Rattle.record_mark.specs.Taking.{IsWhole, body_of}
 use Rattle.capture3.specs.declared.container.Container.{Container}
 use Rattle.capture3.specs.machinery.Spelled.{SpellsCall, SpellsReply}
-use Rattle.capture3.proofs.EntryParserLemmas.{call_fails_at, call_goes_at, reply_fails_at, reply_goes_at}
+use Rattle.capture3.proofs.Lemmas.Reader.EntryParserLemmas.{call_fails_at, call_goes_at, reply_fails_at, reply_goes_at}
 use Rattle.capture3.proofs.reader.entry_parser.EntryParser.message.Goals as goal
 
 pub returns-in-Ok-clause-machine : goal.returns-in-Ok-clause-machine

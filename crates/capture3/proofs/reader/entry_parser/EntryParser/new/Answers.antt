@@ -1,4 +1,4 @@
-use Rattle.capture3.proofs.EntryParserLemmas.{come_at_start}
+use Rattle.capture3.proofs.Lemmas.Reader.EntryParserLemmas.{come_at_start}
 use Rattle.capture3.proofs.reader.entry_parser.EntryParser.new.Goals as goal
 
 pub returns-clause-machine : goal.returns-clause-machine

@@ -1,5 +1,5 @@
 use Rattle.std.proofs.Common.{take}
-use Rattle.capture3.proofs.EntryParserLemmas.{comes_meets, comes_on, comes_to_fault, fails_longer, let_released, stored_still}
+use Rattle.capture3.proofs.Lemmas.Reader.EntryParserLemmas.{comes_meets, comes_on, comes_to_fault, fails_longer, let_released, stored_still}
 use Rattle.capture3.proofs.reader.entry_parser.EntryParser.next.Goals as goal
 
 pub returns-in-Ok-default-None-clause-machine : goal.returns-in-Ok-default-None-clause-machine

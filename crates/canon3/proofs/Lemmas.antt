@@ -1,0 +1,9 @@
+-- Lemmas, by what they are about.
+pub mod Renaming
+pub mod Numbers
+pub mod WellFormed
+pub mod Canonical
+pub mod Order
+pub mod Writing
+pub mod Comparison
+pub mod Progress

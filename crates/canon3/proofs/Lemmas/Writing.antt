@@ -1,0 +1,6 @@
+-- Writing entries and their messages.
+pub mod Opening
+pub mod Visiting
+pub mod SpellingLemmas
+pub mod EntryWriterLemmas
+pub mod SinkWritesLemmas

@@ -1,0 +1,92 @@
+-- A reader and a writer under way, and what each step of them does.
+use Rattle.std.specs.Prelude.{ℕ, ◌<◌, ◌^◌, Bool, true, false, Option, List, [], ◌∷◌, ◌++◌, length, Result, Ok, Err}
+use Rattle.capture3.specs.Told.{Gave, IsSpent, Told}
+use Rattle.std.specs.Io.KnownBytes.{Appends}
+use Rattle.std.specs.declared.hash.BuildHasher as BuildHasher
+use Rattle.std.specs.declared.hash.Hasher as Hasher
+use Rattle.xdr3.specs.Item.{Item}
+use Rattle.capture3.specs.declared.reader.entries.Entries.{Entries}
+use Rattle.capture3.specs.declared.fault.Error.{Error}
+use Rattle.capture3.specs.Entries.{source_of}
+use Rattle.capture3.specs.machinery.EntriesHistory.{StandsFor}
+use Rattle.capture3.specs.Entry.{Entry, items_of}
+use Rattle.capture3.specs.Typed.{Typed}
+use Rattle.canon3.specs.declared.passed.Passed.{Passed}
+use Rattle.capture3.specs.declared.reader.entry.Kind.{Kind}
+use Rattle.canon3.specs.Laws.{AreFirst}
+use Rattle.canon3.specs.Passed.{ArePassed}
+use Rattle.capture3.specs.Kept.{IsOfKind}
+use Rattle.canon3.specs.SinkWrites.{AppendsFront}
+use Rattle.canon3.specs.EntryWriter.{IsStoppedBy}
+
+-- a writer of a form, the items that stand for the entries that it wrote, and whether it can go on
+module _ {T : Type 0} (form : List Entry → List ℕ) (before : List Entry → List Item)
+    (stands : T → List Item → Type 0) (going : T → Type 0) where
+  -- the writer stands for these entries, which came, and their form was written
+  pub record HasWritten (writer : T) (passed : Passed) (old new : Option (List ℕ))
+      (entries : List Entry) : Type 0 where
+    pub goes : going writer
+    pub stands_for : stands writer (before entries)
+    pub came : ArePassed passed entries
+    pub written : Appends old new (form entries)
+
+  -- the same, or a front of it was written
+  abbrev pub HasMore : {X : Type 0} → T → Passed → (old new : Option (List ℕ)) → List Entry
+      → Result X Error → Type 0
+  HasMore writer passed old new entries (Ok x) = HasWritten writer passed old new entries
+  HasMore writer passed old new entries (Err error) = AppendsFront old new (form entries)
+
+  -- one entry more is written, and came, or it is cut
+  abbrev pub WritesMore : (was now : T) → (passed after : Passed) → Kind
+      → (between new : Option (List ℕ)) → {X : Type 0} → Result X Error → Type 0
+  WritesMore was now passed after kind between new result =
+      (old : Option (List ℕ)) (entries : List Entry) (one : Entry) → IsOfKind kind one
+      → AreFirst (entries ++ one ∷ []) → length (entries ++ one ∷ []) < 2 ^ 32
+      → ArePassed passed entries
+      → stands was (before entries ++ items_of one) → Appends old between (form entries)
+      → HasMore now after old new (entries ++ one ∷ []) result
+
+-- all bytes were read, and is a capture with these entries
+pub record IsEnded (first told : Told) (given : List ℕ) (entries : List Entry) : Type 0 where
+  pub consumed : Gave first told given
+  pub ended : IsSpent told
+  pub typed : Typed given entries
+
+-- a reader that hands out entries, from when the source told this first, and a writer to a sink,
+-- from when it had the old bytes
+module _ {T R S H : Type 0} {builds : BuildHasher.Ghosts S H} {hashes : Hasher.Ghosts H}
+    (form : List Entry → List ℕ) (before : List Entry → List Item) (stands : T → List Item → Type 0)
+    (going : T → Type 0) (told : R → Told) (first : Told) (old : Option (List ℕ)) where
+  -- what it handed out was written
+  pub record IsWriting (reader : Entries R S H builds hashes) (writer : T) (passed : Passed)
+      (new : Option (List ℕ)) : Type 0 where
+    pub given : List ℕ
+    pub handed : List Entry
+    pub consumed : Gave first (told (source_of reader)) given
+    pub reads : StandsFor told reader given handed
+    pub writes : HasWritten form before stands going writer passed old new handed
+
+  -- all bytes were a capture's, and the form of all its entries was written
+  pub record HasWrittenAll (reader : Entries R S H builds hashes) (writer : T) (passed : Passed)
+      (new : Option (List ℕ)) : Type 0 where
+    pub given : List ℕ
+    pub handed : List Entry
+    pub ended : IsEnded first (told (source_of reader)) given handed
+    pub writes : HasWritten form before stands going writer passed old new handed
+
+  pub record HasStopped (reader : Entries R S H builds hashes) (new : Option (List ℕ))
+      (error : Error) : Type 0 where
+    pub given : List ℕ
+    pub consumed : Gave first (told (source_of reader)) given
+    pub stopped : IsStoppedBy form error (told (source_of reader)) given old new
+
+  abbrev pub WritesOn : Entries R S H builds hashes → T → Passed → Option (List ℕ)
+      → Result Bool Error → Type 0
+  WritesOn reader writer passed new (Ok true) = IsWriting reader writer passed new
+  WritesOn reader writer passed new (Ok false) = HasWrittenAll reader writer passed new
+  WritesOn reader writer passed new (Err error) = HasStopped reader new error
+
+  abbrev pub WritesToTheEnd : {X : Type 0} → Entries R S H builds hashes → T → Passed
+      → Option (List ℕ) → Result X Error → Type 0
+  WritesToTheEnd reader writer passed new (Ok x) = HasWrittenAll reader writer passed new
+  WritesToTheEnd reader writer passed new (Err error) = HasStopped reader new error

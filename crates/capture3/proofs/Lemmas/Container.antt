@@ -1,0 +1,10 @@
+-- The container of both versions, and what of it a file tells.
+pub mod ContainerLemmas
+pub mod ContainerMachineLemmas
+pub mod PositionLemmas
+pub mod KeptStreamsLemmas
+pub mod SidedChunksMachineLemmas
+pub mod SidedChunksRules
+pub mod Sizes
+pub mod Told
+pub mod BytesOf

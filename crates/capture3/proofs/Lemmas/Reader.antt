@@ -1,0 +1,9 @@
+-- The readers `parse` and `Entries`, step by step.
+pub mod EntriesLemmas
+pub mod EntryParserLemmas
+pub mod FileStandingLemmas
+pub mod WholeEntries
+pub mod WholeFiles
+pub mod Lending
+pub mod PassedOn
+pub mod ToldLemmas

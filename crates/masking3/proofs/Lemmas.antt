@@ -1,0 +1,5 @@
+-- Lemmas, by what they are about.
+pub mod Classes
+pub mod Masked
+pub mod Unnamed
+pub mod Writing

@@ -1,0 +1,5 @@
+-- Classes of values, and the numbers of their values.
+pub mod ClassLemmas
+pub mod FewValues
+pub mod FirstEntries
+pub mod SideLemmas

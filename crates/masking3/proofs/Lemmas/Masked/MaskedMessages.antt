@@ -1,0 +1,352 @@
+-- Messages with masked values are messages of the same procedures, of the same length.
+use Rattle.std.proofs.Common.{◌≡◌, ℕ, ◌+◌, ◌<◌, ◌≤◌, ◌^◌, Bool, true, false, List, [], ◌∷◌, ◌++◌, length, map, refl, sym, ap, ap₂, ◌∙◌, subst, arith, length-append, append-nil}
+use Rattle.std.specs.Prelude.{IsTrue, nat_eq, if◌then◌else◌, Option, None, Some}
+use Rattle.std.specs.List.{AllByRecursion}
+use Rattle.std.proofs.lemmas.List.{length-map, map-append}
+use Rattle.byteorder.specs.Endian.{big_bytes}
+use Rattle.byteorder.specs.Numbers.{length-bytes_high_first}
+use Rattle.xdr3.specs.Item.{Item, Word, Hyper, Fixed, WriteVerf, Opaque, Rest, Var, Spells, SpellsItem, zero_spelling, zero_spelling_of}
+use Rattle.xdr3.specs.Shape.{Shape, ◌then◌, both, choose, counted, fixed, hyper, linked, listed, nothing, opaque, sized, word, write_verf, Fits, links}
+use Rattle.xdr3.specs.Layout.{Layout, exactly, rest, after, FitsLayout}
+use Rattle.xdr3.proofs.Lemmas.Shapes.ShapeParts.{HasParts, Part, parts_weaker, word_part, hyper_part, fixed_part, write_verf_part, rest_part, opaque_part, size_part}
+use Rattle.rpc_head.specs.declared.values.call.ProcId.{ProcId}
+use Rattle.rpc_head.specs.Messages.{has_results, procedure_in}
+use Rattle.rpc_head.specs.Names.{head_names}
+use Rattle.rpc_head.specs.Shapes.{accept, call_head, credential, deny, reply_head, verifier}
+use Rattle.nfs3_types.specs.Names.{names}
+use Rattle.procs3.specs.Table.{arguments_of, results_of}
+use Rattle.capture3.specs.declared.fault.Side.{Side}
+use Rattle.capture3.specs.declared.fault.Side.TheVariants.{Client, Server}
+use Rattle.capture3.specs.Bodies.{xid_in}
+use Rattle.capture3.specs.Chunks.{max_bytes}
+use Rattle.canon3.specs.Rank.{before, rank}
+use Rattle.canon3.proofs.Lemmas.WellFormed.Items.{IsEach, all_in_message, are_bytes_of_number, joined_mapped, links_mapped, zero_spelled_one}
+use Rattle.canon3.proofs.Lemmas.WellFormed.Messages.{FitsCall, FitsReply, call_next, headed_call_fits, headed_reply_fits, is_headed_call, is_headed_reply, reply_next}
+use Rattle.canon3.proofs.Lemmas.Numbers.RankLemmas.{by_test, cond_either, equivalence, length-with_keys}
+use Rattle.canon3.proofs.Lemmas.Renaming.RenamingLemmas.{all_mapped}
+use Rattle.std.proofs.lemmas.Bool.Decides.{Decides-eqb}
+use Rattle.masking3.specs.declared.class.Class.{Class}
+use Rattle.masking3.specs.declared.ways.Way.{Way}
+use Rattle.masking3.specs.declared.ways.Way.TheVariants.{Keep, Zero, Number}
+use Rattle.masking3.specs.declared.ways.Ways.{Ways}
+use Rattle.masking3.specs.Classes.{class_of_fixed, class_of_hyper, class_of_word, class_value}
+use Rattle.masking3.specs.Masked.{by_way, is_zero_that_stays, masked_item, masked_items, number_among, substitute, with_value}
+use Rattle.masking3.specs.Ways.{way_of}
+use Rattle.masking3.proofs.Lemmas.Masked.MaskedLemmas.{unmasked}
+use Rattle.masking3.proofs.Lemmas.Masked.MaskedShapes.{IsNotEight, RowTakesMasks, TakesMasks, TakesWord, arguments_take, call_head_takes, mtype_takes, reply_head_takes, reply_takes, xid_free}
+
+-- ---- numbers are small
+
+length-before : (x : ℕ) (l : List ℕ) → length (before nat_eq x l) ≤ length l
+length-before x [] = omega arith
+length-before x (y ∷ l) = cond_either (λ (k : List ℕ). length k ≤ length (y ∷ l)) (nat_eq x y) (omega arith) (omega (arith, length-before x l))
+
+rank_small : (x : ℕ) (l : List ℕ) → rank nat_eq x l ≤ 1 + length l
+rank_small x l = omega (arith, length-with_keys nat_eq (equivalence nat_eq Decides-eqb) (before nat_eq x l) [], length-before x l)
+
+module _ (ways : Ways) (seen : Class → List ℕ) (side : Side) where
+  abbrev pub under : List Item → List Item
+  under items = masked_items ways seen side items
+
+  -- ---- kinds and names stay
+
+  word_with : (name : List ℕ) (n : ℕ) (o : Option ℕ) → (m : ℕ) × (with_value (Word name n) o ≡ Word name m)
+  word_with name n None = (n, refl)
+  word_with name n (Some m) = (m, refl)
+
+  hyper_with : (name : List ℕ) (n : ℕ) (o : Option ℕ) → (m : ℕ) × (with_value (Hyper name n) o ≡ Hyper name m)
+  hyper_with name n None = (n, refl)
+  hyper_with name n (Some m) = (m, refl)
+
+  fixed_with : (name bytes : List ℕ) (o : Option ℕ) → (others : List ℕ) × (with_value (Fixed name bytes) o ≡ Fixed name others)
+  fixed_with name bytes None = (bytes, refl)
+  fixed_with name bytes (Some m) = (big_bytes 8 m, refl)
+
+  word_under : (name : List ℕ) (n : ℕ) → (m : ℕ) × (masked_item ways seen side (Word name n) ≡ Word name m)
+  word_under name n = word_with name n (substitute ways seen (class_of_word side name) n)
+
+  -- a word that is accepted becomes one that is, and chooses the same
+  chosen : (name : List ℕ) (accepted : ℕ → Bool) (next : ℕ → Shape) (o : Option Class) → class_of_word side name ≡ o → TakesWord o accepted next → (n : ℕ) → IsTrue (accepted n)
+      → (m : ℕ) × (masked_item ways seen side (Word name n) ≡ Word name m) × IsTrue (accepted m) × (next m ≡ next n)
+  chosen name accepted next None is takes n a = (n, unmasked ways seen side (Word name n) is, a, refl)
+  chosen name accepted next (Some d) is takes n a =
+      let w = word_under name n in (w.0, w.1, takes.0 w.0, takes.1 w.0 ∙ sym (takes.1 n))
+
+  -- ---- lengths stay
+
+  abbrev KeepsLength : Item → Type 0
+  KeepsLength i = length (zero_spelling_of (masked_item ways seen side i)) ≡ length (zero_spelling_of i)
+
+  word_length : (name : List ℕ) (n : ℕ) → KeepsLength (Word name n)
+  word_length name n =
+      let w = word_under name n in ap (λ i. length (zero_spelling_of i)) w.1 ∙ (length-bytes_high_first 4 w.0 ∙ sym (length-bytes_high_first 4 n))
+
+  hyper_length : (name : List ℕ) (n : ℕ) → KeepsLength (Hyper name n)
+  hyper_length name n =
+      let w = hyper_with name n (substitute ways seen (class_of_hyper name) n) in
+      ap (λ i. length (zero_spelling_of i)) w.1 ∙ (length-bytes_high_first 8 w.0 ∙ sym (length-bytes_high_first 8 n))
+
+  each_length : (part : Part) → IsNotEight part → IsEach KeepsLength part
+  each_length (word_part name reason) h = λ n. word_length name n
+  each_length (hyper_part name) h = λ n. hyper_length name n
+  each_length (fixed_part name) h = absurd h
+  each_length (write_verf_part name) h = λ bytes. refl
+  each_length (rest_part name) h = λ bytes. refl
+  each_length (opaque_part kind name max) h = λ bytes le. refl
+  each_length (size_part name s) h = λ n. word_length name n
+
+  all_lengths : (items : List Item) → AllByRecursion KeepsLength items → length (zero_spelling (under items)) ≡ length (zero_spelling items)
+  all_lengths [] h = refl
+  all_lengths (i ∷ items) h =
+      omega (arith, h.0, all_lengths items h.1, length-append (zero_spelling_of i) (zero_spelling items), length-append (zero_spelling_of (masked_item ways seen side i)) (zero_spelling (under items)))
+
+  fitting_lengths : (s : Shape) (items : List Item) → HasParts IsNotEight s → Fits s items → length (zero_spelling (under items)) ≡ length (zero_spelling items)
+  fitting_lengths s items h p =
+      all_lengths items (all_in_message KeepsLength s (λ front. exactly nothing) items (parts_weaker IsNotEight (IsEach KeepsLength) each_length s h) (λ front. tt) (items, [], p, refl, sym (append-nil items)))
+
+  -- ---- shapes stay
+
+  pub fits_under : (s : Shape) (items : List Item) → TakesMasks side s → Fits s items → Fits s (under items)
+  fits_under (choose name accepted reason next) items h p =
+      let c = chosen name accepted next (class_of_word side name) refl h.0 p.0 p.2 in
+      (c.0, under p.1, c.2, subst (λ s. Fits s (under p.1)) (sym c.3) (fits_under (next p.0) p.1 (h.1 p.0) p.3), ap under p.4 ∙ ap (λ (i : Item). i ∷ under p.1) c.1)
+  fits_under (hyper name) items h p =
+      let w = hyper_with name p.0 (substitute ways seen (class_of_hyper name) p.0) in (w.0, ap under p.1 ∙ ap (λ (i : Item). i ∷ []) w.1)
+  fits_under (fixed name) items h p =
+      let w = fixed_with name p.0 (substitute ways seen (class_of_fixed name) (class_value (Fixed name p.0))) in (w.0, ap under p.1 ∙ ap (λ (i : Item). i ∷ []) w.1)
+  fits_under (write_verf name) items h p = (p.0, ap under p.1)
+  fits_under (opaque kind name max) items h p = (p.0, p.1, ap under p.2)
+  fits_under nothing items h p = ap under p
+  fits_under (both a b) items h p =
+      (under p.0, under p.1, fits_under a p.0 h.0 p.2, fits_under b p.1 h.1 p.3, ap under p.4 ∙ map-append (masked_item ways seen side) p.0 p.1)
+  fits_under (linked name s) items h p = (
+    map under p.0,
+    all_mapped (Fits s) (Fits s) under (λ part. fits_under s part h.1) p.0 p.1,
+    ap under p.2 ∙ (map-append (masked_item ways seen side) (links name p.0) (Word name 0 ∷ [])
+        ∙ ap₂ (λ (l : List Item) (i : Item). l ++ i ∷ []) (links_mapped (masked_item ways seen side) name (unmasked ways seen side (Word name 1) h.0) p.0) (unmasked ways seen side (Word name 0) h.0)),
+  )
+  fits_under (counted name max s) items h p =
+      let size = length-map p.0 under in (
+        map under p.0,
+        all_mapped (Fits s) (Fits s) under (λ part. fits_under s part h.1) p.0 p.1,
+        omega (arith, p.2, size),
+        ap under p.3 ∙ ap₂ (λ (i : Item) (l : List Item). i ∷ l) (unmasked ways seen side (Word name (length p.0)) h.0 ∙ ap (Word name) (sym size)) (joined_mapped (masked_item ways seen side) p.0),
+      )
+  fits_under (sized name s) items h p =
+      let size = fitting_lengths s p.0 h.1 p.1 in (
+        under p.0,
+        fits_under s p.0 h.2 p.1,
+        omega (arith, p.2, size),
+        ap under p.3 ∙ ap (λ (i : Item). i ∷ under p.0) (unmasked ways seen side (Word name (length (zero_spelling p.0))) h.0 ∙ ap (Word name) (sym size)),
+      )
+
+  row_under : (layout : Layout) (items : List Item) → RowTakesMasks side layout → FitsLayout layout items → FitsLayout layout (under items)
+  row_under (exactly s) items h p = fits_under s items h p
+  row_under (rest name) items h p = (p.0, ap under p.1)
+  row_under (after s next) items h p = absurd h
+
+-- ---- the words that choose a layout
+
+pub first_word : (name : List ℕ) (s : Shape) (items : List Item) → Fits (both (word name) s) items → (n : ℕ) × (back : List Item) × Fits s back × (items ≡ Word name n ∷ back)
+first_word name s items p = (p.2.0, p.1, p.3, p.4 ∙ ap (λ (l : List Item). l ++ p.1) (p.2.4 ∙ ap (λ (l : List Item). Word name p.2.0 ∷ l) p.2.3))
+
+pub mtype_is : (types : List ℕ) (items : List Item) → Fits (listed head_names.mtype types) items → (n : ℕ) × (items ≡ Word head_names.mtype n ∷ [])
+mtype_is types items p = (p.0, p.4 ∙ ap (λ (l : List Item). Word head_names.mtype p.0 ∷ l) p.3)
+
+record CallWords (head : List Item) : Type 0 where
+  version : ℕ
+  prog : ℕ
+  vers : ℕ
+  proc : ℕ
+  back : List Item
+  is : head ≡ Word head_names.rpcvers version ∷ Word head_names.prog prog ∷ Word head_names.vers vers ∷ Word head_names.proc proc ∷ back
+
+four_words : (version prog vers proc : ℕ) (head a b c back : List Item) → head ≡ Word head_names.rpcvers version ∷ a → a ≡ Word head_names.prog prog ∷ b → b ≡ Word head_names.vers vers ∷ c → c ≡ Word head_names.proc proc ∷ back
+    → head ≡ Word head_names.rpcvers version ∷ Word head_names.prog prog ∷ Word head_names.vers vers ∷ Word head_names.proc proc ∷ back
+four_words version prog vers proc head a b c back e f g h = cc
+
+call_words : (head : List Item) → Fits call_head head → CallWords head
+unfolding call_head
+call_words head p =
+    let a = first_word head_names.prog (word head_names.vers then word head_names.proc then credential then verifier) p.1 p.3 in
+    let b = first_word head_names.vers (word head_names.proc then credential then verifier) a.1 a.2 in
+    let c = first_word head_names.proc (credential then verifier) b.1 b.2 in
+    record { version = p.0; prog = a.0; vers = b.0; proc = c.0; back = c.1; is = four_words p.0 a.0 b.0 c.0 head p.1 a.1 b.1 c.1 p.4 a.3 b.3 c.3 }
+
+-- the status of a reply's head, and where it is accepted the status after its verifier
+record ReplyWords (head : List Item) : Type 0 where
+  status : ℕ
+  back : List Item
+  is : head ≡ Word head_names.reply_stat status ∷ back
+  accepted : nat_eq status 0 ≡ true → (flavor stat : ℕ) × (body : List ℕ) × (last : List Item) × (back ≡ Word head_names.verf_flavor flavor ∷ Opaque Var head_names.verf_body body ∷ Word head_names.accept_stat stat ∷ last)
+
+accepted_words : (items : List Item) → Fits (verifier then accept) items → (flavor stat : ℕ) × (body : List ℕ) × (last : List Item) × (items ≡ Word head_names.verf_flavor flavor ∷ Opaque Var head_names.verf_body body ∷ Word head_names.accept_stat stat ∷ last)
+unfolding verifier accept
+accepted_words items p =
+    let v = p.2 in
+    let a = p.3 in
+    (v.0, a.0, v.3.0, a.1, p.4 ∙ ap₂ (λ (l m : List Item). l ++ m) (v.4 ∙ ap (λ (l : List Item). Word head_names.verf_flavor v.0 ∷ l) v.3.2) a.4)
+
+reply_words : (head : List Item) → Fits reply_head head → ReplyWords head
+unfolding reply_head
+reply_words head p = record {
+  status = p.0;
+  back = p.1;
+  is = p.4;
+  accepted = λ zero. accepted_words p.1 (subst (λ b. Fits (if b then (verifier then accept) else deny) p.1) zero p.3);
+}
+
+module _ (ways : Ways) (seen : Class → List ℕ) (side : Side) where
+  abbrev masks : List Item → List Item
+  masks items = under ways seen side items
+
+  procedure_of_words : (x version prog vers proc mtype : ℕ) (start head back : List Item) → start ≡ Word head_names.mtype mtype ∷ []
+      → head ≡ Word head_names.rpcvers version ∷ Word head_names.prog prog ∷ Word head_names.vers vers ∷ Word head_names.proc proc ∷ back
+      → procedure_in (Word head_names.xid x ∷ (masks start ++ masks head)) ≡ procedure_in (Word head_names.xid x ∷ (start ++ head))
+  unfolding names head_names
+  procedure_of_words x version prog vers proc mtype start head back e f = rw (e, f) refl
+
+  procedure_stays : (x : ℕ) (start head : List Item) → Fits (listed head_names.mtype (0 ∷ [])) start → Fits call_head head
+      → procedure_in (Word head_names.xid x ∷ (masks start ++ masks head)) ≡ procedure_in (Word head_names.xid x ∷ (start ++ head))
+  procedure_stays x start head p q =
+      let m = mtype_is (0 ∷ []) start p in
+      let w = call_words head q in
+      procedure_of_words x w.version w.prog w.vers w.proc m.0 start head w.back m.1 w.is
+
+  refused_results : (x status mtype : ℕ) (start head back : List Item) → nat_eq status 0 ≡ false → start ≡ Word head_names.mtype mtype ∷ [] → head ≡ Word head_names.reply_stat status ∷ back
+      → has_results (Word head_names.xid x ∷ (masks start ++ masks head)) ≡ has_results (Word head_names.xid x ∷ (start ++ head))
+  unfolding names head_names
+  refused_results x status mtype start head back z e f = rw (e, f) (rw z refl)
+
+  accepted_results : (x status mtype flavor stat : ℕ) (body : List ℕ) (start head back last : List Item) → start ≡ Word head_names.mtype mtype ∷ [] → head ≡ Word head_names.reply_stat status ∷ back
+      → back ≡ Word head_names.verf_flavor flavor ∷ Opaque Var head_names.verf_body body ∷ Word head_names.accept_stat stat ∷ last
+      → has_results (Word head_names.xid x ∷ (masks start ++ masks head)) ≡ has_results (Word head_names.xid x ∷ (start ++ head))
+  unfolding names head_names
+  accepted_results x status mtype flavor stat body start head back last e f g = rw (e, f, g) refl
+
+  results_stay : (x : ℕ) (start head : List Item) → Fits (listed head_names.mtype (1 ∷ [])) start → Fits reply_head head
+      → has_results (Word head_names.xid x ∷ (masks start ++ masks head)) ≡ has_results (Word head_names.xid x ∷ (start ++ head))
+  results_stay x start head p q =
+      let m = mtype_is (1 ∷ []) start p in
+      let w = reply_words head q in
+      by_test (nat_eq w.status 0)
+      (λ t. let a = w.accepted t in accepted_results x w.status m.0 a.0 a.1 a.2 start head w.back a.3 m.1 w.is a.4)
+      (λ f. refused_results x w.status m.0 start head w.back f m.1 w.is)
+
+  -- ---- a message, its xid and its procedure
+
+  message_is : (x : ℕ) (items start head back : List Item) → items ≡ Word head_names.xid x ∷ ((start ++ head) ++ back) → masks items ≡ Word head_names.xid x ∷ ((masks start ++ masks head) ++ masks back)
+  message_is x items start head back is =
+      ap masks is ∙ ap₂ (λ (i : Item) (l : List Item). i ∷ l) (unmasked ways seen side (Word head_names.xid x) (xid_free side))
+      (map-append (masked_item ways seen side) (start ++ head) back ∙ ap (λ (l : List Item). l ++ masks back) (map-append (masked_item ways seen side) start head))
+
+  xid_of_message : (x : ℕ) (items start head back : List Item) → items ≡ Word head_names.xid x ∷ ((start ++ head) ++ back) → xid_in (masks items) ≡ xid_in items
+  xid_of_message x items start head back is = ap xid_in (message_is x items start head back is) ∙ sym (ap xid_in is)
+
+  pub call_xid_under : (items : List Item) → FitsCall items → xid_in (masks items) ≡ xid_in items
+  call_xid_under items p = let h = is_headed_call items p in xid_of_message h.number items h.start h.head h.back h.is
+
+  pub reply_xid_under : (id : ProcId) (items : List Item) → FitsReply id items → xid_in (masks items) ≡ xid_in items
+  reply_xid_under id items p = let h = is_headed_reply id items p in xid_of_message h.number items h.start h.head h.back h.is
+
+  procedure_of_message : (x version prog vers proc mtype : ℕ) (items start head back last : List Item) → items ≡ Word head_names.xid x ∷ ((start ++ head) ++ last) → start ≡ Word head_names.mtype mtype ∷ []
+      → head ≡ Word head_names.rpcvers version ∷ Word head_names.prog prog ∷ Word head_names.vers vers ∷ Word head_names.proc proc ∷ back → procedure_in (masks items) ≡ procedure_in items
+  unfolding names head_names
+  procedure_of_message x version prog vers proc mtype items start head back last e f g = rw (e, f, g) refl
+
+  pub procedure_under : (items : List Item) → FitsCall items → procedure_in (masks items) ≡ procedure_in items
+  procedure_under items p =
+      let h = is_headed_call items p in
+      let m = mtype_is (0 ∷ []) h.start h.start_fits in
+      let w = call_words h.head h.head_fits in
+      procedure_of_message h.number w.version w.prog w.vers w.proc m.0 items h.start h.head w.back h.back h.is m.1 w.is
+
+  -- ---- spellings
+
+  spelled_length : (i : Item) (bytes : List ℕ) → SpellsItem i bytes → length (zero_spelling_of (masked_item ways seen side i)) ≡ length (zero_spelling_of i)
+  spelled_length (Word name n) bytes p = word_length ways seen side name n
+  spelled_length (Hyper name n) bytes p = hyper_length ways seen side name n
+  spelled_length (Fixed name b) bytes p = eight (substitute ways seen (class_of_fixed name) (class_value (Fixed name b)))
+    where
+      eight : (o : Option ℕ) → length (zero_spelling_of (with_value (Fixed name b) o)) ≡ length b
+      eight None = refl
+      eight (Some m) = length-bytes_high_first 8 m ∙ sym p.0
+  spelled_length (WriteVerf name b) bytes p = refl
+  spelled_length (Opaque kind name b) bytes p = refl
+  spelled_length (Rest name b) bytes p = refl
+
+  pub message_length : (items : List Item) (bytes : List ℕ) → Spells items bytes → length (zero_spelling (masks items)) ≡ length (zero_spelling items)
+  message_length [] bytes p = refl
+  message_length (i ∷ items) bytes p =
+      omega (arith, spelled_length i p.0 p.2, message_length items p.1 p.3, length-append (zero_spelling_of i) (zero_spelling items), length-append (zero_spelling_of (masked_item ways seen side i)) (zero_spelling (masks items)))
+
+  module _ (few : (d : Class) → length (seen d) ≤ max_bytes) where
+    number_small : (d : Class) (n : ℕ) → number_among (seen d) d n < 2 ^ 32
+    number_small d n = cond_either (λ (m : ℕ). m < 2 ^ 32) (is_zero_that_stays d n) (omega arith) (let low = few d in omega (arith, rank_small n (seen d)))
+
+    way_small : (w : Way) (d : Class) (n m : ℕ) → by_way w (seen d) d n ≡ Some m → m < 2 ^ 32
+    way_small Keep d n m e = absurd cc
+    way_small Zero d n m e = let is : 0 ≡ m = cc in omega arith
+    way_small Number d n m e = let is : number_among (seen d) d n ≡ m = cc in subst (λ k. k < 2 ^ 32) is (number_small d n)
+
+    substitute_small : (o : Option Class) (n m : ℕ) → substitute ways seen o n ≡ Some m → m < 2 ^ 32
+    substitute_small None n m e = absurd cc
+    substitute_small (Some d) n m e = way_small (way_of ways d) d n m e
+
+    word_spelled : (name : List ℕ) (n : ℕ) (o : Option ℕ) → ((m : ℕ) → o ≡ Some m → m < 2 ^ 32) → n < 2 ^ 32 → SpellsItem (with_value (Word name n) o) (zero_spelling_of (with_value (Word name n) o))
+    word_spelled name n None low p = (p, refl)
+    word_spelled name n (Some m) low p = (low m refl, refl)
+
+    hyper_spelled : (name : List ℕ) (n : ℕ) (o : Option ℕ) → ((m : ℕ) → o ≡ Some m → m < 2 ^ 32) → n < 2 ^ 64 → SpellsItem (with_value (Hyper name n) o) (zero_spelling_of (with_value (Hyper name n) o))
+    hyper_spelled name n None low p = (p, refl)
+    hyper_spelled name n (Some m) low p = let small = low m refl in (omega arith, refl)
+
+    fixed_spelled : (name b bytes : List ℕ) (o : Option ℕ) → SpellsItem (Fixed name b) bytes → SpellsItem (with_value (Fixed name b) o) (zero_spelling_of (with_value (Fixed name b) o))
+    fixed_spelled name b bytes None p = (p.0, p.1, refl)
+    fixed_spelled name b bytes (Some m) p = (length-bytes_high_first 8 m, are_bytes_of_number 8 m, refl)
+
+    item_spelled : (i : Item) (bytes : List ℕ) → SpellsItem i bytes → SpellsItem (masked_item ways seen side i) (zero_spelling_of (masked_item ways seen side i))
+    item_spelled (Word name n) bytes p = word_spelled name n (substitute ways seen (class_of_word side name) n) (substitute_small (class_of_word side name) n) p.0
+    item_spelled (Hyper name n) bytes p = hyper_spelled name n (substitute ways seen (class_of_hyper name) n) (substitute_small (class_of_hyper name) n) p.0
+    item_spelled (Fixed name b) bytes p = fixed_spelled name b bytes (substitute ways seen (class_of_fixed name) (class_value (Fixed name b))) p
+    item_spelled (WriteVerf name b) bytes p = zero_spelled_one (WriteVerf name b) bytes p
+    item_spelled (Opaque kind name b) bytes p = zero_spelled_one (Opaque kind name b) bytes p
+    item_spelled (Rest name b) bytes p = zero_spelled_one (Rest name b) bytes p
+
+    pub message_spelled : (items : List Item) (bytes : List ℕ) → Spells items bytes → Spells (masks items) (zero_spelling (masks items))
+    message_spelled [] bytes p = refl
+    message_spelled (i ∷ items) bytes p =
+        (zero_spelling_of (masked_item ways seen side i), zero_spelling (masks items), item_spelled i p.0 p.2, message_spelled items p.1 p.3, refl)
+
+-- ---- calls and replies
+
+module _ (ways : Ways) (seen : Class → List ℕ) where
+  pub call_under : (items : List Item) → FitsCall items → FitsCall (under ways seen Client items)
+  call_under items p =
+      let h = is_headed_call items p in
+      headed_call_fits (under ways seen Client items) (record {
+        number = h.number;
+        start = under ways seen Client h.start;
+        head = under ways seen Client h.head;
+        back = under ways seen Client h.back;
+        start_fits = fits_under ways seen Client (listed head_names.mtype (0 ∷ [])) h.start (mtype_takes Client (0 ∷ [])) h.start_fits;
+        head_fits = fits_under ways seen Client call_head h.head call_head_takes h.head_fits;
+        back_fits = subst (λ id. FitsLayout (arguments_of id) (under ways seen Client h.back)) (sym (procedure_stays ways seen Client h.number h.start h.head h.start_fits h.head_fits))
+            (row_under ways seen Client (call_next (Word head_names.xid h.number ∷ (h.start ++ h.head))) h.back (arguments_take Client (procedure_in (Word head_names.xid h.number ∷ (h.start ++ h.head)))) h.back_fits);
+        is = message_is ways seen Client h.number items h.start h.head h.back h.is;
+      })
+
+  pub reply_under : (id : ProcId) (items : List Item) → FitsReply id items → FitsReply id (under ways seen Server items)
+  reply_under id items p =
+      let h = is_headed_reply id items p in
+      headed_reply_fits id (under ways seen Server items) (record {
+        number = h.number;
+        start = under ways seen Server h.start;
+        head = under ways seen Server h.head;
+        back = under ways seen Server h.back;
+        start_fits = fits_under ways seen Server (listed head_names.mtype (1 ∷ [])) h.start (mtype_takes Server (1 ∷ [])) h.start_fits;
+        head_fits = fits_under ways seen Server reply_head h.head (reply_head_takes Server) h.head_fits;
+        back_fits = subst (λ b. FitsLayout (if b then results_of id else exactly nothing) (under ways seen Server h.back)) (sym (results_stay ways seen Server h.number h.start h.head h.start_fits h.head_fits))
+            (row_under ways seen Server (reply_next id (Word head_names.xid h.number ∷ (h.start ++ h.head))) h.back (reply_takes id (Word head_names.xid h.number ∷ (h.start ++ h.head))) h.back_fits);
+        is = message_is ways seen Server h.number items h.start h.head h.back h.is;
+      })

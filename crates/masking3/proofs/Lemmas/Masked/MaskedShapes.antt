@@ -1,0 +1,270 @@
+-- Each shape of the protocol takes masked values: a word of a class takes any value, and chooses nothing.
+use Rattle.std.proofs.Common.{◌≡◌, ℕ, Bool, true, false, List, refl}
+use Rattle.std.specs.Prelude.{⊤, ◌||◌, IsTrue, nat_eq, if◌then◌else◌, Option, None, Some}
+use Rattle.xdr3.specs.Item.{Item, Var}
+use Rattle.xdr3.specs.Shape.{Shape, ◌then◌, choose, counted, fixed, hyper, linked, listed, nothing, opaque, both, optional, sized, word}
+use Rattle.xdr3.specs.Layout.{Layout, exactly, rest, after}
+use Rattle.xdr3.proofs.Lemmas.Shapes.ShapeParts.{HasParts, Part, fixed_part}
+use Rattle.rpc_head.specs.declared.values.call.ProcId.{ProcId}
+use Rattle.rpc_head.specs.Messages.{has_results}
+use Rattle.rpc_head.specs.Names.{head_names}
+use Rattle.rpc_head.specs.Shapes.{accept, auth_stats, auth_sys, call_head, credential, deny, gids, parameters, reply_head, verifier, versions}
+use Rattle.nfs3_types.specs.Names.{names}
+use Rattle.nfs3_types.specs.Shapes.{attributes, dir_op, export, exports, file_kind, flavor, group, guard, handle, mount_list, mount_ok, mounted, post_op_attr, post_op_fh, results, set_hyper, set_word, settable, time, time_how, times, wcc, wcc_attr}
+use Rattle.procs3.specs.Shapes.{access_args, access_ok, commit_ok, create_args, create_how, create_ok, device, dirpath, entry, entry_plus, file_range, fsinfo_ok, fsstat_ok, link_args, link_wcc, lookup_ok, mkdir_args, mknod_args, mknod_what, mount_results, pathconf_ok, read_ok, readdir_args, readdir_ok, readdirplus_args, readdirplus_ok, readlink_ok, rename_args, rename_wcc, setattr_args, symlink_args, write_args, write_ok}
+use Rattle.procs3.specs.Table.{arguments_of, is_mount, is_nfs, mount_arguments, mount_results_of, nfs_arguments, nfs_results, results_of}
+use Rattle.capture3.specs.declared.fault.Side.{Side}
+use Rattle.capture3.specs.declared.fault.Side.TheVariants.{Client, Server}
+use Rattle.masking3.specs.declared.class.Class.{Class}
+use Rattle.masking3.specs.Classes.{class_of_word}
+
+-- ---- what is asked of a shape
+
+-- a word of a class takes any value, and nothing follows that it chooses
+abbrev pub TakesWord : Option Class → (ℕ → Bool) → (ℕ → Shape) → Type 0
+TakesWord None accepted next = ⊤
+TakesWord (Some class) accepted next = ((n : ℕ) → IsTrue (accepted n)) × ((n : ℕ) → next n ≡ nothing)
+
+-- eight bytes may have another length than masked ones, where they are not spelled
+abbrev pub IsNotEight : Part → Type 0
+IsNotEight (fixed_part name) = ⊥
+IsNotEight _ = ⊤
+
+abbrev pub TakesMasks : Side → Shape → Type 0
+TakesMasks side (choose name accepted reason next) = TakesWord (class_of_word side name) accepted next × ((n : ℕ) → TakesMasks side (next n))
+TakesMasks side (both a b) = TakesMasks side a × TakesMasks side b
+TakesMasks side (linked name s) = (class_of_word side name ≡ None) × TakesMasks side s
+TakesMasks side (counted name max s) = (class_of_word side name ≡ None) × TakesMasks side s
+TakesMasks side (sized name s) = (class_of_word side name ≡ None) × HasParts IsNotEight s × TakesMasks side s
+TakesMasks side _ = ⊤
+
+abbrev pub RowTakesMasks : Side → Layout → Type 0
+RowTakesMasks side (exactly s) = TakesMasks side s
+RowTakesMasks side (rest name) = ⊤
+RowTakesMasks side (after s next) = ⊥
+
+-- on either side
+module _ (side : Side) where
+  takes_if : (b : Bool) (s t : Shape) → TakesMasks side s → TakesMasks side t → TakesMasks side (if b then s else t)
+  takes_if true s t h k = h
+  takes_if false s t h k = k
+
+  row_takes_if : (b : Bool) (s t : Layout) → RowTakesMasks side s → RowTakesMasks side t → RowTakesMasks side (if b then s else t)
+  row_takes_if true s t h k = h
+  row_takes_if false s t h k = k
+
+  -- ---- parts
+
+  optional_takes : (name : List ℕ) (s : Shape) → class_of_word side name ≡ None → TakesMasks side s → TakesMasks side (optional name s)
+  unfolding optional
+  optional_takes name s w h = (rw w tt, λ n. takes_if (nat_eq n 0) nothing s tt h)
+
+  attributes_take : TakesMasks side attributes
+  unfolding attributes file_kind times time names head_names
+  attributes_take = assumption
+
+  post_op_attr_takes : TakesMasks side post_op_attr
+  unfolding post_op_attr names head_names
+  post_op_attr_takes = optional_takes names.attr attributes refl attributes_take
+
+  wcc_attr_takes : TakesMasks side wcc_attr
+  unfolding wcc_attr time names head_names
+  wcc_attr_takes = assumption
+
+  wcc_takes : TakesMasks side wcc
+  unfolding wcc names head_names
+  wcc_takes = (optional_takes names.before wcc_attr refl wcc_attr_takes, post_op_attr_takes)
+
+  post_op_fh_takes : TakesMasks side post_op_fh
+  unfolding post_op_fh handle names head_names
+  post_op_fh_takes = optional_takes names.handle handle refl tt
+
+  time_how_takes : (name sec nsec : List ℕ) → class_of_word side name ≡ None → TakesMasks side (time sec nsec) → TakesMasks side (time_how name sec nsec)
+  unfolding time_how
+  time_how_takes name sec nsec w h = (rw w tt, λ how. takes_if (nat_eq how 2) (time sec nsec) nothing h tt)
+
+  settable_takes : TakesMasks side settable
+  unfolding settable set_word set_hyper time names head_names
+  settable_takes = assumption (
+    optional_takes names.set_mode (word names.mode) refl (assumption),
+    optional_takes names.set_uid (word names.uid) refl (assumption),
+    optional_takes names.set_gid (word names.gid) refl (assumption),
+    optional_takes names.set_size (hyper names.size) refl tt,
+    time_how_takes names.set_atime names.atime_sec names.atime_nsec refl (assumption),
+    time_how_takes names.set_mtime names.mtime_sec names.mtime_nsec refl (assumption),
+  )
+
+  guard_takes : TakesMasks side guard
+  unfolding guard time names head_names
+  guard_takes = optional_takes names.check (time names.ctime_sec names.ctime_nsec) refl (assumption)
+
+  results_take : (done failed : Shape) → TakesMasks side done → TakesMasks side failed → TakesMasks side (results done failed)
+  unfolding results names head_names
+  results_take done failed h k = (tt, λ n. takes_if (nat_eq n 0) done failed h k)
+
+  create_how_takes : TakesMasks side create_how
+  unfolding create_how names head_names
+  create_how_takes = (tt, λ how. takes_if (nat_eq how 2) (fixed names.createverf) settable tt settable_takes)
+
+  device_takes : TakesMasks side device
+  unfolding device names head_names
+  device_takes = assumption settable_takes
+
+  mknod_what_takes : TakesMasks side mknod_what
+  unfolding mknod_what names head_names
+  mknod_what_takes = (
+    tt,
+    λ kind. takes_if (nat_eq kind 3 || nat_eq kind 4) device (if nat_eq kind 6 || nat_eq kind 7 then settable else nothing) device_takes
+        (takes_if (nat_eq kind 6 || nat_eq kind 7) settable nothing settable_takes tt),
+  )
+
+  mount_results_take : TakesMasks side mount_results
+  unfolding mount_results mount_ok handle flavor names head_names
+  mount_results_take = (tt, λ n. takes_if (nat_eq n 0) mount_ok nothing (assumption) tt)
+
+  -- ---- the table of procedures
+
+  arg_row : (b : Bool) (s : Shape) (more : Layout) → TakesMasks side s → RowTakesMasks side more → RowTakesMasks side (if b then exactly s else more)
+  arg_row b s more h k = row_takes_if b (exactly s) more h k
+
+  result_row : (b : Bool) (done failed : Shape) (more : Layout) → TakesMasks side done → TakesMasks side failed → RowTakesMasks side more → RowTakesMasks side (if b then exactly (results done failed) else more)
+  result_row b done failed more h k l = arg_row b (results done failed) more (results_take done failed h k) l
+
+  dir_op_takes : TakesMasks side dir_op
+  unfolding dir_op handle
+  dir_op_takes = assumption
+
+  handle_takes : TakesMasks side handle
+  unfolding handle
+  handle_takes = tt
+
+  nfs_arguments_take : (n : ℕ) → RowTakesMasks side (nfs_arguments n)
+  unfolding access_args create_args file_range handle head_names link_args mkdir_args mknod_args names readdir_args readdirplus_args rename_args setattr_args symlink_args write_args
+  nfs_arguments_take n =
+      arg_row (nat_eq n 0) nothing _ tt (
+      arg_row (nat_eq n 1) handle _ handle_takes (
+      arg_row (nat_eq n 2) setattr_args _ (assumption (settable_takes, guard_takes)) (
+      arg_row (nat_eq n 3) dir_op _ dir_op_takes (
+      arg_row (nat_eq n 4) access_args _ (assumption) (
+      arg_row (nat_eq n 5) handle _ handle_takes (
+      arg_row (nat_eq n 6) file_range _ (assumption) (
+      arg_row (nat_eq n 7) write_args _ (assumption) (
+      arg_row (nat_eq n 8) create_args _ (assumption (dir_op_takes, create_how_takes)) (
+      arg_row (nat_eq n 9) mkdir_args _ (assumption (dir_op_takes, settable_takes)) (
+      arg_row (nat_eq n 10) symlink_args _ (assumption (dir_op_takes, settable_takes)) (
+      arg_row (nat_eq n 11) mknod_args _ (assumption (dir_op_takes, mknod_what_takes)) (
+      arg_row (nat_eq n 12) dir_op _ dir_op_takes (
+      arg_row (nat_eq n 13) dir_op _ dir_op_takes (
+      arg_row (nat_eq n 14) rename_args _ (assumption dir_op_takes) (
+      arg_row (nat_eq n 15) link_args _ (assumption dir_op_takes) (
+      arg_row (nat_eq n 16) readdir_args _ (assumption) (
+      arg_row (nat_eq n 17) readdirplus_args _ (assumption) (
+      arg_row (nat_eq n 18) handle _ handle_takes (
+      arg_row (nat_eq n 19) handle _ handle_takes (
+      arg_row (nat_eq n 20) handle _ handle_takes (
+      arg_row (nat_eq n 21) file_range _ (assumption) tt)))))))))))))))))))))
+
+  mount_arguments_take : (n : ℕ) → RowTakesMasks side (mount_arguments n)
+  unfolding dirpath
+  mount_arguments_take n =
+      arg_row (nat_eq n 0) nothing _ tt (
+      arg_row (nat_eq n 1) dirpath _ tt (
+      arg_row (nat_eq n 2) nothing _ tt (
+      arg_row (nat_eq n 3) dirpath _ tt (
+      arg_row (nat_eq n 4) nothing _ tt (
+      arg_row (nat_eq n 5) nothing _ tt tt)))))
+
+  pub arguments_take : (id : ProcId) → RowTakesMasks side (arguments_of id)
+  unfolding arguments_of
+  arguments_take id =
+      row_takes_if (is_nfs id) (nfs_arguments id.proc_no) _ (nfs_arguments_take id.proc_no)
+      (row_takes_if (is_mount id) (mount_arguments id.proc_no) (rest names.rest) (mount_arguments_take id.proc_no) tt)
+
+  nfs_results_take : (n : ℕ) → RowTakesMasks side (nfs_results n)
+  unfolding access_ok commit_ok create_ok entry entry_plus fsinfo_ok fsstat_ok handle head_names link_wcc lookup_ok names pathconf_ok read_ok readdir_ok readdirplus_ok readlink_ok rename_wcc time write_ok
+  nfs_results_take n =
+      arg_row (nat_eq n 0) nothing _ tt (
+      result_row (nat_eq n 1) attributes nothing _ attributes_take tt (
+      result_row (nat_eq n 2) wcc wcc _ wcc_takes wcc_takes (
+      result_row (nat_eq n 3) lookup_ok post_op_attr _ (assumption post_op_attr_takes) post_op_attr_takes (
+      result_row (nat_eq n 4) access_ok post_op_attr _ (assumption post_op_attr_takes) post_op_attr_takes (
+      result_row (nat_eq n 5) readlink_ok post_op_attr _ (assumption post_op_attr_takes) post_op_attr_takes (
+      result_row (nat_eq n 6) read_ok post_op_attr _ (assumption post_op_attr_takes) post_op_attr_takes (
+      result_row (nat_eq n 7) write_ok wcc _ (assumption wcc_takes) wcc_takes (
+      result_row (nat_eq n 8) create_ok wcc _ (assumption (post_op_fh_takes, post_op_attr_takes, wcc_takes)) wcc_takes (
+      result_row (nat_eq n 9) create_ok wcc _ (assumption (post_op_fh_takes, post_op_attr_takes, wcc_takes)) wcc_takes (
+      result_row (nat_eq n 10) create_ok wcc _ (assumption (post_op_fh_takes, post_op_attr_takes, wcc_takes)) wcc_takes (
+      result_row (nat_eq n 11) create_ok wcc _ (assumption (post_op_fh_takes, post_op_attr_takes, wcc_takes)) wcc_takes (
+      result_row (nat_eq n 12) wcc wcc _ wcc_takes wcc_takes (
+      result_row (nat_eq n 13) wcc wcc _ wcc_takes wcc_takes (
+      result_row (nat_eq n 14) rename_wcc rename_wcc _ (assumption wcc_takes) (assumption wcc_takes) (
+      result_row (nat_eq n 15) link_wcc link_wcc _ (assumption (post_op_attr_takes, wcc_takes)) (assumption (post_op_attr_takes, wcc_takes)) (
+      result_row (nat_eq n 16) readdir_ok post_op_attr _ (assumption post_op_attr_takes) post_op_attr_takes (
+      result_row (nat_eq n 17) readdirplus_ok post_op_attr _ (assumption (post_op_attr_takes, post_op_fh_takes)) post_op_attr_takes (
+      result_row (nat_eq n 18) fsstat_ok post_op_attr _ (assumption post_op_attr_takes) post_op_attr_takes (
+      result_row (nat_eq n 19) fsinfo_ok post_op_attr _ (assumption post_op_attr_takes) post_op_attr_takes (
+      result_row (nat_eq n 20) pathconf_ok post_op_attr _ (assumption post_op_attr_takes) post_op_attr_takes (
+      result_row (nat_eq n 21) commit_ok wcc _ (assumption wcc_takes) wcc_takes tt)))))))))))))))))))))
+
+  -- ---- heads
+
+  verifier_takes : TakesMasks side verifier
+  unfolding verifier names head_names
+  verifier_takes = assumption
+
+  accept_takes : TakesMasks side accept
+  unfolding accept names head_names
+  accept_takes = (tt, λ n. takes_if (nat_eq n 2) versions nothing (assumption) tt)
+
+  deny_takes : TakesMasks side deny
+  unfolding deny names head_names
+  deny_takes = (tt, λ n. takes_if (nat_eq n 0) versions (listed head_names.auth_stat auth_stats) (assumption) (assumption))
+
+  pub reply_head_takes : TakesMasks side reply_head
+  unfolding reply_head names head_names
+  reply_head_takes = (tt, λ n. takes_if (nat_eq n 0) (verifier then accept) deny (verifier_takes, accept_takes) deny_takes)
+
+  -- words that are of no class
+  pub xid_free : class_of_word side head_names.xid ≡ None
+  unfolding names head_names
+  xid_free = refl
+
+  pub mtype_takes : (types : List ℕ) → TakesMasks side (listed head_names.mtype types)
+  unfolding names head_names
+  mtype_takes types = assumption
+
+-- ---- a group of a credential has a class
+
+auth_sys_takes : TakesMasks Client auth_sys
+unfolding auth_sys parameters gids names head_names
+auth_sys_takes = assumption
+
+credential_takes : TakesMasks Client credential
+unfolding credential names head_names
+credential_takes = (tt, λ n. takes_if Client (nat_eq n 0) (opaque Var head_names.cred_body 400) auth_sys tt auth_sys_takes)
+
+pub call_head_takes : TakesMasks Client call_head
+unfolding call_head names head_names
+call_head_takes = assumption (credential_takes, verifier_takes Client)
+
+-- ---- a word for another group of an export has none
+
+mount_results_of_take : (n : ℕ) → RowTakesMasks Server (mount_results_of n)
+unfolding export exports group head_names mount_list mounted names
+mount_results_of_take n =
+    arg_row Server (nat_eq n 0) nothing _ tt (
+    arg_row Server (nat_eq n 1) mount_results _ (mount_results_take Server) (
+    arg_row Server (nat_eq n 2) mount_list _ (assumption) (
+    arg_row Server (nat_eq n 3) nothing _ tt (
+    arg_row Server (nat_eq n 4) nothing _ tt (
+    arg_row Server (nat_eq n 5) exports _ (assumption) tt)))))
+
+procedure_results_take : (id : ProcId) → RowTakesMasks Server (results_of id)
+unfolding results_of
+procedure_results_take id =
+    row_takes_if Server (is_nfs id) (nfs_results id.proc_no) _ (nfs_results_take Server id.proc_no)
+    (row_takes_if Server (is_mount id) (mount_results_of id.proc_no) (rest names.rest) (mount_results_of_take id.proc_no) tt)
+
+-- what follows the head of a reply
+pub reply_takes : (id : ProcId) (items : List Item) → RowTakesMasks Server (if has_results items then results_of id else exactly nothing)
+reply_takes id items = row_takes_if Server (has_results items) (results_of id) (exactly nothing) (procedure_results_take id) tt

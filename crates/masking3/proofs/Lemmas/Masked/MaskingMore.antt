@@ -1,0 +1,126 @@
+-- Ways that mask more tell no more captures apart.
+use Rattle.std.proofs.Common.{◌≡◌, inl, inr, ℕ, List, [], refl, sym, subst}
+use Rattle.std.specs.Prelude.{nat_eq, Option, None, Some}
+use Rattle.std.proofs.lemmas.Bool.Decides.{Decides-eqb}
+use Rattle.xdr3.specs.Item.{Item}
+use Rattle.capture3.specs.declared.fault.Side.{Side}
+use Rattle.capture3.specs.declared.fault.Side.TheVariants.{Client, Server}
+use Rattle.capture3.specs.Entry.{Entry}
+use Rattle.canon3.specs.Pairing.{Pairs}
+use Rattle.canon3.specs.Renaming.{Pairwise, none, more, Same}
+use Rattle.canon3.proofs.Lemmas.Renaming.PairingLemmas.{Agree, agree-graph, graph, member-graph}
+use Rattle.canon3.proofs.Lemmas.Numbers.RankLemmas.{by_test}
+use Rattle.masking3.specs.declared.class.Class.{Class}
+use Rattle.masking3.specs.declared.ways.Way.{Way}
+use Rattle.masking3.specs.declared.ways.Way.TheVariants.{Keep, Zero, Number}
+use Rattle.masking3.specs.declared.ways.Ways.{Ways}
+use Rattle.masking3.specs.Classes.{class_of, class_value}
+use Rattle.masking3.specs.Laws.{KeepsAll, MasksAsMuch, MasksValuesAsMuch, TellsNoMore}
+use Rattle.masking3.specs.Masked.{is_zero_that_stays, values}
+use Rattle.masking3.specs.SameBut.{AreAlike, ArePartners, ChangesBy, ChangesEntry, ChangesItem, ChangesOf, IsNumbered, SameBut, SameButValues, begin, call, close, end, reply, turn}
+use Rattle.masking3.specs.Unnamed.{names_by}
+use Rattle.masking3.specs.Ways.{way_of}
+use Rattle.masking3.proofs.Lemmas.Masked.MaskedLemmas.{AreAmong, EntryIsAmong, IsAmong, ItemsAreAmong, among_own}
+use Rattle.masking3.proofs.Lemmas.Masked.SameButLemmas.{AreAgreeing, Changes, agree_of, alike_linked, alike_put, alike_turned, from_agreeing, kept_of_same, same_of_kept, values_numbered}
+use Rattle.masking3.proofs.Lemmas.Unnamed.UnnamedLemmas.{names_kept}
+use Rattle.masking3.proofs.Lemmas.Unnamed.UnnamedRenamings.{changes_named, same_named}
+
+module _ (ways others : Ways) (much : MasksValuesAsMuch ways others) (all : List Entry) (pairs : Class → Pairs ℕ) (agree : AreAgreeing ways pairs) where
+  -- a value that stayed is its own partner
+  abbrev pairs_by : Way → Class → Pairs ℕ
+  pairs_by Keep d = graph (λ n. n) (values all d)
+  pairs_by Number d = pairs d
+  pairs_by Zero d = []
+
+  abbrev more_pairs : Class → Pairs ℕ
+  more_pairs d = pairs_by (way_of ways d) d
+
+  agree_by : (w : Way) (d : Class) → Agree nat_eq (IsNumbered d) (pairs_by w d)
+  agree_by Keep d = agree-graph nat_eq Decides-eqb (λ n. n) (values all d) (λ x m. (values_numbered d all x m, values_numbered d all x m)) (λ x y m n e. e)
+  agree_by Number d = agree d
+  agree_by Zero d = record { parts = λ p m. elim m [ ]; alike = λ p q m n. elim m [ ] }
+
+  own_partner : (side : Side) (d : Class) (i : Item) → IsAmong (values all) side i → class_of side i ≡ Some d → ArePartners d (graph (λ n. n) (values all d)) (class_value i) (class_value i)
+  own_partner side d i among is = by_test (is_zero_that_stays d (class_value i)) (λ t. inr (t, t)) (λ f. inl (member-graph (λ n. n) (among d is f)))
+
+  alike_itself : (side : Side) (d : Class) (i : Item) → class_of side i ≡ Some d → AreAlike i i
+  alike_itself side d i is = alike_linked (alike_put side i d 0 is) (alike_turned (alike_put side i d 0 is))
+
+  by_way_more : (w v : Way) → TellsNoMore w v → (side : Side) (d : Class) (i j : Item) → IsAmong (values all) side i → class_of side i ≡ Some d → ChangesBy w d (pairs d) i j → ChangesBy v d (pairs_by w d) i j
+  by_way_more Keep Keep t side d i j among is h = h
+  by_way_more Keep Number t side d i j among is h =
+      subst (λ k. AreAlike i k × ArePartners d (graph (λ n. n) (values all d)) (class_value i) (class_value k)) h (alike_itself side d i is, own_partner side d i among is)
+  by_way_more Keep Zero t side d i j among is h = subst (AreAlike i) h (alike_itself side d i is)
+  by_way_more Number Keep t side d i j among is h = absurd t
+  by_way_more Number Number t side d i j among is h = h
+  by_way_more Number Zero t side d i j among is h = h.0
+  by_way_more Zero Keep t side d i j among is h = absurd t
+  by_way_more Zero Number t side d i j among is h = absurd t
+  by_way_more Zero Zero t side d i j among is h = h
+
+  of_more : (side : Side) (o : Option Class) (i j : Item) → IsAmong (values all) side i → class_of side i ≡ o → ChangesOf ways pairs o i j → ChangesOf others more_pairs o i j
+  of_more side None i j among is h = h
+  of_more side (Some d) i j among is h = by_way_more (way_of ways d) (way_of others d) (much d) side d i j among is h
+
+  message_more : (side : Side) {l m : List Item} → ItemsAreAmong (values all) side l → Pairwise (ChangesItem ways pairs side) l m → Pairwise (ChangesItem others more_pairs side) l m
+  message_more side among none = none
+  message_more side among (more {x = i} {y = j} c p) = more (of_more side (class_of side i) i j among.0 refl c) (message_more side among.1 p)
+
+  entry_more : (e f : Entry) → EntryIsAmong (values all) e → ChangesEntry ways pairs e f → ChangesEntry others more_pairs e f
+  entry_more e f among begin = begin
+  entry_more e f among (call c) = call (message_more Client among c)
+  entry_more e f among turn = turn
+  entry_more e f among (reply c) = reply (message_more Server among c)
+  entry_more e f among close = close
+  entry_more e f among end = end
+
+  changes_more : {a b : List Entry} → AreAmong (values all) a → Changes ways pairs a b → Changes others more_pairs a b
+  changes_more among none = none
+  changes_more among (more {x = e} {y = f} c p) = more (entry_more e f among.0 c) (changes_more among.1 p)
+
+pub values_more : (ways others : Ways) (a b : List Entry) → MasksValuesAsMuch ways others → SameButValues ways a b → SameButValues others a b
+values_more ways others a b much s =
+    let agree = agree_of ways s.value_pairs s.values_one_to_one in
+    from_agreeing others a b s.changed (more_pairs ways others much a s.value_pairs agree) (λ d. agree_by ways others much a s.value_pairs agree (way_of ways d) d)
+    (changes_more ways others much a s.value_pairs agree (among_own a) s.changes) s.same
+
+-- ---- and names
+
+module _ (ways : Ways) (a b : List Entry) where
+  -- without the names
+  values_without : SameButValues ways a b → SameButValues ways (names_by Zero a) (names_by Zero b)
+  values_without s = record {
+    value_pairs = s.value_pairs;
+    values_one_to_one = s.values_one_to_one;
+    changed = names_by Zero s.changed;
+    changes = changes_named ways s.value_pairs Zero s.changes;
+    same = same_named Zero s.same;
+  }
+
+  as_they_are : SameButValues ways (names_by Keep a) (names_by Keep b) → SameButValues ways a b
+  as_they_are s = subst (λ l. SameButValues ways l b) (names_kept a) (subst (SameButValues ways (names_by Keep a)) (names_kept b) s)
+
+  names_more : (w v : Way) → TellsNoMore w v → SameButValues ways (names_by w a) (names_by w b) → SameButValues ways (names_by v a) (names_by v b)
+  names_more Keep Keep t s = s
+  names_more Keep Zero t s = values_without (as_they_are s)
+  names_more Keep Number t s = values_without (as_they_are s)
+  names_more Number Keep t s = absurd t
+  names_more Number Zero t s = s
+  names_more Number Number t s = s
+  names_more Zero Keep t s = absurd t
+  names_more Zero Zero t s = s
+  names_more Zero Number t s = absurd t
+
+pub same_but_more : (ways others : Ways) (a b : List Entry) → MasksAsMuch ways others → SameBut ways a b → SameBut others a b
+same_but_more ways others a b much s =
+    values_more ways others (names_by others.machines a) (names_by others.machines b) much.0 (names_more ways a b ways.machines others.machines much.1 s)
+
+-- ---- where nothing is masked
+
+pub same_of_all_kept : (ways : Ways) → KeepsAll ways → (a b : List Entry) → SameBut ways a b → Same a b
+same_of_all_kept ways keeps a b s = same_of_kept ways keeps.0 a b (as_they_are ways a b (subst (λ w. SameButValues ways (names_by w a) (names_by w b)) keeps.1 s))
+
+pub all_kept_of_same : (ways : Ways) → KeepsAll ways → (a b : List Entry) → Same a b → SameBut ways a b
+all_kept_of_same ways keeps a b s =
+    subst (λ w. SameButValues ways (names_by w a) (names_by w b)) (sym keeps.1)
+    (subst (λ l. SameButValues ways l (names_by Keep b)) (sym (names_kept a)) (subst (SameButValues ways a) (sym (names_kept b)) (kept_of_same ways keeps.0 a b s)))

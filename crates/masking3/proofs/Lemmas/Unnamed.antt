@@ -1,0 +1,5 @@
+-- Calls without the names of machines.
+pub mod UnnamedLemmas
+pub mod UnnamedRenamings
+pub mod UnnamedBodyLemmas
+pub mod UnnamedCalls

@@ -1,0 +1,197 @@
+-- Captures that are renamed, or whose values change, do so without the names of machines as well.
+use Rattle.std.proofs.Common.{◌≡◌, ℕ, zero, suc, false, List, refl, sym, ap, subst}
+use Rattle.std.specs.Prelude.{bytes_eq, Option, None, Some}
+use Rattle.xdr3.specs.Item.{Item, Word, Hyper, Fixed, WriteVerf, Opaque, Rest, Var, Text, Handle}
+use Rattle.rpc_head.specs.Names.{head_names}
+use Rattle.capture3.specs.declared.fault.Side.TheVariants.{Client}
+use Rattle.capture3.specs.Entry.{Entry}
+use Rattle.canon3.specs.Pairing.{Pairs}
+use Rattle.canon3.specs.Renaming.{IsPlain, RenamesItem, handle, verifier, plain, Pairwise, none, more, RenamesMessage, message, Renames, ended, begins, calls, turns, replies, closes, ends, Same}
+use Rattle.canon3.proofs.Lemmas.Numbers.RankLemmas.{by_test}
+use Rattle.masking3.specs.declared.class.Class.{Class}
+use Rattle.masking3.specs.declared.ways.Way.{Way}
+use Rattle.masking3.specs.declared.ways.Way.TheVariants.{Keep, Zero, Number}
+use Rattle.masking3.specs.declared.ways.Ways.{Ways}
+use Rattle.masking3.specs.Classes.{class_of}
+use Rattle.masking3.specs.SameBut.{AreAlike, words, hypers, eights, ChangesBy, ChangesOf, ChangesItem, ChangesEntry, begin, call, turn, reply, close, end}
+use Rattle.masking3.specs.Unnamed.{after_first, emptied, less_by, named_by, names_by, text_size, unnamed_credential}
+use Rattle.masking3.specs.Ways.{way_of}
+use Rattle.masking3.proofs.Lemmas.Unnamed.UnnamedLemmas.{free_length, other_word}
+
+-- ---- item by item
+
+module _ (R : Item → Item → Type 0) (size : (i j : Item) → R i j → text_size i ≡ text_size j) (less : (n : ℕ) (i j : Item) → R i j → R (less_by n i) (less_by n j)) (empty : (i j : Item) → R i j → R (emptied i) (emptied j)) where
+  credential_too : {l m : List Item} → Pairwise R l m → Pairwise R (unnamed_credential l) (unnamed_credential m)
+  credential_too none = none
+  credential_too (more a none) = more a none
+  credential_too (more a (more b none)) = more a (more b none)
+  credential_too (more {x = i} {y = j} a (more b (more {x = k} {y = o} c p))) =
+      more (subst (λ n. R (less_by (text_size k) i) (less_by n j)) (size k o c) (less (text_size k) i j a)) (more b (more (empty k o c) p))
+
+  pub after_too : (n : ℕ) {l m : List Item} → Pairwise R l m → Pairwise R (after_first n unnamed_credential l) (after_first n unnamed_credential m)
+  after_too zero p = credential_too p
+  after_too (suc n) none = none
+  after_too (suc n) (more a p) = more a (after_too n p)
+
+-- ---- renamings
+
+plain_less : (n : ℕ) (i : Item) → IsPlain i → IsPlain (less_by n i)
+plain_less n (Word name m) p = tt
+plain_less n (Hyper name m) p = p
+plain_less n (Fixed name b) p = p
+plain_less n (WriteVerf name b) p = p
+plain_less n (Opaque kind name b) p = p
+plain_less n (Rest name b) p = p
+
+plain_emptied : (i : Item) → IsPlain i → IsPlain (emptied i)
+plain_emptied (Word name m) p = p
+plain_emptied (Hyper name m) p = p
+plain_emptied (Fixed name b) p = p
+plain_emptied (WriteVerf name b) p = p
+plain_emptied (Opaque Var name b) p = p
+plain_emptied (Opaque Text name b) p = tt
+plain_emptied (Opaque Handle name b) p = p
+plain_emptied (Rest name b) p = p
+
+module _ {ps vs : Pairs (List ℕ)} where
+  size_renamed : (i j : Item) → RenamesItem ps vs i j → text_size i ≡ text_size j
+  size_renamed i j (handle m) = refl
+  size_renamed i j (verifier m) = refl
+  size_renamed i j (plain item p) = refl
+
+  less_renamed : (n : ℕ) (i j : Item) → RenamesItem ps vs i j → RenamesItem ps vs (less_by n i) (less_by n j)
+  less_renamed n i j (handle m) = handle m
+  less_renamed n i j (verifier m) = verifier m
+  less_renamed n i j (plain item p) = plain (less_by n item) (plain_less n item p)
+
+  emptied_renamed : (i j : Item) → RenamesItem ps vs i j → RenamesItem ps vs (emptied i) (emptied j)
+  emptied_renamed i j (handle m) = handle m
+  emptied_renamed i j (verifier m) = verifier m
+  emptied_renamed i j (plain item p) = plain (emptied item) (plain_emptied item p)
+
+  after_renamed : (n : ℕ) {l m : List Item} → Pairwise (RenamesItem ps vs) l m → Pairwise (RenamesItem ps vs) (after_first n unnamed_credential l) (after_first n unnamed_credential m)
+  after_renamed n p = after_too (RenamesItem ps vs) size_renamed less_renamed emptied_renamed n p
+
+  message_renamed : {xs : Pairs ℕ} (way : Way) {l m : List Item} → RenamesMessage ps vs xs l m → RenamesMessage ps vs xs (named_by way l) (named_by way m)
+  message_renamed Keep r = r
+  message_renamed Zero (message b p) = message b (after_renamed 6 p)
+  message_renamed Number (message b p) = message b (after_renamed 6 p)
+
+  entries_renamed : {xs : Pairs ℕ} {xss : List (Pairs ℕ)} (way : Way) {a b : List Entry} → Renames ps vs xs xss a b → Renames ps vs xs xss (names_by way a) (names_by way b)
+  entries_renamed way ended = ended
+  entries_renamed way (begins r) = begins (entries_renamed way r)
+  entries_renamed way (calls m r) = calls (message_renamed way m) (entries_renamed way r)
+  entries_renamed way (turns r) = turns (entries_renamed way r)
+  entries_renamed way (replies m r) = replies m (entries_renamed way r)
+  entries_renamed way (closes r) = closes (entries_renamed way r)
+  entries_renamed way (ends r) = ends (entries_renamed way r)
+
+pub same_named : (way : Way) {a b : List Entry} → Same a b → Same (names_by way a) (names_by way b)
+same_named way s = record {
+  handle_pairs = s.handle_pairs;
+  verifier_pairs = s.verifier_pairs;
+  xid_pairs = s.xid_pairs;
+  handles_one_to_one = s.handles_one_to_one;
+  verifiers_one_to_one = s.verifiers_one_to_one;
+  xids_one_to_one = s.xids_one_to_one;
+  renames = entries_renamed way s.renames;
+}
+
+-- ---- changes
+
+-- what is so of both of two alike items
+module _ (P : Item → Item → Type 0) (same : (i : Item) → P i i) (alike : (i j : Item) → AreAlike i j → P i j) where
+  by_way_is : (w : Way) (d : Class) (pairs : Pairs ℕ) (i j : Item) → ChangesBy w d pairs i j → P i j
+  by_way_is Keep d pairs i j h = subst (P i) h (same i)
+  by_way_is Zero d pairs i j h = alike i j h
+  by_way_is Number d pairs i j h = alike i j h.0
+
+  changed_is : (ways : Ways) (pairs : Class → Pairs ℕ) (o : Option Class) (i j : Item) → ChangesOf ways pairs o i j → P i j
+  changed_is ways pairs None i j h = subst (P i) h (same i)
+  changed_is ways pairs (Some d) i j h = by_way_is (way_of ways d) d (pairs d) i j h
+
+size_alike : (i j : Item) → AreAlike i j → text_size i ≡ text_size j
+size_alike i j words = refl
+size_alike i j hypers = refl
+size_alike i j eights = refl
+
+-- where one item stays, so does the other
+abbrev StayTogether : (Item → Item) → Item → Item → Type 0
+StayTogether f i j = f i ≡ i → f j ≡ j
+
+emptied_alike : (i j : Item) → AreAlike i j → StayTogether emptied i j
+emptied_alike i j words e = refl
+emptied_alike i j hypers e = refl
+emptied_alike i j eights e = refl
+
+-- a name that is no length's
+abbrev IsNoLength : Item → Type 0
+IsNoLength (Word name n) = bytes_eq name head_names.cred_length ≡ false
+IsNoLength _ = Unit
+
+less_stays : (n : ℕ) (i : Item) → IsNoLength i → less_by n i ≡ i
+less_stays n (Word name m) f = other_word n name m f
+less_stays n (Hyper name m) f = refl
+less_stays n (Fixed name b) f = refl
+less_stays n (WriteVerf name b) f = refl
+less_stays n (Opaque kind name b) f = refl
+less_stays n (Rest name b) f = refl
+
+abbrev NoLengthsTogether : Item → Item → Type 0
+NoLengthsTogether i j = IsNoLength i → IsNoLength j
+
+no_length_alike : (i j : Item) → AreAlike i j → NoLengthsTogether i j
+no_length_alike i j words f = f
+no_length_alike i j hypers f = tt
+no_length_alike i j eights f = tt
+
+module _ (ways : Ways) (pairs : Class → Pairs ℕ) where
+  size_changed : (i j : Item) → ChangesItem ways pairs Client i j → text_size i ≡ text_size j
+  size_changed i j h = changed_is (λ i j. text_size i ≡ text_size j) (λ i. refl) size_alike ways pairs (class_of Client i) i j h
+
+  -- an item that stays
+  emptied_stays : (i j : Item) → emptied i ≡ i → ChangesItem ways pairs Client i j → ChangesItem ways pairs Client (emptied i) (emptied j)
+  emptied_stays i j e h =
+      subst (λ k. ChangesItem ways pairs Client k (emptied j)) (sym e)
+      (subst (ChangesItem ways pairs Client i) (sym (changed_is (StayTogether emptied) (λ k s. s) emptied_alike ways pairs (class_of Client i) i j h e)) h)
+
+  emptied_changed : (i j : Item) → ChangesItem ways pairs Client i j → ChangesItem ways pairs Client (emptied i) (emptied j)
+  emptied_changed (Word name n) j h = emptied_stays (Word name n) j refl h
+  emptied_changed (Hyper name n) j h = emptied_stays (Hyper name n) j refl h
+  emptied_changed (Fixed name b) j h = emptied_stays (Fixed name b) j refl h
+  emptied_changed (WriteVerf name b) j h = ap emptied h
+  emptied_changed (Opaque Var name b) j h = ap emptied h
+  emptied_changed (Opaque Text name b) j h = ap emptied h
+  emptied_changed (Opaque Handle name b) j h = ap emptied h
+  emptied_changed (Rest name b) j h = ap emptied h
+
+  less_kept : (n : ℕ) (i j : Item) → IsNoLength i → ChangesItem ways pairs Client i j → ChangesItem ways pairs Client (less_by n i) (less_by n j)
+  less_kept n i j f h =
+      let other = changed_is NoLengthsTogether (λ k s. s) no_length_alike ways pairs (class_of Client i) i j h f in
+      subst (λ k. ChangesItem ways pairs Client k (less_by n j)) (sym (less_stays n i f)) (subst (ChangesItem ways pairs Client i) (sym (less_stays n j other)) h)
+
+  less_changed : (n : ℕ) (i j : Item) → ChangesItem ways pairs Client i j → ChangesItem ways pairs Client (less_by n i) (less_by n j)
+  less_changed n (Word name m) j h = by_test (bytes_eq name head_names.cred_length)
+      (λ t. let free = free_length Client name t in
+      let same : Word name m ≡ j = subst (λ o. ChangesOf ways pairs o (Word name m) j) free h in
+      subst (λ o. ChangesOf ways pairs o (less_by n (Word name m)) (less_by n j)) (sym free) (ap (less_by n) same))
+      (λ f. less_kept n (Word name m) j f h)
+  less_changed n (Hyper name m) j h = less_kept n (Hyper name m) j tt h
+  less_changed n (Fixed name b) j h = less_kept n (Fixed name b) j tt h
+  less_changed n (WriteVerf name b) j h = less_kept n (WriteVerf name b) j tt h
+  less_changed n (Opaque kind name b) j h = less_kept n (Opaque kind name b) j tt h
+  less_changed n (Rest name b) j h = less_kept n (Rest name b) j tt h
+
+  message_changed : (way : Way) {l m : List Item} → Pairwise (ChangesItem ways pairs Client) l m → Pairwise (ChangesItem ways pairs Client) (named_by way l) (named_by way m)
+  message_changed Keep p = p
+  message_changed Zero p = after_too (ChangesItem ways pairs Client) size_changed less_changed emptied_changed 7 p
+  message_changed Number p = after_too (ChangesItem ways pairs Client) size_changed less_changed emptied_changed 7 p
+
+  pub changes_named : (way : Way) {a b : List Entry} → Pairwise (ChangesEntry ways pairs) a b → Pairwise (ChangesEntry ways pairs) (names_by way a) (names_by way b)
+  changes_named way none = none
+  changes_named way (more begin p) = more begin (changes_named way p)
+  changes_named way (more (call c) p) = more (call (message_changed way c)) (changes_named way p)
+  changes_named way (more turn p) = more turn (changes_named way p)
+  changes_named way (more (reply c) p) = more (reply c) (changes_named way p)
+  changes_named way (more close p) = more close (changes_named way p)
+  changes_named way (more end p) = more end (changes_named way p)

@@ -1,0 +1,3 @@
+-- Writing the masked form.
+pub mod WriterLemmas
+pub mod FormLemmas

@@ -1,0 +1,16 @@
+//! File handles, passed to a visitor as they are read (RFC 1813, section 2.5).
+
+use crate::values::handle::Handle;
+use xdr3::{GetError, Input, Scan, Visit, scan_handle};
+
+impl Scan for Handle {
+    ghost use Rattle.nfs3_types.specs.Shapes.{handle};
+
+    ghost shape = { handle };
+
+    #[inline]
+    #[tactic(auto, unfolding(crate::specs::Shapes::handle, crate::specs::Names::names))]
+    fn scan<V: Visit>(input: &mut Input, visitor: &mut V) -> Result<(), GetError> {
+        scan_handle("fh", input, visitor)
+    }
+}

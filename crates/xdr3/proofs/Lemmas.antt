@@ -1,0 +1,4 @@
+-- Lemmas, by what they are about.
+pub mod Reading
+pub mod Shapes
+pub mod Scans
