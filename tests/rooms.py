@@ -1,6 +1,7 @@
 """Where the definitions of crates/*/specs stand: what a public call of any crate believes, and all else in rooms named machinery. Which
 names stand for several of them, which clauses of public calls name a private field, and which clauses
-and definitions have a line over 100 columns."""
+and definitions have a line over 100 columns. Which folders of crates/*/proofs have too many files, and which files of machinery the
+name of another; and which files of src/scans have no file of values."""
 import collections
 import importlib.machinery
 import importlib.util
@@ -46,7 +47,8 @@ def given_out(crate):
         return None, set()
     text = lib.read_text()
     names = {name for names in re.findall(r'^pub use ([^;]*);', text, re.M) for name in re.findall(r'\w+', names)}
-    return names, set(re.findall(r'^pub mod (\w+);', text, re.M))
+    paths = [name.replace('::', '/') for name in re.findall(r'^pub (?:mod|use) ([\w:]+);', text, re.M)]
+    return names, {pathlib.PurePath(path).name for path in paths if (lib.parent / path).with_suffix('.rt').exists()}
 
 
 def is_public(name, path, text, names, modules):
@@ -135,14 +137,34 @@ def long_lines():
             if len(line) > 100 and not line.startswith(('use ', 'pub use '))]
 
 
-# Names of machinery of one crate that stand for something else in another.
-TO_BE_RENAMED = {'IsLine', 'number_at'}
-
-
 def of_several_meanings():
     """The names that stand for several definitions, with their modules."""
     places = collections.defaultdict(list)
     for file in files(tool()):
         for one in file.definitions:
             places[one.name].append('%s.%s' % (file.crate, file.module))
-    return ['%s: %s' % (name, ', '.join(some)) for name, some in sorted(places.items()) if len(some) > 1 and name not in TO_BE_RENAMED]
+    return ['%s: %s' % (name, ', '.join(some)) for name, some in sorted(places.items()) if len(some) > 1]
+
+
+MOST_FILES = 12
+
+
+def crowded_folders():
+    """The folders of proofs with more files than a reader overlooks. Folders in them do not count."""
+    roots = sorted(TOP.glob('crates/*/proofs'))
+    folders = [folder for root in roots for folder in [root, *sorted(path for path in root.rglob('*') if path.is_dir())]]
+    sizes = {folder: len(list(folder.glob('*.antt'))) for folder in folders}
+    return ['%s: %d files' % (folder.relative_to(TOP), size) for folder, size in sizes.items() if size > MOST_FILES]
+
+
+def of_two_files():
+    """The files of machinery that have the name of a file of specs outside it, in the same crate."""
+    rooms = sorted(TOP.glob('crates/*/specs/' + ROOM))
+    return [str(path.relative_to(TOP)) for room in rooms for path in sorted(room.rglob('*.antt'))
+            if any(ROOM not in other.relative_to(room.parent).parts for other in room.parent.rglob(path.name))]
+
+
+def scans_without_values():
+    """The files of scans, in crates with values, that have no file of values of the same name."""
+    return [str(path.relative_to(TOP)) for path in sorted(TOP.glob('crates/*/src/scans/*.rt'))
+            if (values := path.parent.parent / 'values').is_dir() and not (values / path.name).exists()]

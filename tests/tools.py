@@ -17,7 +17,8 @@ import tempfile
 import crate_pages
 import pages
 from captures import SMALL, capture_in, rows_of
-from rooms import in_the_wrong_room, long_lines, of_private_fields, of_several_meanings
+from rooms import (crowded_folders, in_the_wrong_room, long_lines, of_private_fields, of_several_meanings, of_two_files,
+                   scans_without_values)
 from running import program_named, try_all, words_of
 from scripts import TOP, Tools
 from traffic import NFS, Names, Traffic, call, messages, success
@@ -252,11 +253,15 @@ def what_is_believed(tools):
 
 
 def rooms_stand_apart(tools):
-    """What public calls believe, and machinery; each definition has a name of its own; and clauses are short and name no private field."""
+    """What public calls believe, and machinery; each definition and each file of a crate has a name of its own; no folder of proofs is
+    crowded; and clauses are short and name no private field."""
     tools.want('rooms', in_the_wrong_room(), [])
     tools.want('names', of_several_meanings(), [])
     tools.want('private fields in clauses', of_private_fields(), [])
     tools.want('long lines of clauses', long_lines(), [])
+    tools.want('folders with too many files', crowded_folders(), [])
+    tools.want('files of machinery with the name of another', of_two_files(), [])
+    tools.want('scans without values', scans_without_values(), [])
 
 
 def pages_are_plain(tools):
