@@ -71,6 +71,24 @@ MasksReaddirs = AreMaskedAs
     ∷ [])
     (readdir 7 0 zeros ∷ readdir 8 1 one_verifier ∷ two_entries 7 one_verifier 1 2 2 1 ∷ [])
 
+-- READDIRPLUS's reply (RFC 1813, section 3.3.17) of one entry, with its attributes and its handle
+abbrev pub entry_plus_reply : (xid fileid cookie used fsid sec nsec : ℕ) → Entry
+entry_plus_reply xid fileid cookie used fsid sec nsec =
+    success_reply 100003 17 xid (Word (codes "status") 0 ∷ Word (codes "attr") 0
+    ∷ Fixed (codes "cookieverf") zeros
+    ∷ Word (codes "entry") 1 ∷ Hyper (codes "fileid") fileid
+    ∷ Opaque Text (codes "name") (codes "a") ∷ Hyper (codes "cookie") cookie
+    ∷ Word (codes "attr") 1 ∷ file_attributes used fsid fileid sec nsec
+    (Word (codes "handle") 1 ∷ Opaque Handle (codes "fh") (1 ∷ [])
+    ∷ Word (codes "entry") 0 ∷ Word (codes "eof") 1 ∷ []))
+
+-- the id of an entry has the number of the id in its attributes, and its handle stays
+abbrev pub MasksReaddirPlus : Type 0
+MasksReaddirPlus = AreMaskedAs
+    (entry_plus_reply 7 33 512 4096 9 1700000000 12345
+    ∷ entry_plus_reply 8 44 33 512 9 1700000001 6 ∷ [])
+    (entry_plus_reply 7 1 1 0 1 0 0 ∷ entry_plus_reply 8 2 2 0 1 0 0 ∷ [])
+
 -- NULL with an AUTH_SYS credential (RFC 5531, appendix A) of this user and these groups
 abbrev pub system_null : (xid size stamp : ℕ) → (machine : List ℕ) → (user group other : ℕ) → Entry
 system_null xid size stamp machine user group other =

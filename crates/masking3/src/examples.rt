@@ -1,7 +1,7 @@
 //! Small captures worked by hand. Each function ensures what the definitions say of some entries, and its
 //! proof computes it.
 
-ghost use Rattle.masking3.specs.Examples.{ComparesRuns, MasksCredentials, MasksGetattrs, MasksOwners, MasksReaddirs};
+ghost use Rattle.masking3.specs.Examples.{ComparesRuns, MasksCredentials, MasksGetattrs, MasksOwners, MasksReaddirPlus, MasksReaddirs};
 
 /// Three GETATTR replies: times and space are 0, and ids of files and of file systems are numbered apart.
 pub fn getattr_replies()
@@ -11,6 +11,12 @@ pub fn getattr_replies()
 /// Two READDIR calls and a reply: a cookie has one number in both, and the first one stays 0.
 pub fn readdir_cookies()
     ensures { MasksReaddirs }
+{}
+
+/// Two READDIRPLUS replies: an entry's id has the number of the id in its attributes, and no number of a
+/// cookie.
+pub fn readdirplus_entries()
+    ensures { MasksReaddirPlus }
 {}
 
 /// An AUTH_SYS credential: the stamp is 0, and the name of the machine is empty.
