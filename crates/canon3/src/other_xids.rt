@@ -66,7 +66,7 @@ impl<S: BuildHasher + Drop> OtherXids<S> {
         Ok(next)
     }
 
-    /// Drops the xids, and keeps the hasher and the memory. Its cost does not depend on them.
+    /// Drops the xids, and keeps the hasher. Its cost does not depend on them.
     pub(crate) fn clear(&mut self)
         ensures { self.new ≡ [] }
     {

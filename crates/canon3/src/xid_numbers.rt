@@ -188,7 +188,7 @@ impl<S: BuildHasher + Drop> XidNumbers<S> {
         number_among(self.counted.len(), &mut self.others, xid)
     }
 
-    /// Drops the xids, and keeps the hasher and the memory. Its cost does not depend on them.
+    /// Drops the xids, and keeps the hasher. Its cost does not depend on them.
     pub(crate) fn clear(&mut self)
         ensures { HoldsDistinct nat_eq self.new [] }
     {

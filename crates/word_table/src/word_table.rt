@@ -18,10 +18,9 @@ const BEHIND: usize = 32;
 /// Words, each with a value of at least 1. The hasher affects no result.
 #[derive(Drop)]
 pub struct WordTable<S: BuildHasher + Drop> {
+    alloc: Global,
     // Each word is at its home or after it, with no empty slot between the two.
     slots: Vec<Slot>,
-    // The slots before they grew last, whose memory is used again.
-    spare: Vec<Slot>,
     // The number of homes minus one, which has only ones in its last bits.
     mask: usize,
     taken: usize,
@@ -77,8 +76,8 @@ impl<S: BuildHasher + Drop> WordTable<S> {
         ensures { result ≡ [] }
     {
         WordTable {
+            alloc,
             slots: Vec::new(alloc),
-            spare: Vec::new(alloc),
             mask: 0,
             taken: 0,
             hasher,
@@ -126,13 +125,14 @@ impl<S: BuildHasher + Drop> WordTable<S> {
             .saturating_mul(2)
             .saturating_add(1)
             .max(LEAST_MASK);
-        refill(&self.slots, &mut self.spare, &self.hasher, mask)?;
-        std::mem::swap(&mut self.slots, &mut self.spare);
+        let mut slots = Vec::new(self.alloc);
+        refill(&self.slots, &mut slots, &self.hasher, mask)?;
+        self.slots = slots;
         self.mask = mask;
         Ok(())
     }
 
-    /// Drops the words, and keeps the hasher and the memory. Its cost does not depend on them.
+    /// Drops the words, and keeps the hasher. Its cost does not depend on them.
     pub fn clear(&mut self)
         ensures { self.new ≡ [] }
     {

@@ -111,7 +111,7 @@ impl<S: BuildHasher + Drop> OtherCalls<S> {
         Ok(true)
     }
 
-    /// Forgets all calls, and keeps the memory. Its cost does not depend on them.
+    /// Forgets all calls. Its cost does not depend on them.
     pub(crate) fn clear(&mut self)
         ensures { self.new ≡ [] }
     {
