@@ -1,6 +1,6 @@
 -- The side of a message, and the items of replies as items of calls.
 use Rattle.std.proofs.Common.{◌≡◌, ℕ, ◌≤◌, Bool, false, List, [], ◌∷◌, ◌++◌, length, map, refl, sym, ap, ap₂, ◌∙◌, subst, append_assoc, append-nil, arith}
-use Rattle.std.specs.Prelude.{⊤, ◌==◌, ◌&&◌, ◌||◌, IsTrue, bytes_eq, if◌then◌else◌, None}
+use Rattle.std.specs.Prelude.{◌==◌, ◌&&◌, ◌||◌, IsTrue, bytes_eq, if◌then◌else◌, None}
 use Rattle.std.specs.List.{flat_map}
 use Rattle.std.proofs.lemmas.Bool.{le-leb}
 use Rattle.std.proofs.lemmas.Bool.Decides.{Decides-eqb}
@@ -21,7 +21,7 @@ use Rattle.canon3.proofs.Lemmas.Numbers.RankLemmas.{by_test}
 use Rattle.masking3.specs.declared.class.Class.{Class}
 use Rattle.masking3.specs.declared.ways.Ways.{Ways}
 use Rattle.masking3.specs.Classes.{class_of_word}
-use Rattle.masking3.specs.Masked.{masked_item, masked_items, value_in, value_where, values, values_in, values_in_entry}
+use Rattle.masking3.specs.Masked.{masked_items, value_in, value_where, values, values_in, values_in_entry}
 use Rattle.masking3.specs.machinery.MaskingWriter.{as_in_call, as_in_calls, entry_as_call, values_so_far}
 use Rattle.masking3.specs.machinery.MessageSide.{BeginsOn, mtype_of, side_by_mtype}
 use Rattle.masking3.proofs.Lemmas.Classes.ClassLemmas.{seen_alike}

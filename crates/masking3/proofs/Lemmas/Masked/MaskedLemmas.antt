@@ -13,7 +13,6 @@ use Rattle.capture3.specs.Entry.{Entry, Begin, Call, Turn, Reply, Close, End}
 use Rattle.canon3.specs.Bytes.{bytes_of, entry_bytes}
 use Rattle.canon3.specs.Laws.{AreFirst}
 use Rattle.canon3.specs.Pairing.{Member, here}
-use Rattle.canon3.specs.Rank.{rank}
 use Rattle.canon3.specs.machinery.FormSteps.{are_some, magic_unless}
 use Rattle.canon3.proofs.Lemmas.Numbers.RankLemmas.{by_test, member-append_left, member-append_right, rank-append}
 use Rattle.masking3.specs.declared.class.Class.{Class}

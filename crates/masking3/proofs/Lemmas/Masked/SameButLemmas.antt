@@ -3,7 +3,6 @@ use Rattle.std.proofs.Common.{◌≡◌, inl, inr, ⊎_elim, ℕ, ◌<◌, ◌^�
 use Rattle.std.specs.Prelude.{⊤, ◌==◌, ◌&&◌, not, nat_eq, Option, None, Some}
 use Rattle.std.specs.List.{AllByRecursion}
 use Rattle.std.proofs.lemmas.Bool.Decides.{Decides-eqb}
-use Rattle.std.proofs.lemmas.Grind.{flat_map-append}
 use Rattle.xdr3.specs.Item.{Item, Word, Hyper, Fixed, WriteVerf, Opaque, Rest}
 use Rattle.capture3.specs.declared.fault.Side.{Side}
 use Rattle.capture3.specs.declared.fault.Side.TheVariants.{Client, Server}
@@ -13,7 +12,7 @@ use Rattle.canon3.specs.Rank.{rank}
 use Rattle.canon3.specs.Renaming.{IsPlain, RenamesItem, handle, verifier, plain, Pairwise, none, more, RenamesMessage, message, Renames, ended, begins, calls, turns, replies, closes, ends, Same}
 use Rattle.canon3.proofs.Lemmas.Canonical.OneFormLemmas.{In, pairwise-append}
 use Rattle.canon3.proofs.Lemmas.Renaming.PairingLemmas.{Agree, agree-from, agree-graph, agree-linked, agree-turned, graph, kept, linked, member-graph, member-kept, member-linked, member-turned, one_to_one-kept, turned}
-use Rattle.canon3.proofs.Lemmas.Numbers.RankLemmas.{by_test, member-append_cases, member-append_left, member-append_right, rank_paired, same_rank}
+use Rattle.canon3.proofs.Lemmas.Numbers.RankLemmas.{by_test, member-append_cases, rank_paired, same_rank}
 use Rattle.masking3.specs.declared.class.Class.{Class}
 use Rattle.masking3.specs.declared.ways.Way.{Way}
 use Rattle.masking3.specs.declared.ways.Way.TheVariants.{Keep, Zero, Number}
