@@ -5,32 +5,35 @@ Each is put together from its messages, part by part, so that its bytes can be r
 them in a recording, in packets.py.
 """
 import pathlib
+from collections.abc import Sequence
 
 from messages import (
     ACCES, AUTH_NONE, BADHANDLE, BADTYPE, BAD_COOKIE, CHR, DATA_SYNC, DIR, DQUOT, EXCLUSIVE, EXIST, FIFO, FILE_SYNC,
     GUARDED, INVAL, IO, JUKEBOX, LNK, MAGIC, MLINK, MOUNT, MOUNT_PROCEDURES, NFS, NFSACL, NFS_PROCEDURES, NOENT, NOSPC,
-    NOTEMPTY, NOT_SYNC, NOW, REG, ROFS, SET_TO_SERVER_TIME, SOCK, STALE, TOOSMALL, UNCHECKED, UNSTABLE, XDEV, array,
-    auth_sys, call, capture, dirop, entries, entry, entryplus, exports, failed, fattr, fh, guard, how, hyper,
-    in_turn, interleaved, made, mountlist, nfstime, ok, opaque, post_op_attr, record, sattr, set_to_client_time, success, wcc, word)
+    NOTEMPTY, NOT_SYNC, NOW, REG, ROFS, SET_TO_SERVER_TIME, SOCK, STALE, TOOSMALL, UNCHECKED, UNSTABLE, XDEV,
+    Bodies, array, auth_sys, call, capture, dirop, entries, entry, entryplus, exports, failed, fattr, fh, fragment, guard, how, hyper,
+    in_turn, interleaved, made, mountlist, nfstime, ok, opaque, post_op_attr, sattr, set_to_client_time, success, wcc, word)
 from packets import recording
 
 HERE = pathlib.Path(__file__).parent
+# The name of a procedure, its arguments and its results.
+Exchange = tuple[str, bytes, bytes]
 
 
 # --- Small captures ---
 
-NULL = ([call(0xdeadbeef, NFS, 3, 0)], [success(0xdeadbeef)])
+NULL: Bodies = ([call(0xdeadbeef, NFS, 3, 0)], [success(0xdeadbeef)])
 HANDLE = bytes.fromhex('000000056162636465000000')
 ATTRIBUTES = bytes.fromhex(
     '00000002 000001ed 00000002 00000000 00000000 0000000000001000 0000000000001000 00000000 00000000'
     '0000000000000001 0000000000000002 00000001 00000000 00000001 00000000 00000001 00000000')
-GETATTR = ([call(7, NFS, 3, 1, HANDLE)], [success(7, word(0) + ATTRIBUTES)])
+GETATTR: Bodies = ([call(7, NFS, 3, 1, HANDLE)], [success(7, word(0) + ATTRIBUTES)])
 LOOKUP = call(9, NFS, 3, 3, dirop(b'abcde', b'a'))
 
 
 # --- Every procedure ---
 
-def handle(fileid):
+def handle(fileid: int) -> bytes:
     """A handle of 20 bytes as a server makes it: a file system's number and a file's."""
     return bytes.fromhex('0100060142a1b2c300000000') + hyper(fileid)
 
@@ -57,7 +60,7 @@ CREATE_VERIFIER = bytes.fromhex('5dee1f005dee1f01')
 START = bytes(8)  # the cookie verifier with which a listing begins
 
 # Arguments and results, in the order of the procedures' numbers (RFC 1813, section 3.3).
-NFS_EXCHANGES = [
+NFS_EXCHANGES: list[Exchange] = [
     ('NULL', b'', b''),
 
     ('GETATTR', fh(ROOT), ok(ROOT_ATTRIBUTES)),
@@ -144,7 +147,7 @@ NFS_EXCHANGES = [
 HOME = opaque(b'/export/home')
 
 # Arguments and results, in the order of the procedures' numbers (RFC 1813, section 5.2); 1 and 0 are flavors.
-MOUNT_EXCHANGES = [
+MOUNT_EXCHANGES: list[Exchange] = [
     ('NULL', b'', b''),
     ('MNT', HOME, ok(fh(ROOT), array([word(1), word(0)]))),
     ('MNT', opaque(b'/export/secret'), failed(ACCES)),
@@ -158,7 +161,8 @@ MOUNT_EXCHANGES = [
 GET_ACL = (fh(ROOT) + word(1), ok(post_op_attr(ROOT_ATTRIBUTES), word(1), word(0), word(0), word(0), word(0)))
 
 
-def conversation(program, procedures, exchanges, first_xid, credential):
+def conversation(program: int, procedures: Sequence[str], exchanges: Sequence[Exchange], first_xid: int,
+                 credential: bytes) -> tuple[list[bytes], list[bytes]]:
     """The calls and replies of a connection. A NULL call has no credential, as clients send it."""
     calls, replies = [], []
     for xid, (name, arguments, results) in enumerate(exchanges, first_xid):
@@ -168,7 +172,7 @@ def conversation(program, procedures, exchanges, first_xid, credential):
     return calls, replies
 
 
-def every_procedure():
+def every_procedure() -> tuple[Bodies, Bodies, Bodies]:
     """A client asks the mount server; then the file server; then, in a new connection, for its COMMIT once more."""
     credential = auth_sys(0x1d2c, b'client.example', 1000, 1000, [4, 24, 1000])
     mount = conversation(MOUNT, MOUNT_PROCEDURES, MOUNT_EXCHANGES, 0x7a000001, credential)
@@ -181,7 +185,7 @@ def every_procedure():
 
 
 # Connections with one fault each.
-FAULTS = {
+FAULTS: dict[str, list[Bodies]] = {
     'bad_client_record': [([call(7, NFS, 3, 1, HANDLE, mtype=2)], [])],
     'bad_server_record': [NULL, ([call(1, NFS, 3, 0)], [success(1), success(2)])],
     'bad_status': [(GETATTR[0], [success(7, word(3))])],
@@ -190,9 +194,9 @@ FAULTS = {
 }
 
 
-def recorded(connections):
+def recorded(connections: Sequence[Bodies]) -> bytes:
     """A recording of connections, in which each record is a packet."""
-    return recording(*([[record(body)[4:] for body in bodies] for bodies in connection] for connection in connections))
+    return recording(*([[fragment(body) for body in bodies] for bodies in connection] for connection in connections))
 
 
 FILES = {

@@ -33,7 +33,7 @@ class Talk:
     """A connection, whose segments are told one by one as frames."""
 
     def __init__(self, port: int = 700, service: int = 2049, hosts: tuple[str, str] = (CLIENT, SERVER),
-                 first: tuple[int, int] = (1_000, 5_000), vlan: int | None = None):
+                 first: tuple[int, int] = (1_000, 5_000), vlan: int | None = None) -> None:
         self.ports, self.hosts, self.next = (port, service), hosts, list(first)
         self.tags = [] if vlan is None else [(VLAN, vlan)]
 

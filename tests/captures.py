@@ -12,21 +12,31 @@ import pathlib
 import re
 import subprocess
 import tempfile
+from collections.abc import Callable, Iterable, Sequence
 
-from containers import Container
+from containers import Container, bodies_of
 from running import command_of, try_all, words_of
-from texts import bytes_of, capture_of, chunk, fragment, mixed, mixed_of, one_fragment, records_of, word
+from texts import Chunk, Record, bytes_of, capture_of, mixed, mixed_of, records_of, sent
+import messages
+from messages import chunk, fragment
 
 HERE = pathlib.Path(__file__).resolve().parent
 TIMEOUT = 60
 # Longer captures are not cut into single bytes, nor cut short.
 SMALL = 2_000
 COUNTS = re.compile(r'ok connections=\d+ calls=(\d+) replies=(\d+) handles=\d+')
+PLACE = re.compile(r'connection (\d+) (client|server) record (\d+)')
+# The lines of a row by their first word.
+Row = dict[str, str]
+# Makes the chunks of a connection of version 2.
+Order = Callable[[Sequence[Record]], list[Chunk]]
+# The status, standard output and standard error of a run.
+Answer = tuple[int, str, str]
 
 
-def rows_of(name):
+def rows_of(name: str) -> list[tuple[str, Row]]:
     """The rows of a file, each a comment and the lines up to `line`."""
-    rows, row, comment = [], {}, ''
+    rows, row, comment = list[tuple[str, Row]](), Row(), ''
     for text in (HERE / name).read_text().splitlines():
         if text.startswith('#'):
             comment = text.strip('# -')
@@ -35,29 +45,28 @@ def rows_of(name):
             row[key] = value
             if key == 'line':
                 rows.append((comment, row))
-                row = {}
+                row = Row()
     return rows
 
 
-def in_pieces(body):
+def in_pieces(body: bytes) -> bytes:
     """A record in three fragments, one of them empty, each byte a chunk."""
     return b''.join(chunk(bytes([byte])) for byte in in_fragments(body))
 
 
-def in_fragments(body):
-    front = min(5, len(body))
-    return word(front) + body[:front] + word(0) + fragment(body[front:])
+def in_fragments(body: bytes) -> bytes:
+    return fragment(body[:5], is_last=False) + fragment(b'', is_last=False) + fragment(body[5:])
 
 
-def server_first(records):
+def server_first(records: Sequence[Record]) -> list[Chunk]:
     """The chunks of a connection of version 2: the server's stream whole, and then the client's."""
-    streams = [(side, b''.join(fragment(body) for whose, body in records if whose == side)) for side in '<>']
+    streams = [(side, b''.join(map(fragment, sent(records, side)))) for side in '<>']
     return [(side, stream) for side, stream in streams if stream]
 
 
-def byte_by_byte(records):
+def byte_by_byte(records: Sequence[Record]) -> list[Chunk]:
     """The same, both sides in turn."""
-    streams = [[(side, bytes([byte])) for whose, body in records if whose == side for byte in in_fragments(body)] for side in '<>']
+    streams = [[(side, bytes([byte])) for body in sent(records, side) for byte in in_fragments(body)] for side in '<>']
     return [piece for pair in itertools.zip_longest(*streams) for piece in pair if piece]
 
 
@@ -100,89 +109,35 @@ class Runs:
         return form
 
 
-def accepted(runs, line, form):
+def accepted(runs: Runs, line: str, form: bytes) -> None:
     """Of a capture `a` that is accepted, with its canonical form `a.out`."""
     runs.want('canon of canon', runs.same_answer('a.out', line), form)
     for pair in (('a', 'a.out'), ('a.out', 'a'), ('a', 'a')):
         runs.want('same %s %s' % pair, runs.run('same', *pair), (0, 'same\n', ''))
     status, listing, error = runs.run('show', 'a')
     runs.want('show', (status, error), (0, ''))
-    runs.want('lines', listing.count('\n'), sum(int(n) for n in COUNTS.fullmatch(line).groups()))
+    counts = COUNTS.fullmatch(line)
+    runs.want('lines', listing.count('\n'), sum(map(int, counts.groups())) if counts else line)
 
 
-def front_of(capture, line):
+def front_of(capture: bytes, line: str) -> tuple[bytes, int]:
     """What comes before the fault that the line tells, as a capture of its own, and how many of its last bytes are not reached.
-    The fault is in the record after it, or at the byte of the file."""
-    place = re.match(r'(?:connection (\d+) (client|server) record (\d+)|file (\d+))', line)
-    last = int(place[4]) if place[4] else len(capture)
-    record = place[4] is None and (int(place[1]), place[2], int(place[3]))
-    out, at, number = bytearray(bytes_of('MAGIC')), 8, 0
-    while last >= at + 4 and capture[at:at + 4] == word(1):
-        out += word(1)
-        number += 1
-        streams, whole, at = streams_of(capture, at + 4, last)
-        for side, stream in zip(('client', 'server'), streams):
-            bodies, is_whole = bodies_of(stream), whole > (side == 'server')
-            if record and record[:2] == (number, side):
-                bodies, is_whole = bodies[:record[2] - 1], False
-            out += b''.join(one_fragment(body) for body in bodies)
-            if not is_whole:
-                return bytes(out) + word(0) * (3 if side == 'client' else 2), 12 if side == 'client' else 8
-            out += word(0)
-    # The last word 0 is reached where nothing stands after it, and the magic with the first connection.
-    return bytes(out) + word(0), 4 if number else 12
+    The fault is in a record, or is the first of the container."""
+    place = PLACE.match(line)
+    fault = (int(place[1]), place[2]) if place else None
+    connections = list[tuple[list[bytes], list[bytes]]]()
+    for number, connection in enumerate(Container(capture).connections, 1):
+        connections.append(([], []))
+        for side, stream, bodies in zip(('client', 'server'), connection.streams, connections[-1]):
+            is_at_fault = fault == (number, side)
+            bodies += bodies_of(stream)[:int(place[3]) - 1 if place and is_at_fault else None]
+            if is_at_fault or connection.whole <= (side == 'server'):
+                return messages.capture(*connections), 12 if side == 'client' else 8
+    # The last word 0 is reached if nothing follows it, and the magic with the first connection.
+    return messages.capture(*connections), 4 if connections else 12
 
 
-def streams_of(capture, at, last):
-    """The streams of a connection up to a place, how many of them are whole, and where they end."""
-    if capture[:8] == bytes_of('MAGIC2'):
-        return gathered(capture, at, last)
-    client, at, is_whole = stream_of(capture, at, last)
-    if not is_whole:
-        return (client, b''), 0, at
-    server, at, is_whole = stream_of(capture, at, last)
-    return (client, server), 1 + is_whole, at
-
-
-def gathered(capture, at, last):
-    """The same of version 2: both, where the side word 0 is there, or none is looked at."""
-    streams = [b'', b'']
-    while last >= at + 4:
-        side, size = (int.from_bytes(capture[place:place + 4], 'big') for place in (at, at + 4))
-        if side == 0:
-            return streams, 2, at + 4
-        streams[side - 1] += capture[at + 8:at + 8 + size]
-        at += 8 + size
-    return [b'', b''], 0, at
-
-
-def stream_of(capture, at, last):
-    """The bytes of a stream's chunks up to a place, where it ends, and whether its word 0 is there."""
-    stream = b''
-    while last >= at + 4:
-        size = int.from_bytes(capture[at:at + 4], 'big')
-        if size == 0:
-            return stream, at + 4, True
-        stream += capture[at + 4:min(at + 4 + size, last)]
-        at += 4 + size
-    return stream, at, False
-
-
-def bodies_of(stream):
-    """The bodies of the whole records."""
-    bodies, body, at = [], b'', 0
-    while at + 4 <= len(stream):
-        head = int.from_bytes(stream[at:at + 4], 'big')
-        size = head & 0x7fffffff
-        if at + 4 + size > len(stream):
-            break
-        body, at = body + stream[at + 4:at + 4 + size], at + 4 + size
-        if head >> 31:
-            bodies, body = bodies + [body], b''
-    return bodies
-
-
-def refused(runs, capture, line):
+def refused(runs: Runs, capture: bytes, line: str) -> None:
     """Of a capture `a` that is refused. What comes before the fault is listed and written, and nothing else."""
     front, missing = front_of(capture, line)
     runs.write('front', front)
@@ -201,12 +156,13 @@ def refused(runs, capture, line):
     runs.want('same good a', runs.run('same', 'good', 'a'), (2, '', 'second: ' + line + '\n'))
 
 
-def cut_short(runs, capture, line, every):
+def cut_short(runs: Runs, capture: bytes, line: str, every: bool) -> None:
     """A front of a capture is cut at its length, or has the fault of the whole."""
     if line.endswith('AfterEnd'):
         return
-    known, lengths = {}, range(len(capture)) if every else sorted({len(capture) * k // 5 for k in range(5)} | {max(len(capture) - 1, 0)})
-    for n in lengths:
+    known = dict[bytes, list[Answer]]()
+    fifths = {len(capture) * k // 5 for k in range(5)} | {max(len(capture) - 1, 0)}
+    for n in range(len(capture)) if every else sorted(fifths):
         runs.write('front', capture[:n])
         status, out, error = runs.run('check', 'front')
         cut = 'file %d: CaptureCut\n' % n
@@ -216,7 +172,7 @@ def cut_short(runs, capture, line, every):
             as_the_model(runs, Container(capture[:n]), known)
 
 
-def as_the_model(runs, container, known):
+def as_the_model(runs: Runs, container: Container, known: dict[bytes, list[Answer]]) -> None:
     """`check` and `show` of `front` answer what the model tells; `known` has what they answer of the older files so far."""
     older = container.older()
     if older not in known:
@@ -227,7 +183,7 @@ def as_the_model(runs, container, known):
                   container.answer(command, answer))
 
 
-def in_version_2(runs, text, line, form, orders):
+def in_version_2(runs: Runs, text: str, line: str, form: bytes | None, orders: Iterable[Order]) -> None:
     """The same records in version 2 have the same answers, however the chunks stand."""
     listed = runs.run('show', 'a')
     for order in orders:
@@ -237,12 +193,12 @@ def in_version_2(runs, text, line, form, orders):
         runs.want('show version 2, ' + name, runs.run('show', name), listed)
 
 
-def capture_in(row):
-    makes = {'capture': capture_of, 'mixed': mixed_of, 'file': bytes_of}
+def capture_in(row: Row) -> bytes:
+    makes: dict[str, Callable[[str], bytes]] = {'capture': capture_of, 'mixed': mixed_of, 'file': bytes_of}
     return next(make(row[key]) for key, make in makes.items() if key in row)
 
 
-def try_capture(program, row):
+def try_capture(program: str, row: Row) -> list[str]:
     with tempfile.TemporaryDirectory(prefix='nfs3canon') as folder:
         runs, line = Runs(program, folder), row['line']
         capture = capture_in(row)
@@ -268,7 +224,7 @@ def try_capture(program, row):
         return runs.wrong
 
 
-def try_pair(program, row):
+def try_pair(program: str, row: Row) -> list[str]:
     with tempfile.TemporaryDirectory(prefix='nfs3canon') as folder:
         runs, line = Runs(program, folder), row['line']
         runs.write('a', capture_of(row['first']))
@@ -286,7 +242,7 @@ def try_pair(program, row):
         return runs.wrong
 
 
-def main():
+def main() -> None:
     tries = [(trial, *row) for trial, file in ((try_capture, 'captures.rows'), (try_pair, 'pairs.rows')) for row in rows_of(file)]
     try_all(words_of(__doc__), [('%s: %s' % (comment, row['line']), trial, row) for trial, comment, row in tries], 2 * (os.cpu_count() or 2))
 

@@ -17,10 +17,12 @@ from html.parser import HTMLParser
 
 from captures import Runs
 from running import try_all, words_of
-from traffic import NFS, NFSACL, Names, Traffic, auth_sys, call, dirop, fattr, fh, hyper, messages, ok, post_op_attr, success, wcc, word
+from traffic import Names, Traffic
 
 TOP = pathlib.Path(__file__).resolve().parent.parent
-sys.path.insert(0, str(TOP / 'tools'))
+sys.path[:0] = [str(TOP / 'tools'), str(TOP / 'examples')]
+import messages  # noqa: E402
+from messages import NFS, NFSACL, auth_sys, call, dirop, fattr, fh, hyper, ok, post_op_attr, success, wcc, word  # noqa: E402
 from nfs3tools.classes import CLASSES, Way, default_mask, mask_of, told  # noqa: E402
 from nfs3tools.matching import aligned, increasing, matched  # noqa: E402
 
@@ -127,7 +129,7 @@ class Made:
         space = b''.join(hyper(self.space + number) for number in range(6)) + word(self.time & 0xff)
         entries = messages.entries(self.attributes(0), self.cookieverf, [
             messages.entryplus(self.ids[file], FILES[file], self.cookies[file], self.attributes(file), self.handles[file])
-            for file in (1, 2)], 1)
+            for file in (1, 2)], is_end=True)
         return [
             (1, root, ok(self.attributes(0))),
             (3, root + messages.opaque(b'x'), ok(x, post_op_attr(self.attributes(1)), post_op_attr())),
@@ -262,7 +264,7 @@ def directories(place: Comparisons) -> None:
     def listing(made: Made, *files: int) -> list[tuple[int, bytes, bytes]]:
         entries = [messages.entryplus(made.ids[file], FILES[file], made.cookies[file], made.attributes(file), made.handles[file])
                    for file in files]
-        results = ok(messages.entries(made.attributes(0), made.cookieverf, entries, 1))
+        results = ok(messages.entries(made.attributes(0), made.cookieverf, entries, is_end=True))
         return [(17, fh(made.handles[0]) + hyper(0) + bytes(8) + word(512) + word(4096), results)]
     first, second = Made(15), Made(16)
     place.put('a', first.conversation(listing(first, 1, 2)))

@@ -19,9 +19,11 @@ import tracing
 from captures import Runs
 from outputs import AS_IT_WAS, PACKED, SETTINGS, Setting
 from running import command_of, try_all, words_of
-from texts import fragment, mixed
+from texts import mixed
 from tracing import Fault
-from traffic import NFS, NFSACL, Names, Traffic, call, in_version_2, messages, streams_of, success
+from traffic import Names, Traffic, in_version_2, streams_of
+import messages
+from messages import NFS, NFSACL, call, fragment, success
 
 EXAMPLES = pathlib.Path(__file__).resolve().parent.parent / 'examples'
 OUT_OF_MEMORY, READ_FAILED, WRITE_FAILED = 'out of memory\n', 'read failed\n', 'write failed\n'

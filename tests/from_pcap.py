@@ -18,12 +18,13 @@ import sys
 import typing
 
 from recordings import (
-    ACK, CLIENT, FIN, NANOSECONDS, RST, SERVER, SYN, Talk, block, cooked, cooked_2, datagram, enhanced, ethernet, extended,
-    fragments, fragments_6, interface, loopback, obsolete, pcap, pcapng, section, simple)
+    NANOSECONDS, block, cooked, cooked_2, enhanced, extended, fragments, fragments_6, interface, loopback, obsolete, pcapng, section, simple)
 from running import try_all, words_of
 from scripts import (
     ALL, CALLS, REPLIES, TOP, Tools, exchange, in_fragments, packed, stream, taken_of, tried, whole)
-from traffic import NFS, call, messages, success
+import messages
+from messages import NFS, call, success
+from packets import ACK, CLIENT, FIN, RST, SERVER, SYN, Talk, datagram, ethernet, pcap
 from nfs3tools import captures, streams
 from nfs3tools.captures import capture_of
 from nfs3tools.recordings import Frame

@@ -21,7 +21,9 @@ import tempfile
 from containers import Container
 from masking import Masker, Renamer, Way, masked_bodies
 from running import command_of
-from traffic import Names, Traffic, in_pieces, in_version_2, messages, streams_of, word
+from traffic import Names, Traffic, in_pieces, in_version_2, streams_of
+import messages
+from messages import word
 
 HERE = pathlib.Path(__file__).resolve().parent
 TIMEOUT, LAWS_OF_A_CAPTURE, FLIPS, CAPTURES_AT_ONCE = 60, 2, 5, 25

@@ -23,9 +23,9 @@ import time
 from captures import Runs
 from outputs import PART
 from running import command_of, try_all, words_of
-from texts import fragment, mixed
-from traffic import (
-    CLIENT, MAGIC_2, NFS, NFSACL, call, dirop, fh, hyper, in_turn, interleaved, messages, success, word)
+from texts import mixed
+import messages
+from messages import CLIENT, MAGIC_2, NFS, NFSACL, call, dirop, fh, fragment, hyper, in_turn, interleaved, success, word
 
 HERE = pathlib.Path(__file__).resolve().parent
 TIMEOUT = 60

@@ -18,8 +18,10 @@ from collections.abc import Callable, Iterable, Iterator
 
 from captures import Runs
 from running import try_all, words_of
-from texts import fragment, mixed
-from traffic import COMMIT, NFS, call, dirop, fh, hyper, messages, ok, post_op_attr, success, wcc, word
+from texts import mixed
+from traffic import COMMIT
+import messages
+from messages import NFS, call, dirop, fh, fragment, hyper, ok, post_op_attr, success, wcc, word
 
 # More than any table of a connection or of a capture has in the other tests.
 MANY = 1_500_000

@@ -12,16 +12,18 @@ import os
 import random
 import typing
 
-from recordings import Talk, ethernet, fragments, pcap, pcapng
+from recordings import fragments, pcapng
 from running import try_all, words_of
-from scripts import TOP, Streams, Taken, Tools, lines_of, stream, taken_of, tried, whole
+from scripts import TOP, Streams, Tools, stream, taken_of, tried, whole
 from traffic import Names, Traffic
+from packets import Talk, ethernet, pcap
 from nfs3tools import streams
 from nfs3tools.captures import capture_of
+from nfs3tools.messages import lines_of
 from nfs3tools.places import SIDES
 from nfs3tools.recordings import Frame
 from nfs3tools.segments import Segments
-from nfs3tools.taken import NotTaken
+from nfs3tools.taken import NotTaken, Taken
 
 
 def frames_of(recording: bytes) -> list[bytes]:

@@ -4,15 +4,11 @@ import sys
 from collections.abc import Iterable, Iterator
 from pathlib import Path
 
-sys.path.insert(0, str(Path(__file__).resolve().parent.parent / 'tools'))
+TOP = Path(__file__).resolve().parent.parent
+sys.path[:0] = [str(TOP / 'tools'), str(TOP / 'examples')]
 from layouts import Item, Message, Procedure, procedure_of  # noqa: E402
+from messages import Bodies, word  # noqa: E402
 from nfs3tools.classes import CLASSES, Mask, ValueClass, Way  # noqa: E402
-
-Bodies = tuple[list[bytes], list[bytes]]
-
-
-def word(number: int) -> bytes:
-    return number.to_bytes(4, 'big')
 
 
 class Masker:

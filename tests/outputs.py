@@ -2,20 +2,23 @@
 import os
 import re
 import stat
+import sys
 from dataclasses import dataclass
+from pathlib import Path
 from typing import Optional
 
 import tracing
 from running import command_of
-from texts import chunk, word
 from tracing import Answer, Fault
-from traffic import messages
+
+sys.path.insert(0, str(Path(__file__).resolve().parent.parent / 'examples'))
+from messages import chunk, version_1  # noqa: E402
 
 AS_IT_WAS = b'as it was'
 # What a file is called that is written beside the name of the output.
 PART = re.compile(r'\.nfs3canon-[0-9a-f]{16}')
 STREAMS = {'c': b'\x01', 's': b'\x02'}
-PACKED = messages.MAGIC + word(1) + b''.join(chunk(stream) + word(0) for stream in STREAMS.values()) + word(0)
+PACKED = b''.join(version_1([([chunk(STREAMS['c'])], [chunk(STREAMS['s'])])]))
 NULL_DEVICE = os.makedev(1, 3)
 Found = dict[str, tuple[str, object]]
 

@@ -5,8 +5,7 @@ import sys
 import typing
 
 sys.path.insert(0, str(pathlib.Path(__file__).resolve().parent.parent / 'examples'))
-from packets import (  # noqa: E402, F401
-    ACK, CLIENT, FIN, IPV4, IPV6, RST, SERVER, SYN, VLAN, Talk, datagram, ethernet, pcap, segment)
+from packets import IPV4, IPV6  # noqa: E402
 
 MICROSECONDS, NANOSECONDS = 0xa1b2c3d4, 0xa1b23c4d
 SECTION, INTERFACE, OBSOLETE, SIMPLE, NAMES, ENHANCED = 0x0a0d0d0a, 1, 2, 3, 4, 6

@@ -8,11 +8,12 @@ import tempfile
 import typing
 
 from captures import TIMEOUT, Runs
-from recordings import Talk
-from traffic import NFS, call, messages, success
 
 TOP = pathlib.Path(__file__).resolve().parent.parent
-sys.path.insert(0, str(TOP / 'tools'))
+sys.path[:0] = [str(TOP / 'tools'), str(TOP / 'examples')]
+import messages  # noqa: E402
+from messages import NFS, call, success  # noqa: E402
+from packets import Talk  # noqa: E402
 from nfs3tools.captures import capture_of  # noqa: E402
 from nfs3tools.messages import lines_of  # noqa: E402
 from nfs3tools.recordings import Source  # noqa: E402

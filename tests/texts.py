@@ -1,5 +1,17 @@
 """Captures from texts."""
 import re
+import sys
+from collections.abc import Callable, Iterable
+from pathlib import Path
+
+sys.path.insert(0, str(Path(__file__).resolve().parent.parent / 'examples'))
+from messages import CLIENT, SERVER, chunk, fragment, record, version_1, version_2  # noqa: E402
+
+# A record: its side, `>` for the client and `<` for the server, and its body.
+Record = tuple[str, bytes]
+# A chunk of version 2: its side in the same way, and its content.
+Chunk = tuple[str, bytes]
+SIDE_WORDS = {'>': CLIENT, '<': SERVER}
 
 # Words that stand for bytes in hexadecimal.
 WORDS = {
@@ -21,7 +33,7 @@ WORDS = {
 }
 
 
-def bytes_of(text):
+def bytes_of(text: str) -> bytes:
     """Bytes from hexadecimal words; `61*1024` is 1,024 times the byte 61."""
     out = b''
     for word in text.split():
@@ -33,52 +45,26 @@ def bytes_of(text):
     return out
 
 
-def word(n):
-    return n.to_bytes(4, 'big')
-
-
-def fragment(body):
-    """A record of one fragment."""
-    return word(0x80000000 + len(body)) + body
-
-
-def one_fragment(body):
-    """A record that is one chunk and one fragment."""
-    return chunk(fragment(body))
-
-
-def chunk(content):
-    return word(len(content)) + content
-
-
-def records_of(text):
-    """The records of each connection in the order of the text, each its side and its body: `>` begins a call's body, `<` a reply's,
-    and `|` the next connection."""
+def records_of(text: str) -> list[list[Record]]:
+    """The records of each connection in the order of the text: `>` begins a call's body, `<` a reply's, and `|` the next connection."""
     return [[(side, bytes_of(body)) for side, body in re.findall(r'([<>])([^<>]*)', connection)] for connection in text.split('|')]
 
 
-def capture_of(text, record=one_fragment):
-    """A capture of version 1 of these records."""
-    out = bytes_of('MAGIC')
-    for records in records_of(text):
-        client, server = (b''.join(record(body) for side, body in records if side == mine) for mine in '><')
-        out += word(1) + client + word(0) + server + word(0)
-    return out + word(0)
+def sent(records: Iterable[Record], mine: str) -> list[bytes]:
+    """The bodies of the records of one side."""
+    return [body for side, body in records if side == mine]
 
 
-# --- Version 2 ---
+def capture_of(text: str, chunks: Callable[[bytes], bytes] = record) -> bytes:
+    """A capture of version 1 of these records; `chunks` makes the chunks of a record from its body."""
+    return b''.join(version_1((map(chunks, sent(records, '>')), map(chunks, sent(records, '<'))) for records in records_of(text)))
 
-SIDES = {'>': word(1), '<': word(2)}
 
-
-def mixed_of(text):
-    """A capture of version 2 of these records, each a chunk and a fragment; the chunks stand in the order of the text."""
+def mixed_of(text: str) -> bytes:
+    """A capture of version 2 of these records, each a chunk and a fragment; the chunks are in the order of the text."""
     return mixed([(side, fragment(body)) for side, body in records] for records in records_of(text))
 
 
-def mixed(connections):
-    """A capture of version 2 of connections, each a list of the sides and the bytes of its chunks."""
-    out = bytes_of('MAGIC2')
-    for chunks in connections:
-        out += word(1) + b''.join(SIDES[side] + chunk(content) for side, content in chunks) + word(0)
-    return out + word(0)
+def mixed(connections: Iterable[Iterable[Chunk]]) -> bytes:
+    """A capture of version 2 of connections, each a list of its chunks."""
+    return b''.join(version_2((SIDE_WORDS[side] + chunk(content) for side, content in chunks) for chunks in connections))

@@ -21,7 +21,9 @@ from rooms import (crowded_folders, in_the_wrong_room, long_lines, of_private_fi
                    scans_without_values)
 from running import program_named, try_all, words_of
 from scripts import TOP, Tools
-from traffic import NFS, Names, Traffic, call, messages, success
+from traffic import Names, Traffic
+import messages
+from messages import NFS, call, success
 from layouts import Message, procedure_of
 
 README = (TOP / 'README.md').read_text()

@@ -16,10 +16,11 @@ import subprocess
 import time
 import xml.etree.ElementTree
 
-from recordings import ACK, NANOSECONDS, Talk, ethernet, fragments, interface, pcap, section, simple
+from recordings import NANOSECONDS, fragments, interface, section, simple
 from running import try_all, words_of
 from scripts import ALL, CALLS, REPLIES, TOP, Tools, exchange, in_fragments, stream, taken_of, tried, whole
-from traffic import NFS, call, success
+from messages import NFS, call, success
+from packets import ACK, Talk, ethernet, pcap
 from nfs3tools.places import SIDES, Place
 
 CALL, REPLY = len(stream(CALLS[:1])), len(stream(REPLIES[:1]))
