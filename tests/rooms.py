@@ -1,13 +1,21 @@
-"""Where the definitions of crates/*/specs stand: what a public call of any crate believes, and all else in rooms named machinery. Which
-names stand for several of them, which clauses of public calls name a private field, and which clauses
-and definitions have a line over 100 columns. Which folders of crates/*/proofs have too many files, and which files of machinery the
-name of another; and which files of src/scans have no file of values."""
+"""Rules for the sources of the crates. Each function without parameters returns what is against one of them, in words:
+
+- definitions that no public call believes are in a folder named machinery of crates/*/specs, and no others are;
+- a name stands for one definition;
+- no clause of a public call names a private field;
+- no clause and no definition has a line over 100 columns;
+- no folder of crates/*/proofs has too many files;
+- no file of machinery has the name of another file of specs;
+- each file of src/scans has a file of src/values.
+"""
 import collections
 import importlib.machinery
-import importlib.util
 import pathlib
 import re
 import sys
+from collections.abc import Iterator
+from types import ModuleType
+from typing import Any, NamedTuple
 
 TOP = pathlib.Path(__file__).resolve().parent.parent
 ROOM = 'machinery'
@@ -24,81 +32,97 @@ NAMED_FIELD = re.compile(r'\b(?:self\.(?:now|old|new)|result)\.(\w+)')
 GHOST = re.compile(r'^ *ghost (?!use\b).*?;$', re.M | re.S)
 
 
-def tool():
-    """tools/believed as a module."""
+class Exported(NamedTuple):
+    """The names that a library exports, or None for all that is public, as of a program; and the files of the modules that it exports."""
+    names: set[str] | None
+    modules: set[str]
+
+
+class Source(NamedTuple):
+    """A part of a file."""
+    path: pathlib.Path
+    text: str
+
+
+def tool() -> ModuleType:
+    """Returns tools/believed as a module, whose name has no ending."""
     sys.dont_write_bytecode = True
     loader = importlib.machinery.SourceFileLoader('believed', str(TOP / 'tools/believed'))
-    module = importlib.util.module_from_spec(importlib.util.spec_from_loader('believed', loader))
+    module = ModuleType('believed')
+    module.__file__ = loader.path
     loader.exec_module(module)
     return module
 
 
-def libraries():
-    """The crates but those of tests, which have no public call."""
+def libraries() -> list[str]:
+    """Returns the crates without those of tests, which have no public call."""
     lines = (TOP / 'crates.txt').read_text().splitlines()
     names = [line.partition(':')[0] for line in lines if line and not line.startswith('#')]
     return [name for name in names if not name.endswith('_tests')]
 
 
-def given_out(crate):
-    """The names and the modules that a library gives out. A program gives out all that is public."""
+def exported_by(crate: str) -> Exported:
     lib = TOP / 'crates' / crate / 'src/lib.rt'
     if not lib.exists():
-        return None, set()
+        return Exported(None, set())
     text = lib.read_text()
     names = {name for names in re.findall(r'^pub use ([^;]*);', text, re.M) for name in re.findall(r'\w+', names)}
     paths = [name.replace('::', '/') for name in re.findall(r'^pub (?:mod|use) ([\w:]+);', text, re.M)]
-    return names, {pathlib.PurePath(path).name for path in paths if (lib.parent / path).with_suffix('.rt').exists()}
+    return Exported(names, {pathlib.PurePath(path).name for path in paths if (lib.parent / path).with_suffix('.rt').exists()})
 
 
-def is_public(name, path, text, names, modules):
-    declared = re.search(r'^pub (?:struct|enum|trait|fn) %s\b' % name, text, re.M)
-    return bool(declared) if names is None or path.stem in modules else name in names
+def is_public(name: str, source: Source, exported: Exported) -> bool:
+    if exported.names is not None and source.path.stem not in exported.modules:
+        return name in exported.names
+    return re.search(r'^pub (?:struct|enum|trait|fn) %s\b' % name, source.text, re.M) is not None
 
 
-def body_at(lines, at, space):
-    """The lines from one on to the brace that ends it, or its head."""
+def body_at(lines: list[str], at: int, space: str) -> list[str]:
+    """Returns the lines from one on to the brace that ends it, or its head."""
     end = next(n for n in range(at + 1, len(lines)) if lines[n].startswith((space + '}', space + '{')))
     return lines[at:end + 1]
 
 
-def public_texts(crate):
-    """Of each public function, trait, method and impl of a trait: its file and its text."""
-    names, modules = given_out(crate)
+def public_texts(crate: str) -> Iterator[Source]:
+    """Yields each public function, trait, method and impl of a trait."""
+    exported = exported_by(crate)
     for path in sorted((TOP / 'crates' / crate / 'src').rglob('*.rt')):
-        text = path.read_text()
-        lines = text.splitlines()
+        source = Source(path, path.read_text())
+        lines = source.text.splitlines()
         for at, match in enumerate(map(ITEM.match, lines)):
-            if match and is_public(match[1] or match[2] or match[3], path, text, names, modules):
-                body = body_at(lines, at, '')
-                is_own = match[3] and ' for ' not in lines[at]
-                methods = [n for n, line in enumerate(body) if METHOD.match(line)] if is_own else []
-                for part in [body_at(body, n, '    ') for n in methods] if is_own else [body]:
-                    yield path, '\n'.join(part)
+            if match and is_public(match[1] or match[2] or match[3], source, exported):
+                is_own = bool(match[3]) and ' for ' not in lines[at]
+                for part in parts_of(body_at(lines, at, ''), is_own):
+                    yield Source(path, '\n'.join(part))
 
 
-def reached(believed):
-    """What is believed of all public calls."""
+def parts_of(body: list[str], is_own: bool) -> list[list[str]]:
+    """Returns the public methods of a type's own impl, and any other item as it is."""
+    return [body_at(body, at, '    ') for at, line in enumerate(body) if METHOD.match(line)] if is_own else [body]
+
+
+def reached(believed: ModuleType) -> Any:
+    """Returns what is believed of all public calls, as tools/believed has it."""
     found = believed.Believed()
     for crate in libraries():
-        for path, text in public_texts(crate):
-            clauses = [match[0] for pattern in (believed.CLAUSE, GHOST) for match in pattern.finditer(text)]
-            believed.reach_clauses(found, path, clauses)
+        for source in public_texts(crate):
+            clauses = [match[0] for pattern in (believed.CLAUSE, GHOST) for match in pattern.finditer(source.text)]
+            believed.reach_clauses(found, source.path, clauses)
     return found
 
 
-def files(believed):
-    """All files of definitions."""
+def files(believed: ModuleType) -> Iterator[Any]:
+    """Yields all files of definitions, as tools/believed has them."""
     for crate in libraries():
         root = TOP / 'crates' / crate / 'specs'
         for path in sorted(root.rglob('*.antt')):
             yield believed.file_of(crate, '.'.join(path.relative_to(root).with_suffix('').parts))
 
 
-def in_the_wrong_room():
-    """What is wrong, in words."""
+def in_the_wrong_room() -> list[str]:
+    """Returns the definitions that are in the wrong folder, and what is imported from machinery."""
     believed = tool()
-    found, wrong = reached(believed), []
+    found, wrong = reached(believed), list[str]()
     for name in sorted(found.by_name ^ set(BY_NAME)):
         wrong.append('%s is machinery, and a public call believes it; or it is an exception, and none does' % name)
     for file in files(believed):
@@ -110,25 +134,25 @@ def in_the_wrong_room():
     return wrong
 
 
-def private_fields(text):
-    """The private fields of a file's public structs, but of those whose clauses speak of the value of a Model."""
+def private_fields(text: str) -> set[str]:
+    """Returns the private fields of a file's public structs, except those whose clauses speak of the value of a Model."""
     return {field for name, body in STRUCT.findall(text) for field in PRIVATE.findall(body)
             if not re.search(r'\bModel for %s\b' % name, text)}
 
 
-def of_private_fields():
-    """The private fields that clauses of public calls name, with their files."""
-    believed, found = tool(), set()
+def of_private_fields() -> list[str]:
+    """Returns the private fields that clauses of public calls name, with their files."""
+    believed, found = tool(), set[str]()
     for crate in libraries():
         for path, text in public_texts(crate):
             private = private_fields(path.read_text())
-            named = (name for clause in believed.CLAUSE.finditer(text) for name in NAMED_FIELD.findall(clause[0]))
-            found |= {'%s: %s' % (path.relative_to(TOP), name) for name in named if name in private}
+            named = {name for clause in believed.CLAUSE.finditer(text) for name in NAMED_FIELD.findall(clause[0])}
+            found |= {'%s: %s' % (path.relative_to(TOP), name) for name in named & private}
     return sorted(found)
 
 
-def long_lines():
-    """The lines of clauses and of definitions over 100 columns, with their files. Imports do not count."""
+def long_lines() -> list[str]:
+    """Returns the lines of clauses and of definitions over 100 columns, with their files. Imports do not count."""
     pattern = tool().CLAUSE
     sources = ((path, path.read_text()) for path in sorted(TOP.glob('crates/*/src/**/*.rt')))
     texts = [(path, clause[0]) for path, text in sources for clause in pattern.finditer(text)]
@@ -137,9 +161,9 @@ def long_lines():
             if len(line) > 100 and not line.startswith(('use ', 'pub use '))]
 
 
-def of_several_meanings():
-    """The names that stand for several definitions, with their modules."""
-    places = collections.defaultdict(list)
+def of_several_meanings() -> list[str]:
+    """Returns the names that stand for several definitions, with their modules."""
+    places = collections.defaultdict[str, list[str]](list)
     for file in files(tool()):
         for one in file.definitions:
             places[one.name].append('%s.%s' % (file.crate, file.module))
@@ -149,22 +173,22 @@ def of_several_meanings():
 MOST_FILES = 12
 
 
-def crowded_folders():
-    """The folders of proofs with more files than a reader overlooks. Folders in them do not count."""
+def crowded_folders() -> list[str]:
+    """Returns the folders of proofs with too many files. Folders in them do not count."""
     roots = sorted(TOP.glob('crates/*/proofs'))
     folders = [folder for root in roots for folder in [root, *sorted(path for path in root.rglob('*') if path.is_dir())]]
     sizes = {folder: len(list(folder.glob('*.antt'))) for folder in folders}
     return ['%s: %d files' % (folder.relative_to(TOP), size) for folder, size in sizes.items() if size > MOST_FILES]
 
 
-def of_two_files():
-    """The files of machinery that have the name of a file of specs outside it, in the same crate."""
+def of_two_files() -> list[str]:
+    """Returns the files of machinery that have the name of a file of specs outside it, in the same crate."""
     rooms = sorted(TOP.glob('crates/*/specs/' + ROOM))
     return [str(path.relative_to(TOP)) for room in rooms for path in sorted(room.rglob('*.antt'))
             if any(ROOM not in other.relative_to(room.parent).parts for other in room.parent.rglob(path.name))]
 
 
-def scans_without_values():
-    """The files of scans, in crates with values, that have no file of values of the same name."""
+def scans_without_values() -> list[str]:
+    """Returns the files of scans, in crates with values, that have no file of values of the same name."""
     return [str(path.relative_to(TOP)) for path in sorted(TOP.glob('crates/*/src/scans/*.rt'))
             if (values := path.parent.parent / 'values').is_dir() and not (values / path.name).exists()]
