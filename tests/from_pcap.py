@@ -18,7 +18,8 @@ import sys
 import typing
 
 from recordings import (
-    NANOSECONDS, block, cooked, cooked_2, enhanced, extended, fragments, fragments_6, interface, loopback, obsolete, pcapng, section, simple)
+    NANOSECONDS, block, cooked, cooked_2, enhanced, extended, fragments, fragments_6, interface, loopback, obsolete, pcapng, section,
+    simple)
 from running import try_all, words_of
 from scripts import (
     ALL, CALLS, REPLIES, TOP, Tools, exchange, in_fragments, packed, stream, taken_of, tried, whole)

@@ -1,4 +1,4 @@
-"""A masker by the layouts of `tools/layouts.py`, with which nfs3mask is compared, and which knows the classes by `tools/compare`'s names."""
+"""A masker by the layouts of `tools/layouts.py`, with which nfs3mask is compared. It knows the classes by the names of `tools/compare`."""
 import random
 import sys
 from collections.abc import Iterable, Iterator

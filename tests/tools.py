@@ -12,7 +12,8 @@ import re
 import shutil
 import subprocess
 import sys
-import tempfile
+from collections.abc import Iterator, Sequence
+from typing import NamedTuple
 
 import crate_pages
 import pages
@@ -20,11 +21,11 @@ from captures import SMALL, capture_in, rows_of
 from rooms import (crowded_folders, in_the_wrong_room, long_lines, of_private_fields, of_several_meanings, of_two_files,
                    scans_without_values)
 from running import program_named, try_all, words_of
-from scripts import TOP, Tools
+from scripts import TOP, Tools, tried
 from traffic import Names, Traffic
 import messages
 from messages import NFS, call, success
-from layouts import Message, procedure_of
+from layouts import Item, Message, procedure_of
 
 README = (TOP / 'README.md').read_text()
 
@@ -38,9 +39,21 @@ WORDS_OF_REASONS = {
     'XidConflict': 'another procedure'}
 
 
-def explained(tools):
+class Command(NamedTuple):
+    """A command line of a page, and the lines that it prints."""
+    line: str
+    printed: list[str]
+
+
+class Listed(NamedTuple):
+    """A message as `show` lists it: the name of its procedure, and the names and values of its items after the xid."""
+    procedure: str
+    items: list[tuple[str, str]]
+
+
+def explained(tools: Tools) -> None:
     """For each reason the first row of captures.rows in each version, by the line of `check`."""
-    lines = {}
+    lines = dict[str, tuple[str, str]]()
     for _, row in rows_of('captures.rows'):
         reason, capture = row['line'].rpartition(' ')[2], capture_in(row)
         name = reason + capture[7:8].decode()
@@ -57,7 +70,7 @@ def explained(tools):
             tools.want('the item of ' + line, 'after the last item' in out or 'allowed: ' not in out, False)
 
 
-def explained_as_documented(tools):
+def explained_as_documented(tools: Tools) -> None:
     """The words of docs/FORMATS.md."""
     tools.write('a', (TOP / 'examples/bad_status.nfs3cap').read_bytes())
     status, out, _ = tools.tool('explain', 'a', 'connection 1 server record 1 byte 24')
@@ -77,7 +90,7 @@ def explained_as_documented(tools):
         tools.want('a recording', (status, out, 'tools/from_pcap' in error, 'tools/where' in error), (2, '', True, True))
 
 
-def layouts_agree_with_the_listing(tools):
+def layouts_agree_with_the_listing(tools: Tools) -> None:
     """The items that tools/layouts.py reads are those that `show` lists, on random captures."""
     chance = random.Random(3)
     for seed in range(60):
@@ -85,41 +98,45 @@ def layouts_agree_with_the_listing(tools):
         tools.write('a', messages.capture(*connections))
         wanted = [line for calls, replies in connections for line in items_of(calls, replies)]
         listing = tools.run('show', 'a')[1].splitlines()
-        found = [(line.split()[4], re.findall(r' (\w+)=("[^"]*"|\w*)', line.partition(' xid=')[2])) for line in listing]
-        tools.want('seed %d' % seed, [(name, [(item, value.strip('"')) for item, value in items]) for name, items in found], wanted)
+        tools.want('seed %d' % seed, [listed_in(line) for line in listing], wanted)
 
 
-def items_of(calls, replies):
-    """The procedure of each message of a connection, and its items after the xid as the listing has them."""
-    procedures = {}
-    for body in calls:
-        procedures[body[:4]] = procedure_of(*(int.from_bytes(body[at:at + 4], 'big') for at in (12, 16, 20)))
+def listed_in(line: str) -> Listed:
+    """What a line of the listing says, without the quotes around strings."""
+    items = re.findall(r' (\w+)=("[^"]*"|\w*)', line.partition(' xid=')[2])
+    return Listed(line.split()[4], [(name, value.strip('"')) for name, value in items])
+
+
+def items_of(calls: Sequence[bytes], replies: Sequence[bytes]) -> Iterator[Listed]:
+    """Each message of a connection, as the listing should have it."""
+    procedures = {body[:4]: procedure_of(*(int.from_bytes(body[at:at + 4], 'big') for at in (12, 16, 20))) for body in calls}
     for body, is_call in [(body, True) for body in calls] + [(body, False) for body in replies]:
         message = Message(body)
         message.read(is_call, procedures[body[:4]])
         items = [item for item in message.items[1:] if not item.name.endswith(')')]
-        yield procedures[body[:4]].name, [(item.name, listed(body[item.begin:item.end], item)) for item in items]
+        yield Listed(procedures[body[:4]].name, [(item.name, listed(body[item.begin:item.end], item)) for item in items])
 
 
-def listed(piece, item):
+def listed(piece: bytes, item: Item) -> str:
+    """The value of an item as the listing has it."""
     if item.name in STRINGS:
         return ''.join(chr(byte) if 32 <= byte < 127 and byte not in b'"\\' else '\\x%02x' % byte for byte in piece)
     return item.value
 
 
-def console_of(text):
-    """The commands in the console blocks of a page, each with the lines that it prints."""
-    found = []
+def console_of(text: str) -> list[Command]:
+    """The commands in the console blocks of a page."""
+    found = list[Command]()
     for block in re.findall(r'^```console\n(.*?)^```$', text, re.M | re.S):
         for line in block.splitlines():
             if line.startswith('$ '):
-                found.append((line[2:], []))
+                found.append(Command(line[2:], []))
             else:
-                found[-1][1].append(line)
+                found[-1].printed.append(line)
     return found
 
 
-def is_printed(wanted, printed):
+def is_printed(wanted: list[str], printed: list[str]) -> bool:
     """Whether these lines are printed. A line `..` stands for any lines, and `..` at the end of a line for any rest of it."""
     if not wanted:
         return not printed
@@ -131,19 +148,22 @@ def is_printed(wanted, printed):
     return is_line and is_printed(wanted[1:], printed[1:])
 
 
-def commands_of_the_readme(tools):
+def commands_of_the_readme(tools: Tools) -> None:
     """Each is run, in order, and prints what stands below it. The status is told by what is printed."""
     commands = console_of(README)
     tools.want('commands', len(commands), 13)
     for command, wanted in commands:
-        words = command.replace('/tmp/', tools.folder + '/').replace('./nfs3canon', tools.program).replace('./nfs3mask', program_named('nfs3mask', tools.program))
+        here = {'/tmp/': tools.folder + '/', './nfs3canon': tools.program, './nfs3mask': program_named('nfs3mask', tools.program)}
+        words = command
+        for word, local in here.items():
+            words = words.replace(word, local)
         words = re.sub(r'^tools/(verdicts|compare) ', r'tools/\1 --program %s ' % tools.program, words)
         done = subprocess.run(['sh', '-c', words], cwd=TOP, stdout=subprocess.PIPE, stderr=subprocess.STDOUT, text=True)
         printed = done.stdout.splitlines()
         tools.want(command, 'as written' if is_printed(wanted, printed) else printed, 'as written')
 
 
-def lines_for_many_captures(tools):
+def lines_for_many_captures(tools: Tools) -> None:
     """The README's lines without a comment, but `./test`, check the examples; the second if GNU parallel is there."""
     lines = [line.strip() for line in README.splitlines() if line.startswith('    ') and '  # ' not in line]
     tools.want('lines', [line.split()[0] for line in lines], ['tools/verdicts', 'parallel', './test'])
@@ -162,12 +182,12 @@ def lines_for_many_captures(tools):
         tools.want(line, (found, done.returncode), (last[line.split()[0]], 5 if line.startswith('parallel') else 1))
 
 
-def rows_of_the_examples():
+def rows_of_the_examples() -> list[tuple[str, str, str]]:
     """Of each capture and wrong recording of examples/README.md its name, what is printed of it, and the status."""
     return re.findall(r'^\| `(\w+\.\w+)` \| .* \| `([^`]*)` \| (\d) \|$', (TOP / 'examples/README.md').read_text(), re.M)
 
 
-def examples_are_used(tools):
+def examples_are_used(tools: Tools) -> None:
     """Each file of examples/ is checked by its row there, is run or imported by examples_are_made_alike, or is in a command line of
     the top README that is run."""
     used = {name for name, _, _ in rows_of_the_examples()} | {'README.md', 'make.py', 'messages.py', 'packets.py'}
@@ -176,7 +196,7 @@ def examples_are_used(tools):
     tools.want('files', sorted(there), sorted(used))
 
 
-def answers_of_the_examples(tools):
+def answers_of_the_examples(tools: Tools) -> None:
     """Each capture of examples/ stands in its README with what `check` prints, each wrong recording with the verdict on its last
     connection, and no other file does."""
     rows, there = rows_of_the_examples(), [*(TOP / 'examples').glob('*.nfs3cap'), *(TOP / 'examples').glob('bad_*.pcap')]
@@ -191,7 +211,7 @@ def answers_of_the_examples(tools):
             tools.want(name, (out + error, found), (line + '\n', int(status)))
 
 
-def examples_are_made_alike(tools):
+def examples_are_made_alike(tools: Tools) -> None:
     """examples/make.py writes the captures and the wrong recordings that are there."""
     for name in ('make.py', 'messages.py', 'packets.py'):
         shutil.copy(TOP / 'examples' / name, tools.folder)
@@ -201,7 +221,7 @@ def examples_are_made_alike(tools):
         tools.want(path.name, tools.read(path.name), path.read_bytes())
 
 
-def pages_agree(tools):
+def pages_agree(tools: Tools) -> None:
     """The reasons have the same names in docs/FORMATS.md, the man page and tools/explain, each has a row in captures.rows, and the
     dumps are the bytes of a NULL call and its reply in both versions."""
     formats = (TOP / 'docs/FORMATS.md').read_text()
@@ -213,7 +233,7 @@ def pages_agree(tools):
     tools.want('rows', sorted(told), sorted(reasons))
     rows = re.findall(r'^\| (\d+) \| ((?:[0-9a-f]{8} ?)+) \|', formats, re.M)
     second = next(number for number, (at, _) in enumerate(rows) if number and at == '0')
-    null = ([call(0xdeadbeef, NFS, 3, 0)], [success(0xdeadbeef)])
+    null = [call(0xdeadbeef, NFS, 3, 0)], [success(0xdeadbeef)]
     for dump, capture in ((rows[:second], messages.capture(null)), (rows[second:], messages.interleaved(messages.in_turn(*null)[::-1]))):
         tools.want('dump', bytes.fromhex(''.join(words for _, words in dump)), capture)
         sizes = [len(bytes.fromhex(words)) for _, words in dump]
@@ -224,7 +244,7 @@ def pages_agree(tools):
             tools.want('warnings of ' + page.name, done.stderr, b'')
 
 
-def pages_of_the_tools(tools):
+def pages_of_the_tools(tools: Tools) -> None:
     """Each tool for recordings has a page of the manual with all its options, and prints its help."""
     for name in ('from_pcap', 'where', 'verdicts', 'compare'):
         page = (TOP / 'man' / (name + '.1')).read_text().replace('\\-', '-')
@@ -234,18 +254,18 @@ def pages_of_the_tools(tools):
         tools.want('options of ' + name, sorted(option for option in options if option not in page), [])
 
 
-def what_is_believed(tools):
+def what_is_believed(tools: Tools) -> None:
     """docs/PROOFS.md has the counts of tools/believed, which prints each definition once."""
     rows = re.findall(r'^\| `(\w+::\w+)` \| \d+ \| [\d,]+ \| \d+ \|$', (TOP / 'docs/PROOFS.md').read_text(), re.M)
     tools.want('calls', rows, ['canon3::check', 'canon3::canon', 'canon3::same', 'listing3::show', 'masking3::mask', 'packing3::Packing',
                                'nfs3canon::counted', 'program3::rewritten', 'nfs3canon::packed', 'nfs3mask::masked'])
     counted = tools.tool('believed', '--count', *rows)
     tools.want('counts', (counted[0], counted[1] in (TOP / 'docs/PROOFS.md').read_text(), counted[2]), (0, True, ''))
-    for call, row in zip(rows, counted[1].splitlines()):
-        status, out, error = tools.tool('believed', call)
+    for name, row in zip(rows, counted[1].splitlines()):
+        status, out, error = tools.tool('believed', name)
         heads = re.findall(r'^(?:  )?(?:abbrev pub|unfoldable pub|pub record|pub data) ', out, re.M)
-        tools.want(call, (status, error, len(heads)), (0, '', int(row.split()[3])))
-        tools.want('the count of ' + call, out.splitlines()[-1].split()[0], row.split()[3])
+        tools.want(name, (status, error, len(heads)), (0, '', int(row.split()[3])))
+        tools.want('the count of ' + name, out.splitlines()[-1].split()[0], row.split()[3])
     told = tools.tool('believed', 'canon3::check')[1]
     for name in ('Typed', 'FirstFault', 'IsSummary', 'status_words', 'Shape', 'in_window', 'handles', 'CountsReading'):
         tools.want(name, len(re.findall(r'^ *(?:abbrev|unfoldable|pub) .*\b%s\b.* :' % name, told, re.M)) > 0, True)
@@ -254,7 +274,7 @@ def what_is_believed(tools):
     tools.want('a call that is not there', tools.tool('believed', 'canon3::absent')[0], 1)
 
 
-def rooms_stand_apart(tools):
+def rooms_stand_apart(tools: Tools) -> None:
     """What public calls believe, and machinery; each definition and each file of a crate has a name of its own; no folder of proofs is
     crowded; and clauses are short and name no private field."""
     tools.want('rooms', in_the_wrong_room(), [])
@@ -266,12 +286,12 @@ def rooms_stand_apart(tools):
     tools.want('scans without values', scans_without_values(), [])
 
 
-def pages_are_plain(tools):
+def pages_are_plain(tools: Tools) -> None:
     """No sentence, bullet or section of a page is too long."""
     tools.want('pages', pages.long_ones(), [])
 
 
-def pages_of_the_crates(tools):
+def pages_of_the_crates(tools: Tools) -> None:
     """Each library has a page, which quotes proved code and names files that exist; and the page of what they export is current."""
     tools.want('crates without a page', crate_pages.without_a_page(), [])
     tools.want('code that no proved caller has', crate_pages.not_quoted(), [])
@@ -285,15 +305,8 @@ TESTS = [explained, explained_as_documented, layouts_agree_with_the_listing, com
          what_is_believed, rooms_stand_apart, pages_are_plain, pages_of_the_crates]
 
 
-def tried(program, test):
-    with tempfile.TemporaryDirectory(prefix='nfs3canon') as folder:
-        tools = Tools(program, folder)
-        test(tools)
-        return tools.wrong
-
-
-def main():
-    try_all(words_of(__doc__), [(test.__name__, tried, test) for test in TESTS], os.cpu_count())
+def main() -> None:
+    try_all(words_of(__doc__), [(test.__name__, tried, test) for test in TESTS], os.cpu_count() or 2)
 
 
 if __name__ == '__main__':
