@@ -1,7 +1,7 @@
 """Recordings of packets, as `tcpdump` writes them, out of TCP segments (pcap, link type Ethernet)."""
 import ipaddress
 import struct
-import typing
+from collections.abc import Iterable, Sequence
 
 FIN, SYN, RST, ACK = 1, 2, 4, 16
 CLIENT, SERVER = '192.0.2.7', '192.0.2.1'
@@ -23,7 +23,7 @@ def datagram(source: str, target: str, content: bytes, protocol: int = 6) -> byt
     return struct.pack('>BBHHHBBH', 0x45, 0, 20 + len(content), 0, 0, 64, protocol, 0) + packed + content
 
 
-def ethernet(content: bytes, tags: typing.Iterable[tuple[int, int]] = ()) -> bytes:
+def ethernet(content: bytes, tags: Iterable[tuple[int, int]] = ()) -> bytes:
     """An Ethernet frame of a datagram; each tag of a VLAN is its type and its number."""
     packed = b''.join(struct.pack('>HH', *tag) for tag in tags)
     return bytes(12) + packed + struct.pack('>H', IPV6 if content[0] >> 4 == 6 else IPV4) + content
@@ -65,14 +65,14 @@ class Talk:
         return [*frames, self.frame(1, FIN | ACK)]
 
 
-def pcap(frames: typing.Iterable[bytes], longest: int = 65_535, order: str = '<', magic: int = 0xa1b2c3d4, link: int = 1) -> bytes:
+def pcap(frames: Iterable[bytes], longest: int = 65_535, order: str = '<', magic: int = 0xa1b2c3d4, link: int = 1) -> bytes:
     """A recording that keeps the first bytes of each frame, a frame each microsecond (or nanosecond, as the magic says)."""
     header = struct.pack(order + 'IHHiIII', magic, 2, 4, 0, 0, longest, link)
     return header + b''.join(struct.pack(order + 'IIII', 1, number, len(frame[:longest]), len(frame)) + frame[:longest]
                              for number, frame in enumerate(frames))
 
 
-def recording(*connections: typing.Sequence[list[bytes]]) -> bytes:
+def recording(*connections: Sequence[list[bytes]]) -> bytes:
     """A recording of connections, each with the records of its calls and of its replies; each record is a segment, and each
     reply comes right after its call."""
     frames = list[bytes]()

@@ -243,8 +243,9 @@ def try_pair(program: str, row: Row) -> list[str]:
 
 
 def main() -> None:
-    tries = [(trial, *row) for trial, file in ((try_capture, 'captures.rows'), (try_pair, 'pairs.rows')) for row in rows_of(file)]
-    try_all(words_of(__doc__), [('%s: %s' % (comment, row['line']), trial, row) for trial, comment, row in tries], 2 * (os.cpu_count() or 2))
+    tries = [('%s: %s' % (comment, row['line']), trial, row)
+             for trial, file in ((try_capture, 'captures.rows'), (try_pair, 'pairs.rows')) for comment, row in rows_of(file)]
+    try_all(words_of(__doc__), tries, 2 * (os.cpu_count() or 2))
 
 
 if __name__ == '__main__':

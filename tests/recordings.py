@@ -2,7 +2,7 @@
 import pathlib
 import struct
 import sys
-import typing
+from collections.abc import Iterable
 
 sys.path.insert(0, str(pathlib.Path(__file__).resolve().parent.parent / 'examples'))
 from packets import IPV4, IPV6  # noqa: E402
@@ -48,7 +48,7 @@ def obsolete(frame: bytes, number: int = 0, index: int = 0, order: str = '<') ->
     return block(OBSOLETE, struct.pack(order + 'HH4I', index, 0, number >> 32, number & 0xffffffff, len(frame), len(frame)) + frame, order)
 
 
-def pcapng(frames: typing.Iterable[bytes], order: str = '<') -> bytes:
+def pcapng(frames: Iterable[bytes], order: str = '<') -> bytes:
     """A section with one interface, and a block of another kind between."""
     packets = (enhanced(frame, number, 0, order) for number, frame in enumerate(frames))
     return section(order) + interface(order=order) + block(NAMES, bytes(4), order) + b''.join(packets)

@@ -1,5 +1,6 @@
 """The layouts of NFS version 3 and MOUNT version 3 messages, as docs/FORMATS.md has them, with the names of the listing."""
-import typing
+from collections.abc import Callable
+from typing import NamedTuple
 
 NFS, MOUNT = 100003, 100005
 
@@ -67,7 +68,7 @@ MOUNT_PROCEDURES = [
     ('UMNT', 't1024:dirpath', ''), ('UMNTALL', '', ''), ('EXPORT', '', 'list:entry=export')]
 
 
-class Procedure(typing.NamedTuple):
+class Procedure(NamedTuple):
     """The layouts of one procedure. Where `statuses` is None its results are `done`; else a status and `done` or `failed`."""
     name: str
     arguments: str
@@ -88,14 +89,14 @@ def procedure_of(program: int, version: int, number: int) -> Procedure:
 
 
 # Writes the bytes of an item as a text.
-Spell = typing.Callable[[bytes], str]
+Spell = Callable[[bytes], str]
 
 
 class Stop(Exception):
     """The message cannot be read any further."""
 
 
-class Item(typing.NamedTuple):
+class Item(NamedTuple):
     """An item of a message: its bytes, its name, its value as a text, what may stand there, and whether it has all its bytes."""
     begin: int
     end: int

@@ -41,7 +41,7 @@ def word(number: int) -> bytes:
 class Container:
     """Takes a capture apart."""
 
-    def __init__(self, source: Source, spool: Spool):
+    def __init__(self, source: Source, spool: Spool) -> None:
         self.source, self.spool = source, spool
 
     def connections(self) -> typing.Iterator[tuple[Stored, Stored]]:

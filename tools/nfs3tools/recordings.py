@@ -46,7 +46,7 @@ class Readable(typing.Protocol):
 class Inflated:
     """The bytes of a gzipped file, decompressed block by block. What stands before damage is read."""
 
-    def __init__(self, file: Readable, begun: bytes):
+    def __init__(self, file: Readable, begun: bytes) -> None:
         self.file, self.packed, self.inflate = file, begun, zlib.decompressobj(31)
         self.damage: Damaged | None = None
 
@@ -87,7 +87,7 @@ def byte_by_byte(inflate: 'zlib._Decompress', packed: bytes) -> bytes:
 class Source:
     """Bytes that are taken from the front, in pieces of any size. `at` counts those that were taken."""
 
-    def __init__(self, file: Readable):
+    def __init__(self, file: Readable) -> None:
         self.file, self.block, self.begin, self.before = file, b'', 0, 0
         self.damage: Damaged | None = None
         if self.peek(2) == GZIP:
@@ -147,7 +147,7 @@ class Interface(typing.NamedTuple):
 class Recording:
     """The frames of a recording. After they were iterated over, `cut` or `damage` says how it ended, if not as a whole."""
 
-    def __init__(self, source: Source):
+    def __init__(self, source: Source) -> None:
         self.source = source
         self.cut: str | None = None
         self.damage: str | None = None

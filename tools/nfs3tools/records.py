@@ -36,7 +36,7 @@ class Bytes(typing.Protocol):
 class Window:
     """Reads small pieces of bytes, which are fetched in large ones."""
 
-    def __init__(self, stored: Bytes):
+    def __init__(self, stored: Bytes) -> None:
         self.stored, self.block, self.begin = stored, b'', 0
 
     def read(self, at: int, size: int) -> bytes:
@@ -128,7 +128,7 @@ class Search:
     fragment whose head is none may stand between two that have one: it is for the program to judge.
     """
 
-    def __init__(self, stored: Bytes, side: Side, begin: int, end: int):
+    def __init__(self, stored: Bytes, side: Side, begin: int, end: int) -> None:
         self.window, self.side, self.begin, self.end = Window(stored), side, begin, end
         self.marks = 0
         self.failed: set[int] = set()  # places from which records do not reach the end

@@ -57,7 +57,7 @@ class Stored:
     """Bytes to which more are appended: short ones stay in memory, the others go to the spool."""
     __slots__ = 'spool', 'size', 'written', 'begins', 'places', 'unwritten'
 
-    def __init__(self, spool: Spool):
+    def __init__(self, spool: Spool) -> None:
         self.spool, self.size = spool, 0
         self.written = 0
         self.begins, self.places = NONE_WRITTEN, NONE_WRITTEN  # of each part that was written
@@ -184,7 +184,7 @@ class Stream:
     __slots__ = ('stored', 'budget', 'frames', 'first', 'is_begin', 'next', 'expected', 'acknowledged', 'runs', 'held', 'end',
                  'known_end', 'known_by', 'conflicts', 'conflict')
 
-    def __init__(self, spool: Spool, budget: Budget, frames: Frames | None):
+    def __init__(self, spool: Spool, budget: Budget, frames: Frames | None) -> None:
         self.stored, self.budget, self.frames = Stored(spool), budget, frames
         self.first: int | None = None  # the sequence number of position 0
         self.is_begin = False  # position 0 is the first byte that was sent
@@ -312,7 +312,7 @@ class Connection:
     """Two ends, 0 the one that sent the first segment, each with its stream."""
     __slots__ = 'number', 'key', 'client', 'first_payload', 'is_closed', 'is_chosen', 'streams'
 
-    def __init__(self, number: int, key: bytes, spool: Spool, budget: Budget, keeps_frames: bool):
+    def __init__(self, number: int, key: bytes, spool: Spool, budget: Budget, keeps_frames: bool) -> None:
         self.number, self.key = number, key  # the number as Wireshark counts tcp.stream, from 0
         self.client: int | None = None  # the end that sent SYN
         self.first_payload: int | None = None  # the end that sent payload first
@@ -362,7 +362,7 @@ class Connection:
 class Connections:
     """The connections of a recording, in the order of their first segments."""
 
-    def __init__(self, keeps_frames: bool):
+    def __init__(self, keeps_frames: bool) -> None:
         self.spool, self.budget, self.keeps_frames = Spool(), Budget(), keeps_frames
         self.all: list[Connection] = []
         self.sides: dict[bytes, tuple[Connection, int]] = {}

@@ -54,7 +54,7 @@ class TakenStream:
     """The bytes of one side that are taken. They stay in memory if they are few, else in a temporary file."""
     __slots__ = 'stored', 'noted', 'ranges', 'begins', 'size', 'index'
 
-    def __init__(self, stored: Stored, frames: Frames | None, ranges: list[tuple[int, int]]):
+    def __init__(self, stored: Stored, frames: Frames | None, ranges: list[tuple[int, int]]) -> None:
         self.stored, self.noted, self.ranges = stored, frames, ranges
         self.begins = list(itertools.accumulate((end - begin for begin, end in ranges), initial=0))
         self.size = self.begins[-1]  # bytes
@@ -150,7 +150,7 @@ class Taken:
     has_frames: whether the frames of bytes are noted
     """
 
-    def __init__(self, spool: Spool, is_recording: bool, has_frames: bool):
+    def __init__(self, spool: Spool, is_recording: bool, has_frames: bool) -> None:
         self.spool, self.is_recording, self.has_frames = spool, is_recording, has_frames
         self.connections: list[TakenConnection] = []
         self.left_out: list[str] = []
@@ -332,7 +332,7 @@ def why_left_out(connection: Connection, options: Options) -> str:
 class Progress:
     """How many frames were read, on standard error if that is a terminal."""
 
-    def __init__(self, is_shown: bool):
+    def __init__(self, is_shown: bool) -> None:
         self.told, self.is_shown = time.monotonic(), is_shown and sys.stderr.isatty()
 
     def step(self, number: int) -> None:
