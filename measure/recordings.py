@@ -15,17 +15,26 @@ import subprocess
 import sys
 import tempfile
 import time
+from collections.abc import Iterable
+from typing import BinaryIO, NamedTuple
 
 HERE = pathlib.Path(__file__).resolve().parent
 sys.path.insert(0, str(HERE.parent / 'examples'))
-from messages import NFS, call, fh, hyper, ok, opaque, post_op_attr, record, success, word  # noqa: E402
+from messages import NFS, call, fh, fragment, hyper, ok, opaque, post_op_attr, success, word  # noqa: E402
 from packets import Talk  # noqa: E402
 
 MEGA = 1_000_000
 
 
+class Cost(NamedTuple):
+    """What a run took: seconds, seconds of the processor, and bytes of memory."""
+    seconds: float
+    processor: float
+    memory: int
+
+
 def make(path: pathlib.Path, size: int, packet: int) -> None:
-    """A recording of about `size` bytes in packets with at most `packet` bytes of payload."""
+    """Writes a recording of about `size` bytes in packets with at most `packet` bytes of payload."""
     talks, xid, count = [Talk(700 + number) for number in range(4)], 0, max(8_000, packet - 100)
     with open(path, 'wb') as file:
         frames = Frames(file)
@@ -34,9 +43,9 @@ def make(path: pathlib.Path, size: int, packet: int) -> None:
         while file.tell() < size:
             for talk in talks:
                 xid += 1
-                asked = record(call(xid, NFS, 3, 6, fh(b'abcde') + hyper(0) + word(count)))[4:]
+                asked = fragment(call(xid, NFS, 3, 6, fh(b'abcde') + hyper(0) + word(count)))
                 read = ok(post_op_attr(None), word(count), word(1), opaque(bytes([xid & 255]) * count))
-                answer = record(success(xid, read))[4:]
+                answer = fragment(success(xid, read))
                 frames.write([talk.sent(0, asked), *(talk.sent(1, answer[at:at + packet]) for at in range(0, len(answer), packet))])
         for talk in talks:
             frames.write(talk.closed())
@@ -45,24 +54,24 @@ def make(path: pathlib.Path, size: int, packet: int) -> None:
 class Frames:
     """Writes frames as pcap has them, a microsecond after one another."""
 
-    def __init__(self, file):
+    def __init__(self, file: BinaryIO) -> None:
         self.file, self.count = file, 0
         file.write(struct.pack('<IHHiIII', 0xa1b2c3d4, 2, 4, 0, 0, 262_144, 1))
 
-    def write(self, frames):
+    def write(self, frames: Iterable[bytes]) -> None:
         for frame in frames:
             self.file.write(struct.pack('<IIII', self.count // MEGA, self.count % MEGA, len(frame), len(frame)) + frame)
             self.count += 1
 
 
-def run(words: list[str]) -> tuple[float, float, int]:
-    """The seconds, the processor time, and the bytes of memory of a run."""
+def run(words: list[str]) -> Cost:
+    """Runs a command line, and returns what it took. Ends this script if the run fails."""
     begin = time.perf_counter()
     process = subprocess.Popen(words, stdout=subprocess.DEVNULL, stderr=subprocess.DEVNULL)
     _, status, usage = os.wait4(process.pid, 0)
     if status:
         sys.exit(f'{words[0]} ended with status {status}')
-    return time.perf_counter() - begin, usage.ru_utime + usage.ru_stime, usage.ru_maxrss * 1_024
+    return Cost(time.perf_counter() - begin, usage.ru_utime + usage.ru_stime, usage.ru_maxrss * 1_024)
 
 
 def main() -> None:
@@ -78,11 +87,11 @@ def main() -> None:
         words = [[str(HERE.parent / 'tools/from_pcap'), str(path), str(path) + '.nfs3cap'],
                  ['tshark', '-r', str(path), '-T', 'fields', '-e', 'frame.number']]
         both = [[run(line) for line in words] for _ in range(chosen.runs)]
-        ours, theirs = ([min(kind) for kind in zip(*(pair[side] for pair in both))] for side in range(2))
-        memory = max(pair[0][2] for pair in both)
+        ours, theirs = (Cost(*map(min, zip(*(pair[side] for pair in both)))) for side in range(2))
+        memory = max(pair[0].memory for pair in both)
         size = path.stat().st_size
-        print(f'| {packet:,} | {size:,} | {ours[0]:.2f} ({ours[1]:.2f}) | {size / MEGA / ours[0]:.0f} | {memory / MEGA:.1f} | '
-              f'{theirs[0]:.2f} ({theirs[1]:.2f}) | {ours[0] / theirs[0]:.2f} |', flush=True)
+        print(f'| {packet:,} | {size:,} | {ours.seconds:.2f} ({ours.processor:.2f}) | {size / MEGA / ours.seconds:.0f} | {memory / MEGA:.1f} | '
+              f'{theirs.seconds:.2f} ({theirs.processor:.2f}) | {ours.seconds / theirs.seconds:.2f} |', flush=True)
         path.unlink()
         os.unlink(str(path) + '.nfs3cap')
 
