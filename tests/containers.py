@@ -1,6 +1,6 @@
 """What a capture shows by its container alone: a model beside the program's, which looks into no record, and the reader of the tests.
 
-It does not use the reader of tools/nfs3tools/captures.py, which tells neither where a fault is nor its reason.
+It does not use the reader of tools/nfs3tools/captures.py, which tells neither the place of a fault nor its reason.
 """
 import sys
 from dataclasses import dataclass, field

@@ -101,6 +101,7 @@ def parts_of(body: list[str], is_own: bool) -> list[list[str]]:
     return [body_at(body, at, '    ') for at, line in enumerate(body) if METHOD.match(line)] if is_own else [body]
 
 
+# tools/believed is a script, so a checker of types does not know what it returns.
 def reached(believed: ModuleType) -> Any:
     """Returns what is believed of all public calls, as tools/believed has it."""
     found = believed.Believed()

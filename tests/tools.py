@@ -3,8 +3,8 @@
 
     python3 tests/tools.py [PROGRAM] [--only TEXT] [-v]
 
-PROGRAM is crates/nfs3canon/out/nfs3canon where none is named. The last line is 'N passed, M failed', and the status is 1
-where any failed.
+PROGRAM is crates/nfs3canon/out/nfs3canon if none is named. The last line is 'N passed, M failed', and the status is 1
+if any failed.
 """
 import os
 import random

@@ -69,7 +69,7 @@ MOUNT_PROCEDURES = [
 
 
 class Procedure(NamedTuple):
-    """The layouts of one procedure. Where `statuses` is None its results are `done`; else a status and `done` or `failed`."""
+    """The layouts of one procedure. If `statuses` is None, its results are `done`; otherwise they are a status and `done` or `failed`."""
     name: str
     arguments: str
     done: str
@@ -114,7 +114,7 @@ class Message:
         self.items: list[Item] = []
 
     def taken(self, size: int, name: str, allowed: str, spell: Spell) -> bytes:
-        """The next bytes, of which there may be fewer."""
+        """Reads an item of this size. Raises `Stop` if fewer bytes are left."""
         begin, self.at = self.at, min(self.at + size, self.end)
         piece = self.body[begin:self.at]
         self.items.append(Item(begin, self.at, name, spell(piece), allowed, len(piece) == size))
@@ -123,7 +123,7 @@ class Message:
         return piece
 
     def word(self, name: str, values: dict[int, str] | None = None, most: int = 0xffffffff) -> int:
-        """A word, which is among the values where there are some, and at most `most`."""
+        """Reads a word, which is among the values if there are some, and at most `most`."""
         allowed = 'any word' if values is None else ', '.join('%d %s' % value for value in values.items())
         allowed = allowed if most == 0xffffffff else 'at most %d' % most
         value = int.from_bytes(self.taken(4, name, allowed, number), 'big')
@@ -200,7 +200,7 @@ class Message:
         self.end = whole
 
     def call(self) -> None:
-        """The items of a call, and its procedure, or None where its head is not whole."""
+        """Reads the items of a call after its mtype."""
         for name in ('rpcvers', 'prog', 'vers', 'proc'):
             self.word(name, VALUES.get(name))
         procedure = procedure_of(*(int(item.value) for item in self.items[-3:]))
@@ -223,7 +223,7 @@ class Message:
             self.part(procedure.failed if self.word('status', procedure.statuses) else procedure.done)
 
     def read(self, is_call: bool, procedure: Procedure | None) -> None:
-        """All items up to the end or a fault. A reply is read as one of the procedure, where that is known."""
+        """Reads all items up to the end or a fault. A reply is read as one of the procedure, if that is known."""
         try:
             self.word('xid')
             self.word('mtype', VALUES['mtype'])
