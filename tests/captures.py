@@ -124,13 +124,13 @@ def front_of(capture: bytes, line: str) -> tuple[bytes, int]:
     """What comes before the fault that the line tells, as a capture of its own, and how many of its last bytes are not reached.
     The fault is in a record, or is the first of the container."""
     place = PLACE.match(line)
-    fault = (int(place[1]), place[2]) if place else None
+    fault = (int(place[1]), place[2], int(place[3])) if place else (0, '', 0)
     connections = list[tuple[list[bytes], list[bytes]]]()
     for number, connection in enumerate(Container(capture).connections, 1):
         connections.append(([], []))
         for side, stream, bodies in zip(('client', 'server'), connection.streams, connections[-1]):
-            is_at_fault = fault == (number, side)
-            bodies += bodies_of(stream)[:int(place[3]) - 1 if place and is_at_fault else None]
+            is_at_fault = fault[:2] == (number, side)
+            bodies += bodies_of(stream)[:fault[2] - 1] if is_at_fault else bodies_of(stream)
             if is_at_fault or connection.whole <= (side == 'server'):
                 return messages.capture(*connections), 12 if side == 'client' else 8
     # The last word 0 is reached if nothing follows it, and the magic with the first connection.
@@ -139,6 +139,8 @@ def front_of(capture: bytes, line: str) -> tuple[bytes, int]:
 
 def refused(runs: Runs, capture: bytes, line: str) -> None:
     """Of a capture `a` that is refused. What comes before the fault is listed and written, and nothing else."""
+    if line.startswith('file '):
+        runs.want('the model', Container(capture).line, line + '\n')
     front, missing = front_of(capture, line)
     runs.write('front', front)
     status, listing, error = runs.run('show', 'front')
