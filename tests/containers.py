@@ -119,7 +119,7 @@ class Container:
         return 2, out if command == 'show' else out[:0], self.line
 
 
-def in_one(stream: bytearray) -> list[bytes]:
+def in_one(stream: bytes | bytearray) -> list[bytes]:
     """Returns the chunks of a stream: one, or none if it is empty."""
     return [chunk(bytes(stream))] if stream else []
 
