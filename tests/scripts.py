@@ -17,7 +17,8 @@ from packets import Talk  # noqa: E402
 from nfs3tools.captures import capture_of  # noqa: E402
 from nfs3tools.messages import lines_of  # noqa: E402
 from nfs3tools.recordings import Source  # noqa: E402
-from nfs3tools.taken import NotTaken, Options, Progress, Taken, take_from  # noqa: E402
+from nfs3tools.selection import Options  # noqa: E402
+from nfs3tools.taken import NotTaken, Progress, Taken, take_from  # noqa: E402
 
 CALLS = [call(number, NFS, 3, 0) for number in range(1, 40)]
 REPLIES = [success(number) for number in range(1, 40)]

@@ -7,7 +7,8 @@ import typing
 
 from .places import NoPlace
 from .programs import FilterRefused, Missing
-from .taken import NotTaken, Options, Taken
+from .selection import Options
+from .taken import NotTaken, Taken
 from .version import version
 
 REFUSED, FAILED, INTERRUPTED = 2, 3, 130

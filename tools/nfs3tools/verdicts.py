@@ -30,7 +30,8 @@ from .captures import write_file
 from .messages import add_options, options_of, parser_of, words_of
 from .places import FilePlace, Place, parse_fault
 from .programs import Answer, FilterRefused, Missing, program_path, run_program
-from .taken import FrameRef, NotTaken, Options, Taken, TakenConnection, take
+from .selection import Options
+from .taken import FrameRef, NotTaken, Taken, TakenConnection, take
 
 NOT_ALL_OK = 1
 CONNECTIONS_AT_ONCE = 32  # of a recording
