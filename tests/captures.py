@@ -35,7 +35,7 @@ Answer = tuple[int, str, str]
 
 
 def rows_of(name: str) -> list[tuple[str, Row]]:
-    """The rows of a file, each a comment and the lines up to `line`."""
+    """Returns the rows of a file, each a comment and the lines up to `line`."""
     rows, row, comment = list[tuple[str, Row]](), Row(), ''
     for text in (HERE / name).read_text().splitlines():
         if text.startswith('#'):
@@ -50,22 +50,23 @@ def rows_of(name: str) -> list[tuple[str, Row]]:
 
 
 def in_pieces(body: bytes) -> bytes:
-    """A record in three fragments, one of them empty, each byte a chunk."""
+    """Returns the chunks of a record in three fragments, each byte a chunk."""
     return b''.join(chunk(bytes([byte])) for byte in in_fragments(body))
 
 
 def in_fragments(body: bytes) -> bytes:
+    """Returns a record in three fragments, one of them empty."""
     return fragment(body[:5], is_last=False) + fragment(b'', is_last=False) + fragment(body[5:])
 
 
 def server_first(records: Sequence[Record]) -> list[Chunk]:
-    """The chunks of a connection of version 2: the server's stream whole, and then the client's."""
+    """Returns the chunks of a connection of version 2: the server's stream whole, and then the client's."""
     streams = [(side, b''.join(map(fragment, sent(records, side)))) for side in '<>']
     return [(side, stream) for side, stream in streams if stream]
 
 
 def byte_by_byte(records: Sequence[Record]) -> list[Chunk]:
-    """The same, both sides in turn."""
+    """Returns the chunks of a connection of version 2, each a byte: one of the server, one of the client, and so on."""
     streams = [[(side, bytes([byte])) for body in sent(records, side) for byte in in_fragments(body)] for side in '<>']
     return [piece for pair in itertools.zip_longest(*streams) for piece in pair if piece]
 
@@ -110,7 +111,7 @@ class Runs:
 
 
 def accepted(runs: Runs, line: str, form: bytes) -> None:
-    """Of a capture `a` that is accepted, with its canonical form `a.out`."""
+    """Tries a capture `a` that is accepted, and its canonical form `a.out`."""
     runs.want('canon of canon', runs.same_answer('a.out', line), form)
     for pair in (('a', 'a.out'), ('a.out', 'a'), ('a', 'a')):
         runs.want('same %s %s' % pair, runs.run('same', *pair), (0, 'same\n', ''))
@@ -121,7 +122,7 @@ def accepted(runs: Runs, line: str, form: bytes) -> None:
 
 
 def front_of(capture: bytes, line: str) -> tuple[bytes, int]:
-    """What comes before the fault that the line tells, as a capture of its own, and how many of its last bytes are not reached.
+    """Returns what comes before the fault of the line, as a capture of its own, and how many of its last bytes are not reached.
     The fault is in a record, or is the first of the container."""
     place = PLACE.match(line)
     fault = (int(place[1]), place[2], int(place[3])) if place else (0, '', 0)
@@ -138,7 +139,7 @@ def front_of(capture: bytes, line: str) -> tuple[bytes, int]:
 
 
 def refused(runs: Runs, capture: bytes, line: str) -> None:
-    """Of a capture `a` that is refused. What comes before the fault is listed and written, and nothing else."""
+    """Tries a capture `a` that is refused. What comes before the fault is listed and written, and nothing else."""
     if line.startswith('file '):
         runs.want('the model', Container(capture).line, line + '\n')
     front, missing = front_of(capture, line)
@@ -159,7 +160,7 @@ def refused(runs: Runs, capture: bytes, line: str) -> None:
 
 
 def cut_short(runs: Runs, capture: bytes, line: str, every: bool) -> None:
-    """A front of a capture is cut at its length, or has the fault of the whole."""
+    """Tries prefixes of a capture. Each is cut at its length, or has the fault of the whole."""
     if line.endswith('AfterEnd'):
         return
     known = dict[bytes, list[Answer]]()
@@ -175,7 +176,8 @@ def cut_short(runs: Runs, capture: bytes, line: str, every: bool) -> None:
 
 
 def as_the_model(runs: Runs, container: Container, known: dict[bytes, list[Answer]]) -> None:
-    """`check` and `show` of `front` answer what the model tells; `known` has what they answer of the older files so far."""
+    """Tries `check` and `show` on the prefix `front`, which print what the model tells. `known` has what they print of the older files so
+    far."""
     older = container.older()
     if older not in known:
         runs.write('older', older)
@@ -186,7 +188,7 @@ def as_the_model(runs: Runs, container: Container, known: dict[bytes, list[Answe
 
 
 def in_version_2(runs: Runs, text: str, line: str, form: bytes | None, orders: Iterable[Order]) -> None:
-    """The same records in version 2 have the same answers, however the chunks stand."""
+    """Tries the same records in version 2, whose answers are the same for any order of the chunks."""
     listed = runs.run('show', 'a')
     for order in orders:
         name = order.__name__
@@ -196,11 +198,13 @@ def in_version_2(runs: Runs, text: str, line: str, form: bytes | None, orders: I
 
 
 def capture_in(row: Row) -> bytes:
+    """Returns the capture of a row, however it is written there."""
     makes: dict[str, Callable[[str], bytes]] = {'capture': capture_of, 'mixed': mixed_of, 'file': bytes_of}
     return next(make(row[key]) for key, make in makes.items() if key in row)
 
 
 def try_capture(program: str, row: Row) -> list[str]:
+    """Returns what is wrong with the answers for a row of captures.rows."""
     with tempfile.TemporaryDirectory(prefix='nfs3canon') as folder:
         runs, line = Runs(program, folder), row['line']
         capture = capture_in(row)
@@ -227,6 +231,7 @@ def try_capture(program: str, row: Row) -> list[str]:
 
 
 def try_pair(program: str, row: Row) -> list[str]:
+    """Returns what is wrong with the answers for a row of pairs.rows."""
     with tempfile.TemporaryDirectory(prefix='nfs3canon') as folder:
         runs, line = Runs(program, folder), row['line']
         runs.write('a', capture_of(row['first']))

@@ -46,6 +46,7 @@ class Container:
             self.line = '%s\n' % shown
 
     def read(self) -> None:
+        """Reads the whole capture. Raises `Shown` at the first fault."""
         for wanted in zip(MAGIC, MAGIC_2):
             if self.taken(1)[0] not in wanted:
                 self.refuse(self.at - 1, 'BadMagic')
@@ -76,12 +77,14 @@ class Container:
         self.taken(size)
 
     def word(self, most: int) -> int:
+        """Reads a connection word or a side word, which is at most `most`."""
         number = int.from_bytes(self.taken(4), 'big')
         if number > most:
             self.refuse(self.at - 4, 'BadMark')
         return number
 
     def length(self, least: int) -> int:
+        """Reads a length word, which is at least `least`, and adds it to the bytes of all streams."""
         number = int.from_bytes(self.taken(4), 'big')
         self.total += number
         if number < least:
@@ -91,6 +94,7 @@ class Container:
         return number
 
     def taken(self, size: int) -> bytes:
+        """Reads so many bytes."""
         if len(self.capture) - self.at < size:
             self.refuse(len(self.capture), CUT)
         self.at += size

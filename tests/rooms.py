@@ -62,6 +62,7 @@ def libraries() -> list[str]:
 
 
 def exported_by(crate: str) -> Exported:
+    """Returns what a crate exports, by its root file."""
     lib = TOP / 'crates' / crate / 'src/lib.rt'
     if not lib.exists():
         return Exported(None, set())
@@ -72,6 +73,7 @@ def exported_by(crate: str) -> Exported:
 
 
 def is_public(name: str, source: Source, exported: Exported) -> bool:
+    """Returns whether an item of a file can be named by other crates."""
     if exported.names is not None and source.path.stem not in exported.modules:
         return name in exported.names
     return re.search(r'^pub (?:struct|enum|trait|fn) %s\b' % name, source.text, re.M) is not None

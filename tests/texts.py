@@ -34,7 +34,7 @@ WORDS = {
 
 
 def bytes_of(text: str) -> bytes:
-    """Bytes from hexadecimal words; `61*1024` is 1,024 times the byte 61."""
+    """Returns bytes from hexadecimal words; `61*1024` is 1,024 times the byte 61."""
     out = b''
     for word in text.split():
         digits, *counts = word.split('*')
@@ -46,25 +46,25 @@ def bytes_of(text: str) -> bytes:
 
 
 def records_of(text: str) -> list[list[Record]]:
-    """The records of each connection in the order of the text: `>` begins a call's body, `<` a reply's, and `|` the next connection."""
+    """Returns the records of each connection in the order of the text. `>` begins a call's body, `<` a reply's, `|` the next connection."""
     return [[(side, bytes_of(body)) for side, body in re.findall(r'([<>])([^<>]*)', connection)] for connection in text.split('|')]
 
 
 def sent(records: Iterable[Record], mine: str) -> list[bytes]:
-    """The bodies of the records of one side."""
+    """Returns the bodies of the records of one side."""
     return [body for side, body in records if side == mine]
 
 
 def capture_of(text: str, chunks: Callable[[bytes], bytes] = record) -> bytes:
-    """A capture of version 1 of these records; `chunks` makes the chunks of a record from its body."""
+    """Returns a capture of version 1 of these records; `chunks` makes the chunks of a record from its body."""
     return b''.join(version_1((map(chunks, sent(records, '>')), map(chunks, sent(records, '<'))) for records in records_of(text)))
 
 
 def mixed_of(text: str) -> bytes:
-    """A capture of version 2 of these records, each a chunk and a fragment; the chunks are in the order of the text."""
+    """Returns a capture of version 2 of these records, each a chunk and a fragment; the chunks are in the order of the text."""
     return mixed([(side, fragment(body)) for side, body in records] for records in records_of(text))
 
 
 def mixed(connections: Iterable[Iterable[Chunk]]) -> bytes:
-    """A capture of version 2 of connections, each a list of its chunks."""
+    """Returns a capture of version 2 of connections, each a list of its chunks."""
     return b''.join(version_2((SIDE_WORDS[side] + chunk(content) for side, content in chunks) for chunks in connections))

@@ -76,14 +76,14 @@ class Names:
 
     @staticmethod
     def drawn(chance: random.Random) -> 'Names':
-        """No two alike. No byte of a handle is 0, so none is taken for a residual byte."""
+        """Returns names of which no two are alike. No byte of a handle is 0, so none is taken for a residual byte."""
         drawn = {bytes(chance.choices(range(1, 256), k=chance.choice((1, 4, 5, 8, 27, 28, 32, 63, 64)))) for _ in range(99)}
         handles = [b''] + chance.sample(sorted(drawn), HANDLES - 1)
         verifiers = [hyper(number) for number in chance.sample(range(1 << 40), VERIFIERS)]
         return Names(handles, verifiers, [chance.sample(range(1 << 32), XIDS) for _ in range(CONNECTIONS)])
 
     def turned(self) -> 'Names':
-        """Names that differ from these in each byte, and in whether the length of a handle is even, and take as many bytes."""
+        """Returns names that differ from these in each byte, and in whether the length of a handle is even, and take as many bytes."""
         def other(handle: bytes) -> bytes:
             turned = bytes(255 - byte for byte in handle)
             return turned[:-1] if len(handle) % 4 == 0 else turned + b'\xff'
@@ -91,14 +91,14 @@ class Names:
         return Names([b''] + list(map(other, self.handles[1:])), [bytes(255 - byte for byte in v) for v in self.verifiers], xids)
 
     def merged(self, kind: str, kept: int, lost: int) -> 'Names':
-        """These names, but one handle or verifier stands for two."""
+        """Returns these names, but one handle or verifier stands for two."""
         names = Names(list(self.handles), list(self.verifiers), self.xids)
         of_kind = {'handles': names.handles, 'verifiers': names.verifiers}[kind]
         of_kind[lost] = of_kind[kept]
         return names
 
     def padded(self) -> 'Names':
-        """These names, and other residual bytes."""
+        """Returns these names with other residual bytes."""
         return replace(self, residual=b'\xff')
 
 
@@ -139,6 +139,7 @@ class Traffic:
                           for side, bodies in (('client', calls), ('server', replies)) for record, made in enumerate(bodies, 1)]
 
     def conversation(self, xids: Sequence[int]) -> tuple[list[Made], list[Made]]:
+        """Returns the calls and the replies of a connection, with some of the xids."""
         calls, replies = list[Made](), list[Made]()
         for xid in xids[:self.chance.randrange(XIDS + 1)]:
             chosen = self.chosen()
@@ -151,12 +152,12 @@ class Traffic:
         return calls, replies
 
     def kept(self, make: Part) -> Made:
-        """A body, and the values that it has."""
+        """Returns a body, and the values that were drawn for it."""
         self.here = []
         return Made(make(self), self.here)
 
     def chosen(self) -> Chosen:
-        """A procedure. One of ten is carried raw."""
+        """Returns a procedure. One of ten is carried raw."""
         kind = self.chance.randrange(10)
         if kind == 0:
             known = self.chance.choice(((NFSACL, 3, 1), (NFS, 4, 1), (NFS, 3, 22), (100000, 2, 3)))
@@ -169,7 +170,7 @@ class Traffic:
         return Chosen(NFS, 3, number, arguments, done if otherwise is None else lambda t: t.answered(done, otherwise))
 
     def answered(self, done: Part, otherwise: str) -> bytes:
-        """The results of a procedure with a status; `otherwise` has a letter for each part after one that is not 0."""
+        """Returns results with a status; `otherwise` has a letter for each part that follows a status other than 0."""
         if self.likely():
             return ok(done(self))
         parts = {'p': self.poa, 'w': self.wcc}
@@ -286,14 +287,14 @@ class Traffic:
 
 
 def in_fragments(chance: random.Random, body: bytes) -> bytes:
-    """A record in up to four fragments, some of them empty."""
+    """Returns a record in up to four fragments, some of them empty."""
     cuts = sorted(chance.randrange(len(body) + 1) for _ in range(chance.randrange(4)))
     pieces = [body[begin:end] for begin, end in zip([0, *cuts], [*cuts, len(body)])]
     return b''.join(fragment(piece, is_last=False) for piece in pieces[:-1]) + fragment(pieces[-1])
 
 
 def pieces_of(chance: random.Random, stream: bytes) -> list[bytes]:
-    """A stream in single bytes, if it is short, or in pieces of up to 999 bytes or to 99,999."""
+    """Returns a stream in pieces of up to 99,999 bytes. A short stream can also be in single bytes, or in pieces of up to 999."""
     most = chance.choice((1, 999, 99_999)) if len(stream) < 3_000 else 99_999
     pieces, at = [], 0
     while at < len(stream):
@@ -304,21 +305,21 @@ def pieces_of(chance: random.Random, stream: bytes) -> list[bytes]:
 
 
 def streams_of(chance: random.Random, connections: Iterable[Bodies]) -> list[Streams]:
-    """Both streams of each connection, their records in fragments."""
+    """Returns both streams of each connection, their records in fragments."""
     def stream(bodies: Sequence[bytes]) -> bytes:
         return b''.join(in_fragments(chance, body) for body in bodies)
     return [(stream(calls), stream(replies)) for calls, replies in connections]
 
 
 def in_pieces(chance: random.Random, connections: Iterable[Bodies]) -> bytes:
-    """A capture of these connections with its records in fragments and its streams in chunks, cut anywhere."""
+    """Returns a capture of these connections, with its records in fragments and its streams in chunks, cut anywhere."""
     def chunks(stream: bytes) -> list[bytes]:
         return list(map(chunk, pieces_of(chance, stream)))
     return b''.join(version_1((chunks(client), chunks(server)) for client, server in streams_of(chance, connections)))
 
 
 def in_version_2(chance: random.Random, streams: Iterable[Streams]) -> bytes:
-    """A capture of version 2 of both streams of each connection, cut anywhere, the sides in any order."""
+    """Returns a capture of version 2 of both streams of each connection, cut anywhere, the sides in any order."""
     connections = []
     for pair in streams:
         left = {side: pieces_of(chance, stream)[::-1] for side, stream in zip((CLIENT, SERVER), pair)}
