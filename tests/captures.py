@@ -14,7 +14,7 @@ import subprocess
 import tempfile
 
 from containers import Container
-from running import command_of, try_all, words_of
+from running import Runs, try_all, words_of
 from texts import bytes_of, capture_of, chunk, fragment, mixed, mixed_of, one_fragment, records_of, word
 
 HERE = pathlib.Path(__file__).resolve().parent
@@ -59,45 +59,6 @@ def byte_by_byte(records):
     """The same, both sides in turn."""
     streams = [[(side, bytes([byte])) for whose, body in records if whose == side for byte in in_fragments(body)] for side in '<>']
     return [piece for pair in itertools.zip_longest(*streams) for piece in pair if piece]
-
-
-class Runs:
-    """Runs of the program in a folder of their own."""
-
-    def __init__(self, program, folder):
-        self.program, self.folder, self.wrong = program, folder, []
-
-    def write(self, name, content):
-        with open(os.path.join(self.folder, name), 'wb') as file:
-            file.write(content)
-
-    def read(self, name):
-        path = os.path.join(self.folder, name)
-        if not os.path.exists(path):
-            return None
-        with open(path, 'rb') as file:
-            return file.read()
-
-    def run(self, *words, stdin=None):
-        program, words = command_of(self.program, words)
-        done = subprocess.run([program, *words], cwd=self.folder, input=stdin, timeout=TIMEOUT,
-                              stdout=subprocess.PIPE, stderr=subprocess.PIPE)
-        return done.returncode, done.stdout.decode(), done.stderr.decode()
-
-    def want(self, what, got, wanted):
-        if got != wanted:
-            self.wrong.append('%s: %.300r, wanted %.300r' % (what, got, wanted))
-
-    def same_answer(self, name, line):
-        """`check` and `canon` answer the line, and what canon writes is given."""
-        accepted = line.startswith('ok ')
-        wanted = (0, line + '\n', '') if accepted else (2, '', line + '\n')
-        self.want('check ' + name, self.run('check', name), wanted)
-        self.want('canon ' + name, self.run('canon', name, name + '.out'), wanted)
-        form = self.read(name + '.out')
-        self.want('what canon made of ' + name, form is not None, accepted)
-        self.want('what canon left beside it', [other for other in os.listdir(self.folder) if other.startswith('.')], [])
-        return form
 
 
 def accepted(runs, line, form):
