@@ -52,6 +52,12 @@ def begin(words: Sequence[str | bytes], folder: str | pathlib.Path, **options: U
         user=user, group=user, extra_groups=None if user is None else [], preexec_fn=options.get('prepare'))
 
 
+def opened(pipe: IO[bytes] | None) -> IO[bytes]:
+    """A pipe with which a run was begun."""
+    assert pipe is not None
+    return pipe
+
+
 def ended(words: Sequence[str | bytes], folder: str | pathlib.Path, **options: Unpack[Options]) -> Ended:
     """Returns what a run in a folder ended with.
 
