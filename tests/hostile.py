@@ -22,7 +22,7 @@ from collections.abc import Callable, Iterable, Iterator, Sequence
 from typing import IO
 
 from outputs import PART
-from running import LIMIT, Answer, Options, Runs, ended, opened, try_all, words_of
+from running import LIMIT, Answer, RunOptions, Runs, ended, pipe_of, try_all, words_of
 from texts import fragment, mixed
 from traffic import (
     CLIENT, MAGIC_2, NFS, NFSACL, call, dirop, fh, hyper, in_turn, interleaved, messages, success, word)
@@ -55,7 +55,7 @@ class Place(Runs):
         process = self.begin(*words, before=before, stdin=subprocess.PIPE)
         feeder = threading.Thread(target=feed, args=(process.stdin, pieces), daemon=True)
         feeder.start()
-        out, error = opened(process.stdout).read(), opened(process.stderr).read()
+        out, error = pipe_of(process.stdout).read(), pipe_of(process.stderr).read()
         feeder.join(LIMIT)
         return process.wait(LIMIT), out.decode(), error.decode()
 
@@ -238,10 +238,10 @@ def readers_that_go_away(place: Place) -> None:
     place.write('a', LARGE)
     for words in (['show', 'a'], ['canon', 'a', '/dev/stdout'], ['pack', '/dev/stdout', 'a', 'a']):
         process = place.begin(*words)
-        listing = opened(process.stdout)
+        listing = pipe_of(process.stdout)
         listing.read(1)
         listing.close()
-        place.want(words[0], (process.wait(LIMIT), opened(process.stderr).read()), (3, b'write failed\n'))
+        place.want(words[0], (process.wait(LIMIT), pipe_of(process.stderr).read()), (3, b'write failed\n'))
 
 
 def pipes_that_do_not_wait(place: Place) -> None:
@@ -292,7 +292,7 @@ def signals_in_the_middle(place: Place) -> None:
         for number in (signal.SIGTERM, signal.SIGINT, signal.SIGKILL):
             place.write('out', b'as it was')
             process = place.begin(*words, stdin=subprocess.PIPE)
-            given = opened(process.stdin)
+            given = pipe_of(process.stdin)
             given.write(LARGE[:2_000_000])
             given.flush()
             part = part_in(place)
@@ -314,13 +314,13 @@ def names_that_are_taken_in_the_middle(place: Place) -> None:
         if before is not None:
             place.write(name, before)
         process = place.begin('canon', '/dev/stdin', name, stdin=subprocess.PIPE)
-        given = opened(process.stdin)
+        given = pipe_of(process.stdin)
         given.write(LARGE[:2_000_000])
         part_in(place)
         remove(place.path(name))
         make(place.path(name))
         feed(given, [LARGE[2_000_000:]])
-        place.want('canon', (process.wait(LIMIT), opened(process.stderr).read()), (3, b'write failed\n'))
+        place.want('canon', (process.wait(LIMIT), pipe_of(process.stderr).read()), (3, b'write failed\n'))
         place.want('files', place.names(), [name] if os.path.lexists(place.path(name)) else [])
 
     def other(path: str) -> None:
@@ -563,7 +563,7 @@ def files_that_may_not_be_read(place: Place) -> None:
     place.write('secret', GOOD)
     os.chmod(place.path('secret'), 0)
     os.chmod(place.folder, 0o755)
-    reader: Options = {'user': NOBODY} if os.geteuid() == 0 else {}
+    reader: RunOptions = {'user': NOBODY} if os.geteuid() == 0 else {}
     program = shutil.copy(place.program, place.folder)  # since the repository may stand where others may not look
     for words in (['check', 'secret'], ['show', 'secret'], ['same', 'good', 'secret'], ['canon', 'secret', 'out']):
         answer = ended([program, *words], place.folder, **reader).text()
@@ -580,12 +580,12 @@ def files_that_change_while_they_are_read(place: Place) -> None:
     for size, status, line in ((3_000_000, 2, REFUSED_LARGE), (len(LARGE) + 1, 2, 'file %d: AfterEnd\n' % len(LARGE))):
         place.write('a', LARGE)
         process = place.begin('canon', 'a', '/dev/stdout')
-        written = opened(process.stdout)
+        written = pipe_of(process.stdout)
         front = written.read(1)
         os.truncate(place.path('a'), size)
         form = front + written.read()
         place.want('a front of the form', LARGE.startswith(form), True)
-        place.want('canon', (process.wait(LIMIT), opened(process.stderr).read().decode()), (status, line))
+        place.want('canon', (process.wait(LIMIT), pipe_of(process.stderr).read().decode()), (status, line))
 
 
 # --- Time ---

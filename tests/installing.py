@@ -9,13 +9,11 @@ PROGRAM is crates/nfs3canon/out/nfs3canon if none is named. What is installed is
 import os
 import pathlib
 import re
-import subprocess
 import tarfile
 import tempfile
 from collections.abc import Callable
 
-from captures import Runs
-from running import try_all, words_of
+from running import Answer, Runs, ended, try_all, words_of
 
 TOP = pathlib.Path(__file__).resolve().parent.parent
 TOOLS = ('from-pcap', 'where', 'verdicts', 'compare', 'explain')
@@ -24,11 +22,10 @@ TOOLS = ('from-pcap', 'where', 'verdicts', 'compare', 'explain')
 class Place(Runs):
     """A folder, and runs of commands there."""
 
-    def command(self, *words: str) -> tuple[int, str, str]:
-        done = subprocess.run(words, cwd=self.folder, stdout=subprocess.PIPE, stderr=subprocess.PIPE, text=True)
-        return done.returncode, done.stdout, done.stderr
+    def command(self, *words: str) -> Answer:
+        return ended(words, self.folder, limit=None).text()
 
-    def tool(self, name: str, *words: str) -> tuple[int, str, str]:
+    def tool(self, name: str, *words: str) -> Answer:
         return self.command(str(TOP / 'tools' / name), '--program', self.program, *words)
 
 

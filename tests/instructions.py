@@ -13,11 +13,10 @@ import os
 import pathlib
 import re
 import shutil
-import subprocess
 import sys
 import tempfile
 
-from running import command_of, try_all, words_of
+from running import command_of, ended, try_all, words_of
 
 sys.path.insert(0, str(pathlib.Path(__file__).resolve().parent.parent / 'measure'))
 import make  # noqa: E402
@@ -66,12 +65,11 @@ def words_for(command: str, name: str) -> list[str]:
 def millions(program: str, folder: pathlib.Path, command: str, name: str) -> float:
     """How many million instructions the run takes; it has to end with status 0."""
     path, words = command_of(program, words_for(command, name))
-    words = ['valgrind', '--tool=callgrind', '--callgrind-out-file=/dev/null', path, *words]
-    run = subprocess.run(words, cwd=folder, stdout=subprocess.DEVNULL, stderr=subprocess.PIPE, text=True, check=True)
-    counted = re.search(r'Collected : (\d+)', run.stderr)
-    if not counted:
-        raise ValueError('callgrind tells no count: ' + run.stderr[-300:])
-    return int(counted.group(1)) / 1e6
+    run = ended([path, *words], folder, before=['valgrind', '--tool=callgrind', '--callgrind-out-file=/dev/null'], limit=None)
+    counted = re.search(rb'Collected : (\d+)', run.error)
+    if run.status != 0 or not counted:
+        raise ValueError('callgrind ended with status %d, and tells no count: %r' % (run.status, run.error[-300:]))
+    return int(counted[1]) / 1e6
 
 
 def is_within(program: str, folder: pathlib.Path, label: str) -> list[str]:

@@ -12,12 +12,10 @@ import hashlib
 import os
 import pathlib
 import subprocess
-import sys
 import tempfile
 from collections.abc import Callable, Iterable, Iterator
 
-from captures import Runs
-from running import try_all, words_of
+from running import Runs, pipe_of, try_all, words_of
 from texts import fragment, mixed
 from traffic import COMMIT, NFS, call, dirop, fh, hyper, messages, ok, post_op_attr, success, wcc, word
 
@@ -47,11 +45,10 @@ class Place(Runs):
         wanted, got = hashlib.sha256(), hashlib.sha256()
         for line in lines:
             wanted.update(line + b'\n')
-        with subprocess.Popen([self.program, 'show', name], cwd=self.folder, stdout=subprocess.PIPE, stderr=subprocess.PIPE) as process:
-            assert process.stdout and process.stderr
-            while piece := process.stdout.read(1 << 20):
+        with self.begin('show', name) as process:
+            while piece := pipe_of(process.stdout).read(1 << 20):
                 got.update(piece)
-            error = process.stderr.read()
+            error = pipe_of(process.stderr).read()
         self.want('show ' + name, (process.returncode, error, got.hexdigest()), (0, b'', wanted.hexdigest()))
 
 
@@ -195,7 +192,7 @@ def words_of_the_line(place: Place) -> None:
                       ['pack', name, 'a', 'a'], ['pack', 'out', 'a', name]):
             what = ' '.join(words)[:40]
             place.want(what, place.run(*words), (3, '', 'open failed: %s\n' % name))
-    place.want('files', os.listdir(place.folder), ['a'])
+    place.want('files', place.names(), ['a'])
 
 
 def names_of_files(place: Place) -> None:
@@ -205,7 +202,7 @@ def names_of_files(place: Place) -> None:
         answer = place.run('canon', 'i' * size, 'o' * size)
         place.want('canon', answer, (0, 'ok connections=1 calls=1 replies=1 handles=0\n', ''))
         place.want('what it writes', place.read('o' * size) == NULL, True)
-    folder = os.path.join(place.folder, *(['d' * 250] * 12))
+    folder = place.path('/'.join(['d' * 250] * 12))
     os.makedirs(folder)
     pathlib.Path(folder, 'a').write_bytes(NULL)
     name = os.path.relpath(os.path.join(folder, 'a'), place.folder)
@@ -243,4 +240,4 @@ def main() -> None:
 
 
 if __name__ == '__main__':
-    sys.exit(main())
+    main()

@@ -17,7 +17,7 @@ import tempfile
 import threading
 from collections.abc import Callable
 
-from running import Ended, Options, ended, program_named, try_all, words_of
+from running import Ended, RunOptions, ended, program_named, try_all, words_of
 from texts import bytes_of, capture_of, mixed_of
 
 HERE = pathlib.Path(__file__).resolve().parent
@@ -202,7 +202,7 @@ def run_in(case: Case, program: str, folder: str) -> Ended:
     """What the program ended with, whose standard files are those of the case."""
     path = program_named(case.name_of_program, program) if case.name_of_program else program
     with contextlib.ExitStack() as opened:
-        options: Options = {'limit': TIMEOUT}
+        options: RunOptions = {'limit': TIMEOUT}
         if case.stdin:
             options['stdin'] = opened.enter_context(open(os.path.join(folder, case.stdin), 'rb'))
         if case.stdout == 'closed-pipe':

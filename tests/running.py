@@ -26,11 +26,11 @@ class Ended(NamedTuple):
     error: bytes
 
     def text(self, errors: str = 'strict') -> Answer:
-        """The same with both outputs as text."""
-        return self.status, self.out.decode(errors=errors), self.error.decode(errors=errors)
+        """The same with both outputs as text; `errors` says what becomes of bytes of standard output that are no text."""
+        return self.status, self.out.decode(errors=errors), self.error.decode()
 
 
-class Options(TypedDict, total=False):
+class RunOptions(TypedDict, total=False):
     """How a run differs from one that reads nothing and whose outputs are gathered."""
     before: Sequence[str]  # words before the program, of a command that runs it
     stdin: bytes | int | IO[bytes] | None  # what it reads, or where from; None for nothing
@@ -42,7 +42,7 @@ class Options(TypedDict, total=False):
     limit: float | None  # the seconds that it may take; None for as many as it likes
 
 
-def begin(words: Sequence[str | bytes], folder: str | pathlib.Path, **options: Unpack[Options]) -> subprocess.Popen[bytes]:
+def begin(words: Sequence[str | bytes], folder: str | pathlib.Path, **options: Unpack[RunOptions]) -> subprocess.Popen[bytes]:
     """Begins a run in a folder. Bytes for its standard input are not written here, but go into a pipe."""
     stdin, user = options.get('stdin'), options.get('user')
     source = subprocess.DEVNULL if stdin is None else subprocess.PIPE if isinstance(stdin, bytes) else stdin
@@ -52,13 +52,13 @@ def begin(words: Sequence[str | bytes], folder: str | pathlib.Path, **options: U
         user=user, group=user, extra_groups=None if user is None else [], preexec_fn=options.get('prepare'))
 
 
-def opened(pipe: IO[bytes] | None) -> IO[bytes]:
+def pipe_of(pipe: IO[bytes] | None) -> IO[bytes]:
     """A pipe with which a run was begun."""
     assert pipe is not None
     return pipe
 
 
-def ended(words: Sequence[str | bytes], folder: str | pathlib.Path, **options: Unpack[Options]) -> Ended:
+def ended(words: Sequence[str | bytes], folder: str | pathlib.Path, **options: Unpack[RunOptions]) -> Ended:
     """Returns what a run in a folder ended with.
 
     Raises `subprocess.TimeoutExpired` if it takes too long.
@@ -103,13 +103,13 @@ class Runs:
         program, words = command_of(self.program, words)
         return [program, *words]
 
-    def begin(self, *words: str, **options: Unpack[Options]) -> subprocess.Popen[bytes]:
+    def begin(self, *words: str, **options: Unpack[RunOptions]) -> subprocess.Popen[bytes]:
         return begin(self.words(*words), self.folder, **options)
 
-    def ended(self, *words: str, **options: Unpack[Options]) -> Ended:
+    def ended(self, *words: str, **options: Unpack[RunOptions]) -> Ended:
         return ended(self.words(*words), self.folder, **options)
 
-    def run(self, *words: str, **options: Unpack[Options]) -> Answer:
+    def run(self, *words: str, **options: Unpack[RunOptions]) -> Answer:
         return self.ended(*words, **options).text()
 
     def want(self, what: str, got: object, wanted: object) -> None:
