@@ -148,8 +148,9 @@ def refuse_memory(place: Place, capture: bytes) -> None:
             place.write('out', b'as it was')
             answer = place.limited('-v %d' % limit, command, *names)
             is_refused = ran_out(answer, plenty[command])
-            refused |= {command} if is_refused else set()
-            if not is_refused:
+            if is_refused:
+                refused.add(command)
+            else:
                 place.want('%s with %d KiB' % (command, limit), answer, plenty[command])
             wanted = b'as it was' if is_refused else forms[command]
             place.want('out is right after %s with %d KiB' % (command, limit), place.read('out') == wanted, True)

@@ -45,7 +45,7 @@ class RunOptions(TypedDict, total=False):
 def begin(words: Sequence[str | bytes], folder: str | pathlib.Path, **options: Unpack[RunOptions]) -> subprocess.Popen[bytes]:
     """Begins a run in a folder. Bytes for its standard input are not written here, but go into a pipe."""
     stdin, user = options.get('stdin'), options.get('user')
-    source = subprocess.DEVNULL if stdin is None else subprocess.PIPE if isinstance(stdin, bytes) else stdin
+    source: int | IO[bytes] = subprocess.DEVNULL if stdin is None else subprocess.PIPE if isinstance(stdin, bytes) else stdin
     return subprocess.Popen(
         [*options.get('before', ()), *words], cwd=folder, stdin=source,
         stdout=options.get('stdout', subprocess.PIPE), stderr=options.get('stderr', subprocess.PIPE), env=options.get('env'),
@@ -100,8 +100,8 @@ class Runs:
 
     def words(self, *words: str) -> list[str]:
         """The command line of the program, or of nfs3mask if the words begin with it."""
-        program, words = command_of(self.program, words)
-        return [program, *words]
+        program, rest = command_of(self.program, words)
+        return [program, *rest]
 
     def begin(self, *words: str, **options: Unpack[RunOptions]) -> subprocess.Popen[bytes]:
         return begin(self.words(*words), self.folder, **options)

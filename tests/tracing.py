@@ -89,7 +89,7 @@ def why_not() -> str | None:
     if sys.platform != 'linux' or os.uname().machine != 'x86_64':
         return 'growths and devices are made to fail on Linux and x86-64 only'
     try:
-        process = subprocess.Popen(['true'], preexec_fn=trace_me)
+        process = begin(['true'], '.', stdout=subprocess.DEVNULL, stderr=subprocess.DEVNULL, prepare=trace_me)
         os.waitpid(process.pid, 0)
         process.kill()
         process.returncode = os.waitstatus_to_exitcode(os.waitpid(process.pid, 0)[1])
@@ -106,7 +106,7 @@ class Elf:
             self.bytes = file.read()
         self.entry, headers = struct.unpack_from('<QQ', self.bytes, 24)
         size, count = struct.unpack_from('<HH', self.bytes, 54)
-        self.segments = [struct.unpack_from('<IIQQQQ', self.bytes, headers + number * size) for number in range(count)]
+        self.segments: list[tuple[int, ...]] = [struct.unpack_from('<IIQQQQ', self.bytes, headers + number * size) for number in range(count)]
         self.slots = dict(self.imports())
 
     def at(self, address: int) -> int:
@@ -117,7 +117,7 @@ class Elf:
     def imports(self) -> Iterator[tuple[str, int]]:
         """Each imported function's name and slot."""
         offset, size = next((offset, size) for kind, _, offset, _, _, size in self.segments if kind == 2)
-        tags = dict(struct.iter_unpack('<QQ', self.bytes[offset:offset + size]))
+        tags: dict[int, int] = dict(struct.iter_unpack('<QQ', self.bytes[offset:offset + size]))
         for table, length in ((23, 2), (7, 8)):
             if table not in tags:
                 continue
@@ -128,6 +128,7 @@ class Elf:
                     yield self.name(tags, about >> 32), slot
 
     def name(self, tags: Mapping[int, int], number: int) -> str:
+        """The name of a symbol."""
         (offset,) = struct.unpack_from('<I', self.bytes, self.at(tags[6]) + 24 * number)
         start = self.at(tags[5]) + int(offset)
         return self.bytes[start:self.bytes.index(b'\0', start)].decode()
