@@ -30,6 +30,7 @@ class Measured(NamedTuple):
 
 
 def run(program: str, file: str) -> Measured:
+    """Runs `check` under GNU time, which tells the memory."""
     with tempfile.NamedTemporaryFile('r') as kilobytes:
         timed = [GNU_TIME, '--quiet', '--format=%M', '--output', kilobytes.name]
         begin = time.perf_counter()

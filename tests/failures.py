@@ -82,6 +82,7 @@ def printed(answer: Answer) -> tuple[int, str, str]:
 
 
 def example(name: str) -> bytes:
+    """A capture of the examples."""
     return (EXAMPLES / (name + '.nfs3cap')).read_bytes()
 
 
@@ -249,6 +250,7 @@ def calls(setting: Setting, place: Place) -> None:
 
 
 def seen(place: Place, setting: Setting, fault: Fault | None = None) -> Seen:
+    """A run in a setting, in which the fault happens."""
     answer, through = outputs.run(place.program, place.folder, setting, fault)
     return Seen(answer, outputs.found_in(place.folder), through)
 
@@ -308,10 +310,12 @@ def without_front(found: Found, setting: Setting, before: Found, after: Found) -
 # --- How often is read ---
 
 def of_version_1(rest: bytes) -> bytes:
+    """A capture of one call, which is carried raw and ends with these bytes."""
     return messages.capture(([call(1, NFSACL, 3, 1, rest)], []))
 
 
 def of_version_2(rest: bytes) -> bytes:
+    """The same in version 2."""
     return mixed([[('>', fragment(call(1, NFSACL, 3, 1, rest)))]])
 
 
@@ -384,6 +388,7 @@ def tries() -> Iterator[tuple[str, Callable[..., None], *tuple[object, ...]]]:
 
 
 def tried(program: str, test: Callable[..., None], *given: object) -> list[str]:
+    """What is wrong in a test, which has a folder of its own."""
     with tempfile.TemporaryDirectory(prefix='nfs3canon') as folder:
         place = Place(program, folder)
         test(*given, place)

@@ -1,5 +1,5 @@
 #!/usr/bin/env python3
-"""Runs the built program where memory, disks, pipes and inputs are as bad as a recording tool meets them.
+"""Runs the built program with memory, disks, pipes and inputs that are as bad as a recording tool meets them.
 
     python3 tests/hostile.py [PROGRAM] [--only TEXT] [-v]
 
@@ -86,6 +86,7 @@ def by_shell(script: str) -> list[str]:
 
 
 def feed(pipe: IO[bytes], pieces: Iterable[bytes]) -> None:
+    """Writes the pieces, as many of them as are read, and closes the pipe."""
     try:
         for piece in pieces:
             pipe.write(piece)
@@ -100,6 +101,7 @@ def feed_fifo(path: str, pieces: Iterable[bytes]) -> None:
 
 
 def endless(first: bytes, piece: bytes) -> Iterator[bytes]:
+    """The first piece, and then the other again and again."""
     yield first
     while True:
         yield piece
@@ -383,7 +385,7 @@ def as_nobody(place: Place) -> Callable[..., Answer] | None:
     if os.geteuid() != 0:
         return None
     os.chmod(place.folder, 0o777)
-    program = shutil.copy(place.program, place.folder)  # since the repository may stand where others may not look
+    program = shutil.copy(place.program, place.folder)  # since the repository may be in a folder into which others may not look
     return lambda *words: ended([program, *words], place.folder, user=NOBODY).text()
 
 
@@ -420,6 +422,7 @@ def rights_on_an_output(place: Place) -> None:
     path = place.path('out')
 
     def rights(mode: int, owner: int | None, run: Callable[..., Answer] = place.run) -> tuple[int, int, int]:
+        """The mode, the owner and the group of an output that had these before the run."""
         place.write('out', b'as it was')
         if owner is not None:
             os.chown(path, owner, owner)
@@ -442,6 +445,7 @@ def rights_on_an_output(place: Place) -> None:
 
 
 def umask() -> int:
+    """The modes that a new file does not get."""
     with open('/proc/self/status') as file:
         return int(next(line.split()[1] for line in file if line.startswith('Umask:')), 8)
 
@@ -565,7 +569,7 @@ def files_that_may_not_be_read(place: Place) -> None:
     os.chmod(place.path('secret'), 0)
     os.chmod(place.folder, 0o755)
     reader: RunOptions = {'user': NOBODY} if os.geteuid() == 0 else {}
-    program = shutil.copy(place.program, place.folder)  # since the repository may stand where others may not look
+    program = shutil.copy(place.program, place.folder)  # since the repository may be in a folder into which others may not look
     for words in (['check', 'secret'], ['show', 'secret'], ['same', 'good', 'secret'], ['canon', 'secret', 'out']):
         answer = ended([program, *words], place.folder, **reader).text()
         place.want(' '.join(words), answer, (3, '', 'open failed: secret\n'))
@@ -592,6 +596,7 @@ def files_that_change_while_they_are_read(place: Place) -> None:
 # --- Time ---
 
 def xids(count: int) -> Streams:
+    """NULL calls with different xids, and their replies, the last one first."""
     calls, reply = call(0, NFS, 3, 0)[4:], success(0)[4:]
     client = b''.join(b'\0\0\0\x2c\x80\0\0\x28%b%b' % (word(number), calls) for number in range(count))
     server = b''.join(b'\0\0\0\x1c\x80\0\0\x18%b%b' % (word(number), reply) for number in reversed(range(count)))
@@ -700,10 +705,12 @@ def is_linear(name: str, make: Callable[[int], bytes], count: int) -> Test:
 
 
 def linear(make: Callable[[int], Streams], count: int) -> Test:
+    """The test for captures of version 1 with these streams."""
     return is_linear(make.__name__, lambda number: version_1(make(number)), count)
 
 
 def linear_in_version_2(make: Callable[[int], bytes], count: int) -> Test:
+    """The test for captures of version 2 with these chunks."""
     return is_linear(make.__name__, lambda number: version_2(make(number)), count)
 
 
@@ -767,6 +774,7 @@ TESTS: list[Test] = [
 
 
 def tried(program: str, test: Test) -> list[str]:
+    """What is wrong in a test, which has a folder of its own."""
     with tempfile.TemporaryDirectory(prefix='nfs3canon') as folder:
         place = Place(program, folder)
         try:

@@ -23,13 +23,16 @@ class Place(Runs):
     """A folder, and runs of commands there."""
 
     def command(self, *words: str) -> Answer:
+        """What a command ended with."""
         return ended(words, self.folder, limit=None).text()
 
     def tool(self, name: str, *words: str) -> Answer:
+        """What a script of tools/ ended with, on the program of the tests."""
         return self.command(str(TOP / 'tools' / name), '--program', self.program, *words)
 
 
 def version() -> str:
+    """The version on top of the change log."""
     found = re.search(r'^## (\S+)', (TOP / 'CHANGELOG.md').read_text(), re.MULTILINE)
     assert found
     return found[1]
@@ -96,6 +99,7 @@ TESTS: list[Callable[[Place], None]] = [under_a_prefix, where_nothing_can_be_wri
 
 
 def tried(program: str, test: Callable[[Place], None]) -> list[str]:
+    """What is wrong in a test, which has a folder of its own."""
     with tempfile.TemporaryDirectory(prefix='nfs3canon') as folder:
         place = Place(program, folder)
         test(place)

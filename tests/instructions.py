@@ -6,7 +6,7 @@
 PROGRAM is crates/nfs3canon/out/nfs3canon if none is named. Each command runs on a made capture of one megabyte; a count
 does not move with what else the machine does, as a time would. A limit is 5 % above what was counted if it was set last, so
 who makes a command slower sees it here. If a command has become faster, its limit is lowered. The counts are of the program
-alone on x86-64: where valgrind is not installed, all is left out, with a word. The last line is 'N passed, M failed', and
+alone on x86-64. If valgrind is not installed, all is left out, with a word. The last line is 'N passed, M failed', and
 the status is 1 if any failed.
 """
 import os
@@ -49,6 +49,7 @@ def make_inputs(folder: pathlib.Path) -> None:
 
 
 def words_for(command: str, name: str) -> list[str]:
+    """The command line for a command on a capture."""
     match command:
         case 'canon':
             return ['canon', name, 'canon-' + name]

@@ -58,6 +58,7 @@ def scrambled(number: int) -> int:
 
 
 def stream(bodies: Iterable[bytes]) -> bytes:
+    """The chunks of a stream with these bodies, a record and a chunk each, and its word 0."""
     return b''.join(messages.record(body) for body in bodies) + word(0)
 
 
@@ -112,6 +113,7 @@ def records_of_same(place: Place) -> None:
     """The one that differs is the last but one of many."""
     count = 200_000
     def accesses(last: int) -> bytes:
+        """ACCESS calls, of which the last but one asks for other rights."""
         asked = [1] * (count - 2) + [last, 1]
         return capture(stream(call(number, NFS, 3, 4, fh(b'file') + word(bits)) for number, bits in enumerate(asked)), word(0))
     place.write('a', accesses(1))
@@ -155,6 +157,7 @@ def escaped(text: bytes) -> bytes:
 
 
 def looked_up(number: int, name: bytes) -> bytes:
+    """The line that `show` prints of a LOOKUP call."""
     return (b'1 client %d xid=%d NFSPROC3_LOOKUP mtype=0 rpcvers=2 prog=100003 vers=3 proc=3 cred_flavor=0 cred_body= verf_flavor=0 '
             b'verf_body= fh=61 name="%b"' % (number, number, escaped(name)))
 
@@ -226,6 +229,7 @@ TESTS: list[Callable[[Place], None]] = [
 
 
 def tried(program: str, test: Callable[[Place], None]) -> list[str]:
+    """What is wrong in a test, which has a folder of its own."""
     with tempfile.TemporaryDirectory(prefix='nfs3canon') as folder:
         place = Place(program, folder)
         try:

@@ -113,6 +113,7 @@ class Case:
 
 
 def cases_of(path: pathlib.Path) -> list[Case]:
+    """The cases of a file."""
     cases: list[Case] = []
     for number, line in enumerate(path.read_text().splitlines(), 1):
         line = re.sub(r'(^|\s)#.*', '', line).rstrip()

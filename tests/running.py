@@ -81,6 +81,7 @@ class Runs:
         self.wrong: list[str] = []
 
     def path(self, name: str) -> str:
+        """The path of a name in the folder."""
         return os.path.join(self.folder, name)
 
     def names(self) -> list[str]:
@@ -104,15 +105,19 @@ class Runs:
         return [program, *rest]
 
     def begin(self, *words: str, **options: Unpack[RunOptions]) -> subprocess.Popen[bytes]:
+        """Begins a run of the program."""
         return begin(self.words(*words), self.folder, **options)
 
     def ended(self, *words: str, **options: Unpack[RunOptions]) -> Ended:
+        """What a run of the program ended with."""
         return ended(self.words(*words), self.folder, **options)
 
     def run(self, *words: str, **options: Unpack[RunOptions]) -> Answer:
+        """The same as text."""
         return self.ended(*words, **options).text()
 
     def want(self, what: str, got: object, wanted: object) -> None:
+        """Notes what is wrong, if these are not equal."""
         if got != wanted:
             self.wrong.append('%s: %.300r, wanted %.300r' % (what, got, wanted))
 
@@ -162,6 +167,7 @@ def words_of(text: str | None, built: str | pathlib.Path = BUILT) -> Words:
 # --- Tries ---
 
 def one(program: str, it: Try) -> list[str]:
+    """What is wrong with one try."""
     return it[1](program, *it[2:])
 
 

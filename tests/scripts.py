@@ -23,6 +23,7 @@ Streams = tuple[bytes, bytes]
 
 
 def stream(bodies: typing.Iterable[bytes]) -> bytes:
+    """A stream with these bodies, a record each."""
     return b''.join(messages.record(body)[4:] for body in bodies)
 
 
@@ -98,6 +99,7 @@ class Tools(Runs):
             self.want(what, 'taken', message)
 
     def exists(self, name: str) -> bool:
+        """Whether a file is in the folder."""
         return os.path.exists(self.path(name))
 
 

@@ -1,7 +1,7 @@
 """Runs of a program in which one growth of memory is refused, or one call of the system fails, or moves less than was asked for.
 
 The program runs traced, as under a debugger (ptrace(2)), by Python's standard library alone; on Linux and x86-64 only. What is
-counted begins where the loader has ended. Growths are the program's own calls of malloc and realloc: their slots in its table of
+counted begins when the loader has ended. Growths are the program's own calls of malloc and realloc: their slots in its table of
 imported functions get addresses at which nothing is, so each call stops there.
 """
 import ctypes
@@ -106,7 +106,8 @@ class Elf:
             self.bytes = file.read()
         self.entry, headers = struct.unpack_from('<QQ', self.bytes, 24)
         size, count = struct.unpack_from('<HH', self.bytes, 54)
-        self.segments: list[tuple[int, ...]] = [struct.unpack_from('<IIQQQQ', self.bytes, headers + number * size) for number in range(count)]
+        self.segments: list[tuple[int, ...]] = [
+            struct.unpack_from('<IIQQQQ', self.bytes, headers + number * size) for number in range(count)]
         self.slots = dict(self.imports())
 
     def at(self, address: int) -> int:
@@ -135,7 +136,7 @@ class Elf:
 
 
 class Traced:
-    """A run of a program that stops where something is counted."""
+    """A run of a program that stops at all that is counted."""
 
     def __init__(self, elf: Elf, process: subprocess.Popen[bytes], fault: Fault | None, pieces: Mapping[str, int]) -> None:
         self.elf, self.process, self.fault, self.pieces = elf, process, fault, pieces
@@ -200,6 +201,7 @@ class Traced:
         return 0
 
     def is_growth(self) -> bool:
+        """Whether the program stopped at the address in the slot of a function that takes memory."""
         self.load()
         return self.registers.rip in self.real
 
@@ -259,6 +261,7 @@ class Traced:
         return kind
 
     def is_told_by_the_system(self, file: int) -> bool:
+        """Whether an open file is one of /proc."""
         try:
             return os.readlink('/proc/%d/fd/%d' % (self.process.pid, file)).startswith('/proc/')
         except OSError:

@@ -32,6 +32,7 @@ FAULTS = {'bad_client_record': ('client record 1 byte 4: BadEnum', 4), 'bad_serv
 # --- where ---
 
 def where(tools: Tools, place: str, *options: str) -> tuple[int, list[str], str]:
+    """The status of `tools/where` on the recording `a.pcap`, its lines, and what is told on standard error."""
     status, out, error = tools.tool('where', *options, 'a.pcap', place)
     return status, out.splitlines(), error
 
