@@ -12,37 +12,48 @@ import subprocess
 import sys
 import tempfile
 import time
+from typing import NamedTuple
+
+sys.path.insert(0, str(pathlib.Path(__file__).resolve().parent.parent / 'tests'))
+from running import ended  # noqa: E402
 
 MEGA = 1_000_000
 GNU_TIME = '/usr/bin/time'
 
 
-def run(program, file):
-    """The seconds, the bytes of memory, and what the program answered."""
+class Measured(NamedTuple):
+    """A run: its seconds, the bytes of memory, what it printed, and its status."""
+    seconds: float
+    memory: int
+    line: str
+    status: int
+
+
+def run(program: str, file: str) -> Measured:
+    """Runs `check` under GNU time, which tells the memory."""
     with tempfile.NamedTemporaryFile('r') as kilobytes:
-        words = [GNU_TIME, '--quiet', '--format=%M', '--output', kilobytes.name, program, 'check', file]
+        timed = [GNU_TIME, '--quiet', '--format=%M', '--output', kilobytes.name]
         begin = time.perf_counter()
-        process = subprocess.run(words, stdin=subprocess.DEVNULL, stdout=subprocess.PIPE, stderr=subprocess.STDOUT)
+        done = ended([program, 'check', file], '.', before=timed, stderr=subprocess.STDOUT, limit=None)
         seconds = time.perf_counter() - begin
-        answer = process.stdout.decode().strip(), process.returncode
-        return seconds, int(kilobytes.read()) * 1_024, answer
+        return Measured(seconds, int(kilobytes.read()) * 1_024, done.out.decode().strip(), done.status)
 
 
-def measure(program, file, runs):
-    """A row of the table. All runs have to answer the same."""
+def measure(program: str, file: str, runs: int) -> None:
+    """Prints a row of the table. All runs must answer the same."""
     results = [run(program, file) for _ in range(runs)]
-    answers = {answer for _, _, answer in results}
+    answers = {(result.line, result.status) for result in results}
     if len(answers) > 1:
         sys.exit(f'{file}: the runs differ: {sorted(answers)}')
     line, status = answers.pop()
     size = pathlib.Path(file).stat().st_size
-    seconds = min(seconds for seconds, _, _ in results)
-    memory = max(memory for _, memory, _ in results)
+    seconds = min(result.seconds for result in results)
+    memory = max(result.memory for result in results)
     numbers = f'{size:,} | {seconds:.3f} | {size / MEGA / seconds:,.0f} | {memory / MEGA:,.1f}'
     print(f'| `{pathlib.Path(file).name}` | {numbers} | `{line}` | {status} |', flush=True)
 
 
-def main():
+def main() -> None:
     parser = argparse.ArgumentParser(description=__doc__, formatter_class=argparse.RawDescriptionHelpFormatter)
     parser.add_argument('program')
     parser.add_argument('files', nargs='+', metavar='file')

@@ -15,7 +15,7 @@ import tempfile
 from collections.abc import Callable, Iterable, Sequence
 
 from containers import Container, bodies_of
-from running import command_of, try_all, words_of
+from running import Answer, Runs, try_all, words_of
 from texts import Chunk, Record, bytes_of, capture_of, mixed, mixed_of, records_of, sent
 import messages
 from messages import chunk, fragment
@@ -30,8 +30,6 @@ PLACE = re.compile(r'connection (\d+) (client|server) record (\d+)')
 Row = dict[str, str]
 # Makes the chunks of a connection of version 2.
 Order = Callable[[Sequence[Record]], list[Chunk]]
-# The status, standard output and standard error of a run.
-Answer = tuple[int, str, str]
 
 
 def rows_of(name: str) -> list[tuple[str, Row]]:
@@ -71,47 +69,7 @@ def byte_by_byte(records: Sequence[Record]) -> list[Chunk]:
     return [piece for pair in itertools.zip_longest(*streams) for piece in pair if piece]
 
 
-class Runs:
-    """Runs of the program in a folder of their own."""
-
-    def __init__(self, program, folder):
-        self.program, self.folder, self.wrong = program, folder, []
-
-    def write(self, name, content):
-        with open(os.path.join(self.folder, name), 'wb') as file:
-            file.write(content)
-
-    def read(self, name):
-        path = os.path.join(self.folder, name)
-        if not os.path.exists(path):
-            return None
-        with open(path, 'rb') as file:
-            return file.read()
-
-    def run(self, *words, stdin=None):
-        program, words = command_of(self.program, words)
-        done = subprocess.run([program, *words], cwd=self.folder, input=stdin, timeout=TIMEOUT,
-                              stdout=subprocess.PIPE, stderr=subprocess.PIPE)
-        return done.returncode, done.stdout.decode(), done.stderr.decode()
-
-    def want(self, what, got, wanted):
-        if got != wanted:
-            self.wrong.append('%s: %.300r, wanted %.300r' % (what, got, wanted))
-
-    def same_answer(self, name, line):
-        """`check` and `canon` answer the line, and what canon writes is given."""
-        accepted = line.startswith('ok ')
-        wanted = (0, line + '\n', '') if accepted else (2, '', line + '\n')
-        self.want('check ' + name, self.run('check', name), wanted)
-        self.want('canon ' + name, self.run('canon', name, name + '.out'), wanted)
-        form = self.read(name + '.out')
-        self.want('what canon made of ' + name, form is not None, accepted)
-        self.want('what canon left beside it', [other for other in os.listdir(self.folder) if other.startswith('.')], [])
-        return form
-
-
 def accepted(runs: Runs, line: str, form: bytes) -> None:
-    """Tries a capture `a` that is accepted, and its canonical form `a.out`."""
     runs.want('canon of canon', runs.same_answer('a.out', line), form)
     for pair in (('a', 'a.out'), ('a.out', 'a'), ('a', 'a')):
         runs.want('same %s %s' % pair, runs.run('same', *pair), (0, 'same\n', ''))

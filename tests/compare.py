@@ -15,8 +15,7 @@ import tempfile
 from collections.abc import Callable
 from html.parser import HTMLParser
 
-from captures import Runs
-from running import try_all, words_of
+from running import Runs, try_all, words_of
 from traffic import Names, Traffic
 
 TOP = pathlib.Path(__file__).resolve().parent.parent

@@ -1,16 +1,15 @@
 #!/usr/bin/env python3
-"""Runs the built program where memory, disks, pipes and inputs are as bad as a recording tool meets them.
+"""Runs the built program with memory, disks, pipes and inputs that are as bad as a recording tool meets them.
 
     python3 tests/hostile.py [PROGRAM] [--only TEXT] [-v]
 
-PROGRAM is crates/nfs3canon/out/nfs3canon where none is named. Each test below is a function with a folder of its own. The
-last line is 'N passed, M failed', and the status is 1 where any failed. It takes less than a minute on four cores.
+PROGRAM is crates/nfs3canon/out/nfs3canon if none is named. Each test below is a function with a folder of its own. The
+last line is 'N passed, M failed', and the status is 1 if any failed. It takes less than a minute on four cores.
 """
 import fcntl
 import functools
 import math
 import os
-import pathlib
 import shutil
 import signal
 import struct
@@ -19,18 +18,18 @@ import tempfile
 import termios
 import threading
 import time
+from collections.abc import Callable, Iterable, Iterator, Sequence
+from typing import IO
 
-from captures import Runs
 from outputs import PART
-from running import command_of, try_all, words_of
+from running import LIMIT, Answer, RunOptions, Runs, ended, pipe_of, try_all, words_of
 from texts import mixed
 import messages
 from messages import CLIENT, MAGIC_2, NFS, NFSACL, call, dirop, fh, fragment, hyper, in_turn, interleaved, success, word
 
-HERE = pathlib.Path(__file__).resolve().parent
-TIMEOUT = 60
+Streams = tuple[bytes, bytes]  # the chunks of both sides, the client's first
 NOBODY = 65_534
-MOST_RATIO, ROUNDS = 2.6, 8  # of the time that twice as much takes; where time grows by the square it is 4
+MOST_RATIO, ROUNDS = 2.6, 8  # of the time that twice as much takes; it is 4 if time grows by the square
 MOST_IN_ANOTHER_ORDER = 3  # of the time that the same connections take if the large one is the last
 MOST_CONNECTIONS = 65_535
 KNOWN_WORD = 0x9e3779b97f4a7c15  # of the kit's `FoldHasher`
@@ -47,35 +46,20 @@ REFUSED_LARGE = 'file 3000000: CaptureCut\n'
 class Place(Runs):
     """A folder, and runs of the program there."""
 
-    def limited(self, limit, *words):
-        """A run under `ulimit` in the shell's words. A file that gets too long is an error, and not the end of the program."""
-        return self.run_by(self.under(limit, *words))
+    def limited(self, limit: str, *words: str) -> Answer:
+        """A run under `ulimit`."""
+        return self.run(*words, before=under(limit))
 
-    def under(self, limit, *words):
-        program, words = command_of(self.program, words)
-        return ['sh', '-c', 'trap "" XFSZ; ulimit %s; exec "$@"' % limit, 'sh', program, *words]
-
-    def run_by(self, words, **options):
-        done = subprocess.run(words, cwd=self.folder, stdin=subprocess.DEVNULL, stdout=subprocess.PIPE,
-                              stderr=subprocess.PIPE, timeout=TIMEOUT, **options)
-        return done.returncode, done.stdout.decode(), done.stderr.decode()
-
-    def begin(self, *words, **pipes):
-        return subprocess.Popen([self.program, *words], cwd=self.folder, stderr=subprocess.PIPE, **pipes)
-
-    def fed(self, words, pieces):
+    def fed(self, words: list[str], pieces: Iterable[bytes], before: Sequence[str] = ()) -> Answer:
         """A run with these pieces on its standard input, as many of them as it takes."""
-        return self.fed_by([self.program, *words], pieces)
-
-    def fed_by(self, words, pieces):
-        process = subprocess.Popen(words, cwd=self.folder, stdin=subprocess.PIPE, stdout=subprocess.PIPE, stderr=subprocess.PIPE)
+        process = self.begin(*words, before=before, stdin=subprocess.PIPE)
         feeder = threading.Thread(target=feed, args=(process.stdin, pieces), daemon=True)
         feeder.start()
-        out, error = process.stdout.read(), process.stderr.read()
-        feeder.join(TIMEOUT)
-        return process.wait(TIMEOUT), out.decode(), error.decode()
+        out, error = pipe_of(process.stdout).read(), pipe_of(process.stderr).read()
+        feeder.join(LIMIT)
+        return process.wait(LIMIT), out.decode(), error.decode()
 
-    def least_memory(self):
+    def least_memory(self) -> int:
         """The least address space, in KiB, with which the program checks a small capture."""
         self.write('small', GOOD)
         low, high = 0, 65_536
@@ -88,7 +72,21 @@ class Place(Runs):
         return high
 
 
-def feed(pipe, pieces):
+Test = Callable[[Place], None]
+
+
+def under(limit: str) -> list[str]:
+    """The words that run a program under `ulimit` in the shell's words. A file that gets too long is an error, and does not end it."""
+    return by_shell('trap "" XFSZ; ulimit %s; exec "$@"' % limit)
+
+
+def by_shell(script: str) -> list[str]:
+    """The words that run a program by a script of the shell, which has the program's command line as `"$@"`."""
+    return ['sh', '-c', script, 'sh']
+
+
+def feed(pipe: IO[bytes], pieces: Iterable[bytes]) -> None:
+    """Writes the pieces, as many of them as are read, and closes the pipe."""
     try:
         for piece in pieces:
             pipe.write(piece)
@@ -97,45 +95,53 @@ def feed(pipe, pieces):
         pass
 
 
-def endless(first, piece):
+def feed_fifo(path: str, pieces: Iterable[bytes]) -> None:
+    with open(path, 'wb', buffering=0) as pipe:
+        feed(pipe, pieces)
+
+
+def endless(first: bytes, piece: bytes) -> Iterator[bytes]:
+    """The first piece, and then the other again and again."""
     yield first
     while True:
         yield piece
 
 
-def wait_for(condition):
-    end = time.monotonic() + TIMEOUT
+def wait_for(condition: Callable[[], object]) -> None:
+    end = time.monotonic() + LIMIT
     while not condition() and time.monotonic() < end:
         time.sleep(0.01)
 
 
 # --- Memory ---
 
-def many(count):
+def many(count: int) -> bytes:
     """NULL calls and their replies with different xids, and GETATTR calls on different handles."""
     calls = [call(number, NFS, 3, 1, fh(hyper(number) * 3)) for number in range(count)]
     return messages.capture((calls, []), NULL, ([call(9, NFSACL, 3, 1, bytes(50 * count))], []))
 
 
-def many_in_version_2(count):
+def many_in_version_2(count: int) -> bytes:
     """The same."""
     calls = [call(number, NFS, 3, 1, fh(hyper(number) * 3)) for number in range(count)]
     return interleaved([(CLIENT, body) for body in calls], in_turn(*NULL), [(CLIENT, call(9, NFSACL, 3, 1, bytes(50 * count)))])
 
 
-def memory_that_is_refused(place):
+def memory_that_is_refused(place: Place) -> None:
     """Under each limit the answer is the one of plenty of memory, or memory ran out, and OUT is whole or as it was."""
     refuse_memory(place, many(20_000))
 
 
-def memory_that_is_refused_to_version_2(place):
+def memory_that_is_refused_to_version_2(place: Place) -> None:
     refuse_memory(place, many_in_version_2(20_000))
 
 
-def refuse_memory(place, capture):
+def refuse_memory(place: Place, capture: bytes) -> None:
     place.write('a', capture)
     commands = {'check': ['a'], 'show': ['a'], 'same': ['a', 'a'], 'canon': ['a', 'out'], 'nfs3mask': ['a', 'out', 'ids=keep']}
-    plenty, forms, refused = {}, {}, set()
+    plenty: dict[str, Answer] = {}
+    forms: dict[str, bytes | None] = {}
+    refused: set[str] = set()
     for command, names in commands.items():
         plenty[command] = place.run(command, *names)
         forms[command] = place.read('out') if 'out' in names else b'as it was'
@@ -144,24 +150,25 @@ def refuse_memory(place, capture):
             place.write('out', b'as it was')
             answer = place.limited('-v %d' % limit, command, *names)
             is_refused = ran_out(answer, plenty[command])
-            refused |= {command} if is_refused else set()
-            if not is_refused:
+            if is_refused:
+                refused.add(command)
+            else:
                 place.want('%s with %d KiB' % (command, limit), answer, plenty[command])
             wanted = b'as it was' if is_refused else forms[command]
             place.want('out is right after %s with %d KiB' % (command, limit), place.read('out') == wanted, True)
     place.want('commands that were refused memory', sorted(refused), sorted(commands))
-    place.want('files', sorted(os.listdir(place.folder)), ['a', 'out', 'small'])
+    place.want('files', place.names(), ['a', 'out', 'small'])
 
 
-def ran_out(answer, plenty):
-    """The answer says so, or says nothing where there was no memory for that either. Lines that are listed were right."""
+def ran_out(answer: Answer, plenty: Answer) -> bool:
+    """The answer says so, or says nothing if there was no memory for that either. Lines that are listed were right."""
     status, out, error = answer
     front = plenty[1] if plenty[1].count('\n') > 1 else ''
     prefixes = ('first: ', 'second: ', '')
     return status == 3 and front.startswith(out) and error in ['', *(prefix + 'out of memory\n' for prefix in prefixes)]
 
 
-def lengths_with_nothing_after_them(place):
+def lengths_with_nothing_after_them(place: Place) -> None:
     """A length takes no memory."""
     head = 'connection 1 client record 1 byte '
     body = call(1, NFS, 3, 3, dirop(b'a' * 8, b''))[:-4] + word(40_000_000)
@@ -184,13 +191,13 @@ def lengths_with_nothing_after_them(place):
             place.want('%s %s' % (command, name), place.limited('-v %d' % limit, command, name), (2, '', line))
 
 
-def conversation(count, size):
+def conversation(count: int, size: int) -> list[tuple[str, bytes]]:
     """The chunks of calls and their replies in turn, each with so many bytes, of a raw procedure."""
     return [chunk for xid in range(count)
             for chunk in (('>', fragment(call(xid, NFSACL, 3, 1, bytes(size)))), ('<', fragment(success(xid, bytes(size)))))]
 
 
-def memory_of_one_connection(place):
+def memory_of_one_connection(place: Place) -> None:
     """Of version 2 the streams of one connection are kept, at most thrice while they grow, and those of the next in their place: 1 MB of
     streams, once and thirty times, and the same in chunks of a byte, takes 3 MB at most beside what the smallest capture takes."""
     once = conversation(50, 10_000)
@@ -204,19 +211,19 @@ def memory_of_one_connection(place):
             place.want(' '.join(words), place.limited('-v %d' % limit, *words), (0, line, ''))
 
 
-def streams_without_an_end(place):
+def streams_without_an_end(place: Place) -> None:
     """A connection of version 2 whose side word 0 does not come takes what memory there is, and no more."""
     place.write('good', GOOD)
-    limit = '-v %d' % (place.least_memory() + 8_192)
+    limit = under('-v %d' % (place.least_memory() + 8_192))
     chunk = MAGIC_2 + word(1) + word(2) + word(1 << 30)
     for words, prefix in ((['check', '/dev/stdin'], ''), (['show', '/dev/stdin'], ''), (['same', '/dev/stdin', 'good'], 'first: ')):
-        answer = place.fed_by(place.under(limit, *words), endless(chunk, bytes(65_536)))
+        answer = place.fed(words, endless(chunk, bytes(65_536)), limit)
         place.want(' '.join(words), answer, (3, '', prefix + 'out of memory\n'))
 
 
 # --- Disks, pipes and signals ---
 
-def disks_that_are_full_in_the_middle(place):
+def disks_that_are_full_in_the_middle(place: Place) -> None:
     """A regular file that may not get longer stands for a full disk, which a test cannot make."""
     place.write('a', LARGE)
     place.write('out', b'as it was')
@@ -225,100 +232,101 @@ def disks_that_are_full_in_the_middle(place):
             for words in (['canon', 'a', name], ['pack', name, 'a', 'a']):
                 place.want(' '.join(words), place.limited('-f %d' % blocks, *words), (3, '', 'write failed\n'))
     place.want('out', place.read('out'), b'as it was')
-    place.want('files', sorted(os.listdir(place.folder)), ['a', 'out'])
+    place.want('files', place.names(), ['a', 'out'])
     for words in (['canon', 'a', '/dev/full'], ['pack', '/dev/full', 'a', 'a']):
         place.want(' '.join(words), place.run(*words), (3, '', 'write failed\n'))
 
 
-def readers_that_go_away(place):
+def readers_that_go_away(place: Place) -> None:
     place.write('a', LARGE)
     for words in (['show', 'a'], ['canon', 'a', '/dev/stdout'], ['pack', '/dev/stdout', 'a', 'a']):
-        process = place.begin(*words, stdout=subprocess.PIPE)
-        process.stdout.read(1)
-        process.stdout.close()
-        place.want(words[0], (process.wait(TIMEOUT), process.stderr.read()), (3, b'write failed\n'))
+        process = place.begin(*words)
+        listing = pipe_of(process.stdout)
+        listing.read(1)
+        listing.close()
+        place.want(words[0], (process.wait(LIMIT), pipe_of(process.stderr).read()), (3, b'write failed\n'))
 
 
-def pipes_that_do_not_wait(place):
+def pipes_that_do_not_wait(place: Place) -> None:
     """A full pipe that does not wait is a failed write."""
     place.write('a', LARGE)
     reader, writer = os.pipe()
     os.set_blocking(writer, False)
-    done = subprocess.run([place.program, 'show', 'a'], cwd=place.folder, stdout=writer, stderr=subprocess.PIPE, timeout=TIMEOUT)
-    place.want('show', (done.returncode, done.stderr), (3, b'write failed\n'))
+    place.want('show', place.run('show', 'a', stdout=writer), (3, '', 'write failed\n'))
     os.close(reader)
     os.close(writer)
 
 
-def standard_error_that_nobody_reads(place):
+def standard_error_that_nobody_reads(place: Place) -> None:
     """The status still tells."""
     place.write('a', messages.MAGIC)
     reader, writer = os.pipe()
     os.close(reader)
-    done = subprocess.run([place.program, 'check', 'a'], cwd=place.folder, stderr=writer, stdout=subprocess.PIPE, timeout=TIMEOUT)
+    place.want('check', place.run('check', 'a', stderr=writer), (2, '', ''))
     os.close(writer)
-    place.want('check', (done.returncode, done.stdout), (2, b''))
 
 
-def standard_files_that_are_closed(place):
+def standard_files_that_are_closed(place: Place) -> None:
     """No line gets into a file that took the place of standard output."""
     place.write('a', GOOD)
     for closed in ('>&-', '<&- >&-', '<&- >&- 2>&-'):
         error = '' if closed.endswith('2>&-') else 'write failed\n'
         for words, wanted in ((['check', 'a'], 3), (['show', 'a'], 3), (['canon', 'a', 'out'], 3), (['pack', 'out', 'a', 'a'], 0)):
-            answer = place.run_by(['sh', '-c', 'exec "$@" ' + closed, 'sh', place.program, *words])
+            answer = place.run(*words, before=by_shell('exec "$@" ' + closed))
             place.want(' '.join(words), answer, (wanted, '', error if wanted else ''))
             place.want('what canon wrote', place.read('out') if words[0] == 'canon' else GOOD, GOOD)
     place.want('check of what was packed', place.run('check', 'out')[0], 2)
 
 
-def part_in(place) -> str:
+def part_in(place: Place) -> str:
     """The file that is written beside its name, once it has some bytes."""
     def parts() -> list[str]:
-        return [name for name in os.listdir(place.folder) if PART.fullmatch(name) and place.read(name)]
+        return [name for name in place.names() if PART.fullmatch(name) and place.read(name)]
     wait_for(parts)
     if not parts():
         raise TimeoutError('nothing is written beside the output')
     return parts()[0]
 
 
-def signals_in_the_middle(place):
+def signals_in_the_middle(place: Place) -> None:
     """What has the name of the output stays. What was written beside it stays too, is for its owner alone, and is in nobody's way."""
     place.write('a', LARGE)
     for words in (['canon', '/dev/stdin', 'out'], ['pack', 'out', '/dev/stdin', 'a'], ['canon', '/dev/stdin', 'new']):
         for number in (signal.SIGTERM, signal.SIGINT, signal.SIGKILL):
             place.write('out', b'as it was')
             process = place.begin(*words, stdin=subprocess.PIPE)
-            process.stdin.write(LARGE[:2_000_000])
-            process.stdin.flush()
+            given = pipe_of(process.stdin)
+            given.write(LARGE[:2_000_000])
+            given.flush()
             part = part_in(place)
-            place.want('mode of the part', os.stat(os.path.join(place.folder, part)).st_mode & 0o7777, 0o600)
+            place.want('mode of the part', os.stat(place.path(part)).st_mode & 0o7777, 0o600)
             process.send_signal(number)
-            place.want('%s %s' % (words[0], number), process.wait(TIMEOUT), -number)
-            process.stdin.close()
-            place.want('files', sorted(os.listdir(place.folder)), sorted([part, 'a', 'out']))
+            place.want('%s %s' % (words[0], number), process.wait(LIMIT), -number)
+            given.close()
+            place.want('files', place.names(), sorted([part, 'a', 'out']))
             place.want('out', place.read('out'), b'as it was')
             place.want('canon after it', place.run('canon', 'a', 'out'), (0, LARGE_LINE, ''))
-            os.remove(os.path.join(place.folder, part))
+            os.remove(place.path(part))
 
 
-def names_that_are_taken_in_the_middle(place):
-    """Where the whole output cannot get its name, what was written beside it is removed, and what has got the name stays."""
-    def take(name, make, before):
-        for old in os.listdir(place.folder):
-            remove(os.path.join(place.folder, old))
+def names_that_are_taken_in_the_middle(place: Place) -> None:
+    """If the whole output cannot get its name, what was written beside it is removed, and what has got the name stays."""
+    def take(name: str, make: Callable[[str], object], before: bytes | None) -> None:
+        for old in place.names():
+            remove(place.path(old))
         if before is not None:
             place.write(name, before)
         process = place.begin('canon', '/dev/stdin', name, stdin=subprocess.PIPE)
-        process.stdin.write(LARGE[:2_000_000])
+        given = pipe_of(process.stdin)
+        given.write(LARGE[:2_000_000])
         part_in(place)
-        remove(os.path.join(place.folder, name))
-        make(os.path.join(place.folder, name))
-        feed(process.stdin, [LARGE[2_000_000:]])
-        place.want('canon', (process.wait(TIMEOUT), process.stderr.read()), (3, b'write failed\n'))
-        place.want('files', os.listdir(place.folder), [name] if os.path.lexists(os.path.join(place.folder, name)) else [])
+        remove(place.path(name))
+        make(place.path(name))
+        feed(given, [LARGE[2_000_000:]])
+        place.want('canon', (process.wait(LIMIT), pipe_of(process.stderr).read()), (3, b'write failed\n'))
+        place.want('files', place.names(), [name] if os.path.lexists(place.path(name)) else [])
 
-    def other(path):
+    def other(path: str) -> None:
         with open(path, 'wb') as file:
             file.write(b'of somebody else')
     for before in (None, b'as it was'):
@@ -329,14 +337,14 @@ def names_that_are_taken_in_the_middle(place):
     take('out', lambda path: None, b'as it was')
 
 
-def remove(path):
+def remove(path: str) -> None:
     if os.path.isdir(path) and not os.path.islink(path):
         os.rmdir(path)
     elif os.path.lexists(path):
         os.remove(path)
 
 
-def many_streams_and_few_open_files(place):
+def many_streams_and_few_open_files(place: Place) -> None:
     place.write('call', messages.record(NULL[0][0])[4:])
     place.write('reply', messages.record(NULL[1][0])[4:])
     place.want('pack', place.limited('-n 16', 'pack', 'out', *['call', 'reply'] * 3_000), (0, '', ''))
@@ -345,7 +353,7 @@ def many_streams_and_few_open_files(place):
 
 # --- Names, folders and rights ---
 
-def names_of_the_most_bytes(place):
+def names_of_the_most_bytes(place: Place) -> None:
     """A name of an output may have 255 bytes, as many as a file system takes."""
     place.write('a', GOOD)
     for size in (250, 251, 255):
@@ -353,10 +361,10 @@ def names_of_the_most_bytes(place):
             place.want('canon', place.run('canon', 'a', 'n' * size), (0, GOOD_LINE, ''))
             place.want('pack', place.run('pack', 'p' * size, 'a', 'a'), (0, '', ''))
     place.want('a name of 256', place.run('canon', 'a', 'n' * 256), (3, '', 'open failed: %s\n' % ('n' * 256)))
-    place.want('files', sorted(os.listdir(place.folder)), sorted(['a', *(kind * size for kind in 'np' for size in (250, 251, 255))]))
+    place.want('files', place.names(), sorted(['a', *(kind * size for kind in 'np' for size in (250, 251, 255))]))
 
 
-def folders_that_no_path_names(place):
+def folders_that_no_path_names(place: Place) -> None:
     """An output is written again as the first time if the name of its folder is no text, or the path is longer than the system takes."""
     for names in ([b'\xff'], [b'd' * 200] * 30):
         folder = os.open(place.folder, os.O_RDONLY)
@@ -367,21 +375,21 @@ def folders_that_no_path_names(place):
             file.write(GOOD)
         os.symlink('out', 'link', dir_fd=folder)
         for name in ('out', 'out', 'link'):
-            answer = place.run_by([place.program, 'canon', 'a', name], preexec_fn=functools.partial(os.fchdir, folder))
+            answer = place.run('canon', 'a', name, prepare=functools.partial(os.fchdir, folder))
             place.want('canon a ' + name, answer, (0, GOOD_LINE, ''))
         place.want('files', sorted(os.listdir(folder)), ['a', 'link', 'out'])
 
 
-def as_nobody(place):
+def as_nobody(place: Place) -> Callable[..., Answer] | None:
     """How somebody whom modes bind runs a copy of the program; nothing if the tests do not run as root."""
     if os.geteuid() != 0:
         return None
     os.chmod(place.folder, 0o777)
-    program = shutil.copy(place.program, place.folder)  # since the repository may stand where others may not look
-    return lambda *words: place.run_by([program, *words], user=NOBODY, group=NOBODY, extra_groups=[])
+    program = shutil.copy(place.program, place.folder)  # since the repository may be in a folder into which others may not look
+    return lambda *words: ended([program, *words], place.folder, user=NOBODY).text()
 
 
-def outputs_that_are_refused_before_the_work(place):
+def outputs_that_are_refused_before_the_work(place: Place) -> None:
     """The input is refused, but what is told is that nothing can be written to the output."""
     place.write('a', messages.MAGIC)
     run = as_nobody(place)
@@ -389,31 +397,32 @@ def outputs_that_are_refused_before_the_work(place):
         print('left out, since the tests do not run as root: outputs that are refused before the work')
         return
     place.write('of_root', b'as it was')
-    os.mkdir(os.path.join(place.folder, 'closed'), 0o755)
-    os.chmod(os.path.join(place.folder, 'closed'), 0o755)
+    os.mkdir(place.path('closed'), 0o755)
+    os.chmod(place.path('closed'), 0o755)
     place.write('closed/open', b'as it was')
-    os.chmod(os.path.join(place.folder, 'closed/open'), 0o666)
+    os.chmod(place.path('closed/open'), 0o666)
     for name in ('of_root', 'closed/new', 'closed/open'):
         place.want(name, run('canon', 'a', name), (3, '', 'open failed: %s\n' % name))
     place.write('log', b'as it was')
-    log = os.path.join(place.folder, 'log')
-    if subprocess.run(['chattr', '+a', log], stderr=subprocess.DEVNULL).returncode != 0:
+    log = place.path('log')
+    if ended(['chattr', '+a', log], place.folder).status != 0:
         print('left out, since no file can be made append-only here: an append-only file')
     else:
         place.want('an append-only file', place.run('canon', 'a', 'log'), (3, '', 'open failed: log\n'))
-        subprocess.run(['chattr', '-a', log])
+        ended(['chattr', '-a', log], place.folder)
     for name in ('of_root', 'closed/open', 'log'):
         place.want(name, place.read(name), b'as it was')
-    place.want('files', sorted(os.listdir(place.folder)), ['a', 'closed', 'log', os.path.basename(place.program), 'of_root'])
-    place.want('files', sorted(os.listdir(os.path.join(place.folder, 'closed'))), ['open'])
+    place.want('files', place.names(), ['a', 'closed', 'log', os.path.basename(place.program), 'of_root'])
+    place.want('files', sorted(os.listdir(place.path('closed'))), ['open'])
 
 
-def rights_on_an_output(place):
+def rights_on_an_output(place: Place) -> None:
     """A file that is replaced keeps its owner and who may open it, and never the bits that lend its owner's rights."""
     place.write('a', GOOD)
-    path = os.path.join(place.folder, 'out')
+    path = place.path('out')
 
-    def rights(mode, owner, run=place.run):
+    def rights(mode: int, owner: int | None, run: Callable[..., Answer] = place.run) -> tuple[int, int, int]:
+        """The mode, the owner and the group of an output that had these before the run."""
         place.write('out', b'as it was')
         if owner is not None:
             os.chown(path, owner, owner)
@@ -431,62 +440,63 @@ def rights_on_an_output(place):
         place.want('rights that cannot be given back', rights(0o666, 0, run), (0o666 & ~umask(), NOBODY, NOBODY))
     for mask in (0o022, 0o027, 0o077):
         os.remove(path)
-        answer = place.run_by(['sh', '-c', 'umask %o; exec "$@"' % mask, 'sh', place.program, 'canon', 'a', 'out'])
+        answer = place.run('canon', 'a', 'out', before=by_shell('umask %o; exec "$@"' % mask))
         place.want('canon to a new file', (answer, os.stat(path).st_mode & 0o7777), ((0, GOOD_LINE, ''), 0o666 & ~mask))
 
 
-def umask():
+def umask() -> int:
+    """The modes that a new file does not get."""
     with open('/proc/self/status') as file:
         return int(next(line.split()[1] for line in file if line.startswith('Umask:')), 8)
 
 
-def mounted(place, script, *words):
+def mounted(place: Place, script: str, *words: str) -> Answer | None:
     """A run after a script that mounts something for it alone, or nothing if that may not be."""
     flags = '-m' if os.geteuid() == 0 else '-rm'
     try:
-        answer = place.run_by(['unshare', flags, 'sh', '-c', '(%s) >/dev/null 2>&1 || exit 77; exec "$@"' % script, 'sh', *words])
+        answer = place.run(*words, before=['unshare', flags, *by_shell('(%s) >/dev/null 2>&1 || exit 77; exec "$@"' % script)])
     except FileNotFoundError:
         return None
     return None if answer[0] == 77 or answer[2].startswith('unshare: ') else answer
 
 
-def files_of_two_devices_with_one_number(place):
+def files_of_two_devices_with_one_number(place: Place) -> None:
     """They are two files."""
     place.write('a', GOOD)
     for name in ('one', 'two'):
-        os.mkdir(os.path.join(place.folder, name))
+        os.mkdir(place.path(name))
     script = ('mount -t tmpfs none one && mount -t tmpfs none two && cp a one/a && cp a two/out && '
               '[ "$(stat -c %i one/a)" = "$(stat -c %i two/out)" ]')
     for words, out in ((['canon', 'one/a', 'two/out'], GOOD_LINE), (['pack', 'two/out', 'a', 'a', 'one/a', 'one/a'], '')):
-        answer = mounted(place, script, place.program, *words)
+        answer = mounted(place, script, *words)
         if answer is None:
             print('left out, since nothing can be mounted here: files of two devices with one number')
             return
         place.want(' '.join(words), answer, (0, out, ''))
 
 
-def outputs_on_which_something_is_mounted(place):
+def outputs_on_which_something_is_mounted(place: Place) -> None:
     """They are refused before the work, also if it is a file of the same device."""
     place.write('a', messages.MAGIC)
     place.write('out', b'as it was')
     place.write('other', b'as it was')
-    os.mkdir(os.path.join(place.folder, 'far'))
+    os.mkdir(place.path('far'))
     for script in ('mount --bind other out', 'mount -t tmpfs none far && cp other far && mount --bind far/other out'):
-        answer = mounted(place, script, place.program, 'canon', 'a', 'out')
+        answer = mounted(place, script, 'canon', 'a', 'out')
         if answer is None:
             print('left out, since nothing can be mounted here: outputs on which something is mounted')
             return
         place.want(script, answer, (3, '', 'open failed: out\n'))
-    place.want('files', sorted(os.listdir(place.folder)), ['a', 'far', 'other', 'out'])
+    place.want('files', place.names(), ['a', 'far', 'other', 'out'])
 
 
 # --- Inputs ---
 
-def inputs_that_never_end(place):
+def inputs_that_never_end(place: Place) -> None:
     place.write('good', GOOD)
     first = messages.MAGIC + word(1) + word(0x40000000)
     stdin = ['check', '/dev/stdin']
-    fragment = word(1 << 20) + bytes(1 << 20)
+    zeros = word(1 << 20) + bytes(1 << 20)
     cases = [
         (endless(b'', b'y\n' * 32_768), stdin, 'file 0: BadMagic\n'),
         (endless(messages.MAGIC, b'y\n' * 32_768), stdin, 'file 8: BadMark\n'),
@@ -494,7 +504,7 @@ def inputs_that_never_end(place):
         (endless(GOOD_2, b'y\n' * 32_768), stdin, 'file 108: AfterEnd\n'),
         (endless(MAGIC_2 + word(1), b'y\n' * 32_768), stdin, 'file 12: BadMark\n'),
         (endless(MAGIC_2, word(1) + word(0)), stdin, 'file 524288: TooManyConnections\n'),
-        (endless(first, fragment), stdin, 'connection 1 client record 1 byte 16777216: RecordTooLong\n'),
+        (endless(first, zeros), stdin, 'connection 1 client record 1 byte 16777216: RecordTooLong\n'),
         (endless(b'', GOOD), ['same', 'good', '/dev/stdin'], 'second: file 104: AfterEnd\n'),
         (endless(b'', GOOD), ['canon', '/dev/stdin', 'out'], 'file 104: AfterEnd\n')]
     for pieces, words, line in cases:
@@ -502,27 +512,25 @@ def inputs_that_never_end(place):
     place.want('check /dev/zero', place.run('check', '/dev/zero'), (2, '', 'file 0: BadMagic\n'))
     # After 16,384 chunks of 65,536 bytes.
     place.want('pack /dev/zero', place.run('pack', '/dev/null', '/dev/zero', 'good'), (2, '', 'file 1073807372: TooManyBytes\n'))
-    place.want('files', sorted(os.listdir(place.folder)), ['good'])
+    place.want('files', place.names(), ['good'])
 
 
-def fifos(place):
+def fifos(place: Place) -> None:
     """As shells make them for `<(..)`: the program reads what comes, also byte by byte."""
-    os.mkfifo(os.path.join(place.folder, 'fifo'))
-    cases = [([GOOD], 0, GOOD_LINE), ([bytes([byte]) for byte in GOOD], 0, GOOD_LINE), ([GOOD[:50]], 2, 'file 50: CaptureCut\n'),
-             ([], 2, 'file 0: CaptureCut\n'), ([bytes([byte]) for byte in GOOD_2], 0, GOOD_LINE),
-             ([GOOD_2[:103]], 2, 'file 103: CaptureCut\n')]
+    os.mkfifo(place.path('fifo'))
+    cases: list[tuple[list[bytes], int, str]] = [
+        ([GOOD], 0, GOOD_LINE), ([bytes([byte]) for byte in GOOD], 0, GOOD_LINE), ([GOOD[:50]], 2, 'file 50: CaptureCut\n'),
+        ([], 2, 'file 0: CaptureCut\n'), ([bytes([byte]) for byte in GOOD_2], 0, GOOD_LINE),
+        ([GOOD_2[:103]], 2, 'file 103: CaptureCut\n')]
     for pieces, status, line in cases:
-        def write(pieces=pieces):
-            with open(os.path.join(place.folder, 'fifo'), 'wb', buffering=0) as pipe:
-                feed(pipe, pieces)
-        writer = threading.Thread(target=write, daemon=True)
+        writer = threading.Thread(target=feed_fifo, args=(place.path('fifo'), pieces), daemon=True)
         writer.start()
         found, out, error = place.run('check', 'fifo')
-        writer.join(TIMEOUT)
+        writer.join(LIMIT)
         place.want('check of %d pieces' % len(pieces), (found, out + error), (status, line))
 
 
-def in_two_reads(path, content, cut):
+def in_two_reads(path: str, content: bytes, cut: int) -> None:
     """Writes both pieces to a fifo, the second once the first was read."""
     with open(path, 'wb', buffering=0) as pipe:
         pipe.write(content[:cut])
@@ -530,83 +538,86 @@ def in_two_reads(path, content, cut):
         pipe.write(content[cut:])
 
 
-def reads_cut_at_each_length(place):
+def reads_cut_at_each_length(place: Place) -> None:
     """Known bytes through each command, of which the first read gives a part: whatever the part, the answer is that of all bytes."""
     client, server = (b''.join(map(fragment, side)) for side in NULL)
-    listing = ('1 client 1 xid=1 NFSPROC3_NULL mtype=0 rpcvers=2 prog=100003 vers=3 proc=0 cred_flavor=0 cred_body= verf_flavor=0 verf_body=\n'
-               '1 server 1 xid=1 NFSPROC3_NULL mtype=1 reply_stat=0 verf_flavor=0 verf_body= accept_stat=0\n')
+    listing = ('1 client 1 xid=1 NFSPROC3_NULL mtype=0 rpcvers=2 prog=100003 vers=3 proc=0 cred_flavor=0 cred_body= verf_flavor=0 '
+               'verf_body=\n1 server 1 xid=1 NFSPROC3_NULL mtype=1 reply_stat=0 verf_flavor=0 verf_body= accept_stat=0\n')
     same = 'same\n'
-    fifo = os.path.join(place.folder, 'fifo')
+    fifo = place.path('fifo')
     os.mkfifo(fifo)
     place.write('good', GOOD)
     place.write('server', server)
-    cases = [('check fifo', GOOD, GOOD_LINE, None), ('show fifo', GOOD, listing, None), ('canon fifo out', GOOD, GOOD_LINE, GOOD),
-             ('same fifo good', GOOD, same, None), ('same good fifo', GOOD_2, same, None), ('pack out fifo server', client, '', GOOD)]
+    cases: list[tuple[str, bytes, str, bytes | None]] = [
+        ('check fifo', GOOD, GOOD_LINE, None), ('show fifo', GOOD, listing, None), ('canon fifo out', GOOD, GOOD_LINE, GOOD),
+        ('same fifo good', GOOD, same, None), ('same good fifo', GOOD_2, same, None), ('pack out fifo server', client, '', GOOD)]
     for line, content, wanted, written in cases:
         for cut in range(1, len(content)):
             writer = threading.Thread(target=in_two_reads, args=(fifo, content, cut), daemon=True)
             writer.start()
             found, out, error = place.run(*line.split())
-            writer.join(TIMEOUT)
+            writer.join(LIMIT)
             place.want('%s, cut at %d' % (line, cut), (found, error, out, place.read('out')), (0, '', wanted, written))
             if written is not None:
-                os.remove(os.path.join(place.folder, 'out'))
+                os.remove(place.path('out'))
 
 
-def files_that_may_not_be_read(place):
-    """As somebody whom modes bind, where the tests run as root."""
+def files_that_may_not_be_read(place: Place) -> None:
+    """As somebody whom modes bind, if the tests run as root."""
     place.write('good', GOOD)
     place.write('secret', GOOD)
-    os.chmod(os.path.join(place.folder, 'secret'), 0)
+    os.chmod(place.path('secret'), 0)
     os.chmod(place.folder, 0o755)
-    reader = {'user': NOBODY, 'group': NOBODY, 'extra_groups': []} if os.geteuid() == 0 else {}
-    program = shutil.copy(place.program, place.folder)  # since the repository may stand where others may not look
+    reader: RunOptions = {'user': NOBODY} if os.geteuid() == 0 else {}
+    program = shutil.copy(place.program, place.folder)  # since the repository may be in a folder into which others may not look
     for words in (['check', 'secret'], ['show', 'secret'], ['same', 'good', 'secret'], ['canon', 'secret', 'out']):
-        answer = place.run_by([program, *words], **reader)
+        answer = ended([program, *words], place.folder, **reader).text()
         place.want(' '.join(words), answer, (3, '', 'open failed: secret\n'))
     if reader:
-        answer = place.run_by([program, 'canon', 'good', 'out'], **reader)
+        answer = ended([program, 'canon', 'good', 'out'], place.folder, **reader).text()
         place.want('canon into a folder that may not be written', answer, (3, '', 'open failed: out\n'))
     os.remove(program)
-    place.want('files', sorted(os.listdir(place.folder)), ['good', 'secret'])
+    place.want('files', place.names(), ['good', 'secret'])
 
 
-def files_that_change_while_they_are_read(place):
+def files_that_change_while_they_are_read(place: Place) -> None:
     """The program waits for its reader, near the beginning of the file, when the file gets shorter or longer."""
     for size, status, line in ((3_000_000, 2, REFUSED_LARGE), (len(LARGE) + 1, 2, 'file %d: AfterEnd\n' % len(LARGE))):
         place.write('a', LARGE)
-        process = place.begin('canon', 'a', '/dev/stdout', stdout=subprocess.PIPE)
-        front = process.stdout.read(1)
-        os.truncate(os.path.join(place.folder, 'a'), size)
-        form = front + process.stdout.read()
+        process = place.begin('canon', 'a', '/dev/stdout')
+        written = pipe_of(process.stdout)
+        front = written.read(1)
+        os.truncate(place.path('a'), size)
+        form = front + written.read()
         place.want('a front of the form', LARGE.startswith(form), True)
-        place.want('canon', (process.wait(TIMEOUT), process.stderr.read().decode()), (status, line))
+        place.want('canon', (process.wait(LIMIT), pipe_of(process.stderr).read().decode()), (status, line))
 
 
 # --- Time ---
 
-def xids(count):
+def xids(count: int) -> Streams:
+    """NULL calls with different xids, and their replies, the last one first."""
     calls, reply = call(0, NFS, 3, 0)[4:], success(0)[4:]
     client = b''.join(b'\0\0\0\x2c\x80\0\0\x28%b%b' % (word(number), calls) for number in range(count))
     server = b''.join(b'\0\0\0\x1c\x80\0\0\x18%b%b' % (word(number), reply) for number in reversed(range(count)))
     return client, server
 
 
-def handles(count):
+def handles(count: int) -> Streams:
     """GETATTR calls of one xid."""
     head = call(7, NFS, 3, 1, word(8))
     return b''.join(b'\0\0\0\x38\x80\0\0\x34%b%b' % (head, hyper(number * 0x9e3779b97f4a7c15 % (1 << 64))) for number in range(count)), b''
 
 
-def handles_before(end):
+def handles_before(end: bytes) -> Callable[[int], Streams]:
     """GETATTR calls of one xid, on handles of eight bytes that differ and these eight."""
-    def make(count):
+    def make(count: int) -> Streams:
         head = call(7, NFS, 3, 1, word(16))
         return b''.join(b'\0\0\0\x40\x80\0\0\x3c%b%b%b' % (head, hyper(number), end) for number in range(count)), b''
     return make
 
 
-def handles_chosen_against_a_known_word(place):
+def handles_chosen_against_a_known_word(place: Place) -> None:
     """Under a word that is known, as the one of the hasher that an `IndexMap` has if none is named, all of these handles have the
     hash 0: the second factor of the product is 0. The program's words are random, so they cost what others do."""
     place.write('whole', version_1(handles_before(KNOWN_WORD.to_bytes(8, 'little'))(1_000_000)))
@@ -617,57 +628,59 @@ def handles_chosen_against_a_known_word(place):
             place.wrong.append('%s takes %.1f times as long for chosen handles' % (command, found))
 
 
-def empty_fragments(count):
+def empty_fragments(count: int) -> Streams:
     """Before the last fragment of a call."""
     stream = word(0) * count + messages.record(NULL[0][0])[4:]
     return word(len(stream)) + stream, b''
 
 
-def single_bytes(count):
+def single_bytes(count: int) -> Streams:
     """One raw call in chunks of a byte."""
     stream = messages.record(call(1, NFSACL, 3, 1, bytes(count)))[4:]
     return b''.join(b'\0\0\0\x01%c' % byte for byte in stream), b''
 
 
-def in_turns(count):
+def in_turns(count: int) -> bytes:
     """NULL calls with different xids, each with its reply right after it."""
     calls, reply = call(0, NFS, 3, 0)[4:], success(0)[4:]
     return b''.join(b'\0\0\0\x01\0\0\0\x2c\x80\0\0\x28%b%b\0\0\0\x02\0\0\0\x1c\x80\0\0\x18%b%b' % (xid, calls, xid, reply)
                     for xid in map(word, range(count)))
 
 
-def bytes_in_turns(count):
+def bytes_in_turns(count: int) -> bytes:
     """A raw call and its reply in chunks of a byte, of both sides in turn."""
     client, server = (fragment(body) for body in (call(1, NFSACL, 3, 1, bytes(count // 2)), success(1, bytes(count // 2 + 16))))
     return b''.join(b'\0\0\0\x01\0\0\0\x01%c\0\0\0\x02\0\0\0\x01%c' % pair for pair in zip(client, server))
 
 
-def version_2(chunks):
+def version_2(chunks: bytes) -> bytes:
+    """A capture of one connection with these chunks."""
     return MAGIC_2 + word(1) + chunks + word(0) + word(0)
 
 
-def version_1(streams):
+def version_1(streams: Streams) -> bytes:
+    """A capture of one connection with these streams."""
     client, server = streams
     return messages.MAGIC + word(1) + client + word(0) + server + word(0) + word(0)
 
 
-def seconds(place, command, *names):
+def seconds(place: Place, command: str, *names: str) -> float:
     """Processor time of a run."""
-    done, used = seconds_at_most(place, TIMEOUT, command, *names)
+    done, used = seconds_at_most(place, LIMIT, command, *names)
     place.want(command, done, True)
     return used
 
 
-def seconds_at_most(place, limit, command, *names):
+def seconds_at_most(place: Place, limit: int, command: str, *names: str) -> tuple[bool, float]:
     """Whether a run ends well in so many seconds of processor time, and how many it took."""
     with open(os.devnull, 'wb') as nothing:
-        process = subprocess.Popen(place.under('-t %d' % limit, command, *names), cwd=place.folder, stdout=nothing, stderr=nothing)
+        process = place.begin(command, *names, before=under('-t %d' % limit), stdout=nothing, stderr=nothing)
         _, status, used = os.wait4(process.pid, 0)
         process.returncode = os.waitstatus_to_exitcode(status)
     return process.returncode == 0, used.ru_utime + used.ru_stime
 
 
-def ratio(place, command, *more):
+def ratio(place: Place, command: str, *more: str) -> float:
     """How much longer `whole` takes than `half`: the least of some rounds, since other programs run beside them."""
     least = float('inf')
     for _ in range(ROUNDS):
@@ -678,37 +691,47 @@ def ratio(place, command, *more):
     return least
 
 
-def linear(make, count, capture=version_1):
+def is_linear(name: str, make: Callable[[int], bytes], count: int) -> Test:
     """A test that twice as much does not take much more than twice as long."""
-    def test(place):
-        for name, number in (('half', count // 2), ('whole', count)):
-            place.write(name, capture(make(number)))
+    def test(place: Place) -> None:
+        for file, number in (('half', count // 2), ('whole', count)):
+            place.write(file, make(number))
         for command, *more in (('check',), ('canon', '/dev/null'), ('show',)):
             found = ratio(place, command, *more)
             if found > MOST_RATIO:
                 place.wrong.append('%s takes %.1f times as long for twice as much' % (command, found))
-    test.__name__ = 'time_of_%s' % make.__name__
+    test.__name__ = 'time_of_' + name
     return test
 
 
-def records_of(count, before=b''):
+def linear(make: Callable[[int], Streams], count: int) -> Test:
+    """The test for captures of version 1 with these streams."""
+    return is_linear(make.__name__, lambda number: version_1(make(number)), count)
+
+
+def linear_in_version_2(make: Callable[[int], bytes], count: int) -> Test:
+    """The test for captures of version 2 with these chunks."""
+    return is_linear(make.__name__, lambda number: version_2(make(number)), count)
+
+
+def records_of(count: int, before: bytes = b'') -> bytes:
     """NULL calls with different xids, each after these bytes."""
     calls = call(0, NFS, 3, 0)[4:]
     return b''.join(b'%b\x80\0\0\x28%b%b' % (before, word(number), calls) for number in range(count))
 
 
-def connection(count):
+def connection(count: int) -> bytes:
     """A connection of NULL calls, in version 1."""
     return word(1) + records_of(count, word(44)) + word(0) + word(0)
 
 
-def connection_2(count):
+def connection_2(count: int) -> bytes:
     """The same in version 2."""
     return word(1) + (word(1) + word(44 * count) + records_of(count) if count else b'') + word(0)
 
 
-def orders_differ(place, command):
-    """Tells that a large connection and then small ones take much longer than the small ones first, by the least of some rounds. A
+def orders_differ(place: Place, command: str) -> bool:
+    """Whether a large connection and then small ones take much longer than the small ones first, by the least of some rounds. A
     run that takes far too long is ended."""
     names = {order: (order, order) if command == 'same' else (order, '/dev/null') if command == 'canon' else (order,)
              for order in ('first', 'last')}
@@ -720,9 +743,10 @@ def orders_differ(place, command):
     return True
 
 
-def after_a_large_connection(count, small, make=connection, magic=messages.MAGIC, commands=('check', 'canon', 'show', 'same')):
+def after_a_large_connection(count: int, small: int, make: Callable[[int], bytes] = connection, magic: bytes = messages.MAGIC,
+                             commands: Sequence[str] = ('check', 'canon', 'show', 'same')) -> Test:
     """A test that a connection costs what it has, and not what the largest one before it had."""
-    def test(place):
+    def test(place: Place) -> None:
         large, others = make(count), make(small) * (MOST_CONNECTIONS - 1)
         place.write('first', magic + large + others + word(0))
         place.write('last', magic + others + large + word(0))
@@ -733,22 +757,24 @@ def after_a_large_connection(count, small, make=connection, magic=messages.MAGIC
     return test
 
 
-TESTS = [after_a_large_connection(1_000_000, 0), after_a_large_connection(1_000_000, 1),
-         after_a_large_connection(1_000_000, 1, connection_2, MAGIC_2), after_a_large_connection(2_000_000, 0, commands=('canon',)),
-         handles_chosen_against_a_known_word,
-         linear(xids, 1_000_000), linear(handles, 1_000_000), linear(empty_fragments, 2_000_000), linear(single_bytes, 2_000_000),
-         linear(in_turns, 500_000, version_2), linear(bytes_in_turns, 2_000_000, version_2),
-         memory_that_is_refused, memory_that_is_refused_to_version_2, memory_of_one_connection, streams_without_an_end,
-         lengths_with_nothing_after_them, disks_that_are_full_in_the_middle, readers_that_go_away,
-         standard_error_that_nobody_reads, standard_files_that_are_closed, signals_in_the_middle,
-         names_that_are_taken_in_the_middle, pipes_that_do_not_wait, names_of_the_most_bytes, folders_that_no_path_names,
-         outputs_that_are_refused_before_the_work, rights_on_an_output, files_of_two_devices_with_one_number,
-         outputs_on_which_something_is_mounted, many_streams_and_few_open_files, inputs_that_never_end, fifos,
-         reads_cut_at_each_length,
-         files_that_may_not_be_read, files_that_change_while_they_are_read]
+TESTS: list[Test] = [
+    after_a_large_connection(1_000_000, 0), after_a_large_connection(1_000_000, 1),
+    after_a_large_connection(1_000_000, 1, connection_2, MAGIC_2), after_a_large_connection(2_000_000, 0, commands=('canon',)),
+    handles_chosen_against_a_known_word,
+    linear(xids, 1_000_000), linear(handles, 1_000_000), linear(empty_fragments, 2_000_000), linear(single_bytes, 2_000_000),
+    linear_in_version_2(in_turns, 500_000), linear_in_version_2(bytes_in_turns, 2_000_000),
+    memory_that_is_refused, memory_that_is_refused_to_version_2, memory_of_one_connection, streams_without_an_end,
+    lengths_with_nothing_after_them, disks_that_are_full_in_the_middle, readers_that_go_away,
+    standard_error_that_nobody_reads, standard_files_that_are_closed, signals_in_the_middle,
+    names_that_are_taken_in_the_middle, pipes_that_do_not_wait, names_of_the_most_bytes, folders_that_no_path_names,
+    outputs_that_are_refused_before_the_work, rights_on_an_output, files_of_two_devices_with_one_number,
+    outputs_on_which_something_is_mounted, many_streams_and_few_open_files, inputs_that_never_end, fifos,
+    reads_cut_at_each_length,
+    files_that_may_not_be_read, files_that_change_while_they_are_read]
 
 
-def tried(program, test):
+def tried(program: str, test: Test) -> list[str]:
+    """What is wrong in a test, which has a folder of its own."""
     with tempfile.TemporaryDirectory(prefix='nfs3canon') as folder:
         place = Place(program, folder)
         try:
@@ -759,7 +785,7 @@ def tried(program, test):
         return place.wrong
 
 
-def main():
+def main() -> None:
     # A job in the background of a shell has it ignored, and so would what is begun here.
     signal.signal(signal.SIGINT, signal.default_int_handler)
     try_all(words_of(__doc__), [(test.__name__, tried, test) for test in TESTS], os.cpu_count())

@@ -9,13 +9,11 @@ PROGRAM is crates/nfs3canon/out/nfs3canon if none is named. What is installed is
 import os
 import pathlib
 import re
-import subprocess
 import tarfile
 import tempfile
 from collections.abc import Callable
 
-from captures import Runs
-from running import try_all, words_of
+from running import Answer, Runs, ended, try_all, words_of
 
 TOP = pathlib.Path(__file__).resolve().parent.parent
 TOOLS = ('from-pcap', 'where', 'verdicts', 'compare', 'explain')
@@ -24,15 +22,17 @@ TOOLS = ('from-pcap', 'where', 'verdicts', 'compare', 'explain')
 class Place(Runs):
     """A folder, and runs of commands there."""
 
-    def command(self, *words: str) -> tuple[int, str, str]:
-        done = subprocess.run(words, cwd=self.folder, stdout=subprocess.PIPE, stderr=subprocess.PIPE, text=True)
-        return done.returncode, done.stdout, done.stderr
+    def command(self, *words: str) -> Answer:
+        """What a command ended with."""
+        return ended(words, self.folder, limit=None).text()
 
-    def tool(self, name: str, *words: str) -> tuple[int, str, str]:
+    def tool(self, name: str, *words: str) -> Answer:
+        """What a script of tools/ ended with, on the program of the tests."""
         return self.command(str(TOP / 'tools' / name), '--program', self.program, *words)
 
 
 def version() -> str:
+    """The version on top of the change log."""
     found = re.search(r'^## (\S+)', (TOP / 'CHANGELOG.md').read_text(), re.MULTILINE)
     assert found
     return found[1]
@@ -99,6 +99,7 @@ TESTS: list[Callable[[Place], None]] = [under_a_prefix, where_nothing_can_be_wri
 
 
 def tried(program: str, test: Callable[[Place], None]) -> list[str]:
+    """What is wrong in a test, which has a folder of its own."""
     with tempfile.TemporaryDirectory(prefix='nfs3canon') as folder:
         place = Place(program, folder)
         test(place)

@@ -6,18 +6,17 @@
 PROGRAM is crates/nfs3canon/out/nfs3canon if none is named. Each command runs on a made capture of one megabyte; a count
 does not move with what else the machine does, as a time would. A limit is 5 % above what was counted if it was set last, so
 who makes a command slower sees it here. If a command has become faster, its limit is lowered. The counts are of the program
-alone on x86-64: where valgrind is not installed, all is left out, with a word. The last line is 'N passed, M failed', and
+alone on x86-64. If valgrind is not installed, all is left out, with a word. The last line is 'N passed, M failed', and
 the status is 1 if any failed.
 """
 import os
 import pathlib
 import re
 import shutil
-import subprocess
 import sys
 import tempfile
 
-from running import command_of, try_all, words_of
+from running import command_of, ended, try_all, words_of
 
 sys.path.insert(0, str(pathlib.Path(__file__).resolve().parent.parent / 'measure'))
 import make  # noqa: E402
@@ -50,6 +49,7 @@ def make_inputs(folder: pathlib.Path) -> None:
 
 
 def words_for(command: str, name: str) -> list[str]:
+    """The command line for a command on a capture."""
     match command:
         case 'canon':
             return ['canon', name, 'canon-' + name]
@@ -66,12 +66,11 @@ def words_for(command: str, name: str) -> list[str]:
 def millions(program: str, folder: pathlib.Path, command: str, name: str) -> float:
     """How many million instructions the run takes; it has to end with status 0."""
     path, words = command_of(program, words_for(command, name))
-    words = ['valgrind', '--tool=callgrind', '--callgrind-out-file=/dev/null', path, *words]
-    run = subprocess.run(words, cwd=folder, stdout=subprocess.DEVNULL, stderr=subprocess.PIPE, text=True, check=True)
-    counted = re.search(r'Collected : (\d+)', run.stderr)
-    if not counted:
-        raise ValueError('callgrind tells no count: ' + run.stderr[-300:])
-    return int(counted.group(1)) / 1e6
+    run = ended([path, *words], folder, before=['valgrind', '--tool=callgrind', '--callgrind-out-file=/dev/null'], limit=None)
+    counted = re.search(rb'Collected : (\d+)', run.error)
+    if run.status != 0 or not counted:
+        raise ValueError('callgrind ended with status %d, and tells no count: %r' % (run.status, run.error[-300:]))
+    return int(counted[1]) / 1e6
 
 
 def is_within(program: str, folder: pathlib.Path, label: str) -> list[str]:

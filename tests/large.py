@@ -12,12 +12,10 @@ import hashlib
 import os
 import pathlib
 import subprocess
-import sys
 import tempfile
 from collections.abc import Callable, Iterable, Iterator
 
-from captures import Runs
-from running import try_all, words_of
+from running import Runs, pipe_of, try_all, words_of
 from texts import mixed
 from traffic import COMMIT
 import messages
@@ -49,11 +47,10 @@ class Place(Runs):
         wanted, got = hashlib.sha256(), hashlib.sha256()
         for line in lines:
             wanted.update(line + b'\n')
-        with subprocess.Popen([self.program, 'show', name], cwd=self.folder, stdout=subprocess.PIPE, stderr=subprocess.PIPE) as process:
-            assert process.stdout and process.stderr
-            while piece := process.stdout.read(1 << 20):
+        with self.begin('show', name) as process:
+            while piece := pipe_of(process.stdout).read(1 << 20):
                 got.update(piece)
-            error = process.stderr.read()
+            error = pipe_of(process.stderr).read()
         self.want('show ' + name, (process.returncode, error, got.hexdigest()), (0, b'', wanted.hexdigest()))
 
 
@@ -63,6 +60,7 @@ def scrambled(number: int) -> int:
 
 
 def stream(bodies: Iterable[bytes]) -> bytes:
+    """The chunks of a stream with these bodies, a record and a chunk each, and its word 0."""
     return b''.join(messages.record(body) for body in bodies) + word(0)
 
 
@@ -117,6 +115,7 @@ def records_of_same(place: Place) -> None:
     """The one that differs is the last but one of many."""
     count = 200_000
     def accesses(last: int) -> bytes:
+        """ACCESS calls, of which the last but one asks for other rights."""
         asked = [1] * (count - 2) + [last, 1]
         return capture(stream(call(number, NFS, 3, 4, fh(b'file') + word(bits)) for number, bits in enumerate(asked)), word(0))
     place.write('a', accesses(1))
@@ -160,6 +159,7 @@ def escaped(text: bytes) -> bytes:
 
 
 def looked_up(number: int, name: bytes) -> bytes:
+    """The line that `show` prints of a LOOKUP call."""
     return (b'1 client %d xid=%d NFSPROC3_LOOKUP mtype=0 rpcvers=2 prog=100003 vers=3 proc=3 cred_flavor=0 cred_body= verf_flavor=0 '
             b'verf_body= fh=61 name="%b"' % (number, number, escaped(name)))
 
@@ -197,7 +197,7 @@ def words_of_the_line(place: Place) -> None:
                       ['pack', name, 'a', 'a'], ['pack', 'out', 'a', name]):
             what = ' '.join(words)[:40]
             place.want(what, place.run(*words), (3, '', 'open failed: %s\n' % name))
-    place.want('files', os.listdir(place.folder), ['a'])
+    place.want('files', place.names(), ['a'])
 
 
 def names_of_files(place: Place) -> None:
@@ -207,7 +207,7 @@ def names_of_files(place: Place) -> None:
         answer = place.run('canon', 'i' * size, 'o' * size)
         place.want('canon', answer, (0, 'ok connections=1 calls=1 replies=1 handles=0\n', ''))
         place.want('what it writes', place.read('o' * size) == NULL, True)
-    folder = os.path.join(place.folder, *(['d' * 250] * 12))
+    folder = place.path('/'.join(['d' * 250] * 12))
     os.makedirs(folder)
     pathlib.Path(folder, 'a').write_bytes(NULL)
     name = os.path.relpath(os.path.join(folder, 'a'), place.folder)
@@ -231,6 +231,7 @@ TESTS: list[Callable[[Place], None]] = [
 
 
 def tried(program: str, test: Callable[[Place], None]) -> list[str]:
+    """What is wrong in a test, which has a folder of its own."""
     with tempfile.TemporaryDirectory(prefix='nfs3canon') as folder:
         place = Place(program, folder)
         try:
@@ -245,4 +246,4 @@ def main() -> None:
 
 
 if __name__ == '__main__':
-    sys.exit(main())
+    main()

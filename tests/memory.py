@@ -3,25 +3,25 @@
 
     python3 tests/memory.py [TESTS] [--only TEXT] [-v]
 
-TESTS is crates/memory_tests/out/memory_tests_tests where none is named. Each test holds whichever growth is refused: it is run
+TESTS is crates/memory_tests/out/memory_tests_tests if none is named. Each test holds whichever growth is refused: it is run
 with its first refused, then its second and so on, up to a run that meets none. That takes Linux on x86-64 (tracing.py), and
-elsewhere all is skipped, with a word. The last line is 'N passed, M failed', and the status is 1 where any failed.
+elsewhere all is skipped, with a word. The last line is 'N passed, M failed', and the status is 1 if any failed.
 """
 import concurrent.futures
 import os
 import pathlib
-import subprocess
 
 import tracing
-from running import try_all, words_of
+from running import Try, ended, try_all, words_of
 from tracing import Fault
 
 TESTS = pathlib.Path(__file__).resolve().parent.parent / 'crates' / 'memory_tests' / 'out' / 'memory_tests_tests'
 
 
-def without_each_growth(program, test):
+def without_each_growth(program: str, test: str) -> list[str]:
     """What is wrong with the test's runs."""
-    wrong, last = [], tracing.run(program, [test], '.', Fault('growth', 0)).counts['growth']
+    wrong: list[str] = []
+    last = tracing.run(program, [test], '.', Fault('growth', 0)).counts['growth']
     for number in range(last + 1):
         answer = tracing.run(program, [test], '.', Fault('growth', number))
         if answer.status != 0:
@@ -29,14 +29,22 @@ def without_each_growth(program, test):
     return wrong
 
 
-def main():
+def names_of(program: str) -> list[str]:
+    """The names of the tests."""
+    listed = ended([program, '--list'], '.')
+    if listed.status != 0:
+        raise SystemExit('%s --list ended with status %d' % (program, listed.status))
+    return [line.split(': ')[0] for line in listed.out.decode().splitlines() if line.endswith(': test')]
+
+
+def main() -> None:
     words, why = words_of(__doc__, TESTS), tracing.why_not()
     if why:
         print('skipped, since ' + why)
         print('0 passed, 0 failed')
         return
-    names = [line.split(': ')[0] for line in subprocess.check_output([words.program, '--list'], text=True).splitlines() if line.endswith(': test')]
-    try_all(words, [(name, without_each_growth, name) for name in names], os.cpu_count(), concurrent.futures.ProcessPoolExecutor)
+    tries: list[Try] = [(name, without_each_growth, name) for name in names_of(words.program)]
+    try_all(words, tries, os.cpu_count(), concurrent.futures.ProcessPoolExecutor)
 
 
 if __name__ == '__main__':

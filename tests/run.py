@@ -3,59 +3,94 @@
 
     python3 tests/run.py [PROGRAM] [--only TEXT] [-v]
 
-PROGRAM is crates/nfs3canon/out/nfs3canon where none is named. Each case runs in a folder of its own, and
-many run at once. The last line is 'N passed, M failed', and the status is 1 where any failed. README.md says
+PROGRAM is crates/nfs3canon/out/nfs3canon if none is named. Each case runs in a folder of its own, and
+many run at once. The last line is 'N passed, M failed', and the status is 1 if any failed. README.md says
 how a case is written.
 """
+import contextlib
 import os
 import pathlib
 import re
-import shutil
 import stat
 import subprocess
 import tempfile
 import threading
+from collections.abc import Callable
 
-from running import program_named, try_all, words_of
+from running import Ended, RunOptions, ended, program_named, try_all, words_of
 from texts import bytes_of, capture_of, mixed_of
 
 HERE = pathlib.Path(__file__).resolve().parent
 TIMEOUT = 20
-MAKES = {'file': bytes_of, 'capture': capture_of, 'mixed': mixed_of}
+Found = dict[str, tuple[str, bytes | str | int]]
 
 
-def text_of(text):
+def text_of(text: str) -> bytes:
     r"""Bytes of a text with `\xHH` for any byte and `\n` for a newline."""
     out = re.sub(rb'\\x([0-9a-f]{2})', lambda m: bytes([int(m[1], 16)]), text.encode())
     return out.replace(b'\\n', b'\n')
 
 
-class Case:
-    def __init__(self, name, place):
-        self.name, self.place = name, place
-        self.making, self.content, self.wanted = [], {}, {}
-        self.name_of_program, self.args, self.status, self.out, self.err = None, [], 0, b'', b''
-        self.err_begins = False
-        self.stdout, self.stdin, self.through, self.modes, self.gone = None, None, {}, {}, set()
+MAKES: dict[str, Callable[[str], bytes]] = {'file': bytes_of, 'capture': capture_of, 'mixed': mixed_of}
+HOLDS: dict[str, Callable[[str], bytes]] = {'holds': bytes_of, 'holds-capture': capture_of, 'holds-text': text_of}
 
-    def add(self, key, value):
+
+class Case:
+    """A case as its lines say it: what is there before the run, the command line, and what is wanted."""
+
+    def __init__(self, name: str, place: str) -> None:
+        self.name, self.place = name, place
+        self.making: list[tuple[str, str, str]] = []  # kind, name and target, or the digits of a mode
+        self.content: dict[str, bytes] = {}
+        self.name_of_program = ''  # that of nfs3canon if it is empty
+        self.args: list[bytes] = []
+        self.stdin = self.stdout = ''
+        self.status, self.out, self.err, self.err_begins = 0, b'', b'', False
+        self.wanted: dict[str, bytes] = {}
+        self.through: dict[str, bytes] = {}
+        self.modes: dict[str, int] = {}
+        self.gone: set[str] = set()
+
+    def add(self, key: str, value: str) -> None:
+        """A line of the case."""
+        if not (self.add_before(key, value) or self.add_run(key, value) or self.add_wanted(key, value)):
+            raise SystemExit('%s: no such line: %s' % (self.place, key))
+
+    def add_before(self, key: str, value: str) -> bool:
+        """A line that says what is there before the run; else false."""
         name, _, rest = value.partition(':')
-        name, rest = name.strip(), rest.strip()
         if key in MAKES:
-            self.content[name] = MAKES[key](rest)
-            self.making.append(('file', name, None))
+            self.content[name.strip()] = MAKES[key](rest.strip())
+            self.making.append(('file', name.strip(), ''))
         elif key in ('symlink', 'hardlink'):
             link, _, target = value.partition('->')
             self.making.append((key, link.strip(), target.strip()))
         elif key in ('folder', 'fifo'):
-            self.making.append((key, value, None))
+            self.making.append((key, value, ''))
         elif key == 'mode':
-            self.making.append(('mode', value.split()[0], int(value.split()[1], 8)))
-        elif key == 'run':
-            self.args = [text_of(w) for w in value.split()]
-        elif key == 'mask':
-            self.name_of_program, self.args = 'nfs3mask', [text_of(w) for w in value.split()]
-        elif key == 'status':
+            path, digits = value.split()
+            self.making.append((key, path, digits))
+        else:
+            return False
+        return True
+
+    def add_run(self, key: str, value: str) -> bool:
+        """A line that says what is run, and where its input and output are; else false."""
+        if key in ('run', 'mask'):
+            self.name_of_program = 'nfs3mask' if key == 'mask' else ''
+            self.args = [text_of(word) for word in value.split()]
+        elif key == 'stdin':
+            self.stdin = value
+        elif key == 'stdout':
+            self.stdout = value
+        else:
+            return False
+        return True
+
+    def add_wanted(self, key: str, value: str) -> bool:
+        """A line that says what is wanted; else false."""
+        name, _, rest = value.partition(':')
+        if key == 'status':
             self.status = int(value)
         elif key == 'out':
             self.out += text_of(value) + b'\n'
@@ -63,25 +98,23 @@ class Case:
             self.err += text_of(value) + b'\n'
         elif key == 'err-begins':
             self.err, self.err_begins = text_of(value), True
-        elif key == 'stdout':
-            self.stdout = value
-        elif key == 'stdin':
-            self.stdin = value
-        elif key in ('holds', 'holds-capture', 'holds-text'):
-            make = {'holds': bytes_of, 'holds-capture': capture_of, 'holds-text': text_of}[key]
-            self.wanted[name] = make(rest)
+        elif key in HOLDS:
+            self.wanted[name.strip()] = HOLDS[key](rest.strip())
         elif key == 'reads':
-            self.through[name] = bytes_of(rest)
+            self.through[name.strip()] = bytes_of(rest)
         elif key == 'holds-mode':
-            self.modes[value.split()[0]] = int(value.split()[1], 8)
+            path, digits = value.split()
+            self.modes[path] = int(digits, 8)
         elif key == 'gone':
             self.gone.add(value)
         else:
-            raise SystemExit('%s: no such line: %s' % (self.place, key))
+            return False
+        return True
 
 
-def cases_of(path):
-    cases, last = [], None
+def cases_of(path: pathlib.Path) -> list[Case]:
+    """The cases of a file."""
+    cases: list[Case] = []
     for number, line in enumerate(path.read_text().splitlines(), 1):
         line = re.sub(r'(^|\s)#.*', '', line).rstrip()
         if not line:
@@ -94,7 +127,8 @@ def cases_of(path):
     return cases
 
 
-def make(case, folder):
+def make(case: Case, folder: str) -> None:
+    """Makes what is there before the run."""
     for kind, name, other in case.making:
         path = os.path.join(folder, name)
         if kind == 'file':
@@ -109,16 +143,17 @@ def make(case, folder):
         elif kind == 'fifo':
             os.mkfifo(path)
         elif kind == 'mode':
-            os.chmod(path, other)
+            os.chmod(path, int(other, 8))
 
 
-def read_fifo(path, got, name):
+def read_fifo(path: str, got: dict[str, bytes], name: str) -> None:
     with open(path, 'rb') as file:
         got[name] = file.read()
 
 
-def what_is_there(folder):
-    found = {}
+def what_is_there(folder: str) -> Found:
+    """What each name of the folder has."""
+    found: Found = {}
     for name in sorted(os.listdir(folder)):
         path = os.path.join(folder, name)
         mode = os.lstat(path).st_mode
@@ -132,7 +167,7 @@ def what_is_there(folder):
     return found
 
 
-def differing(case, before, after):
+def differing(case: Case, before: Found, after: Found) -> list[str]:
     """What the folder holds that it should not, or does not hold that it should."""
     wanted = {name: kept for name, kept in before.items() if name not in case.gone}
     for name, content in case.wanted.items():
@@ -141,18 +176,18 @@ def differing(case, before, after):
             for name in sorted(wanted.keys() | after.keys()) if wanted.get(name) != after.get(name)]
 
 
-def judge(case, done, folder, before, got):
+def judge(case: Case, done: Ended, folder: str, before: Found, got: dict[str, bytes]) -> list[str]:
+    """What is wrong with the run of a case, and with what it left."""
     wrong = []
-    if done.returncode != case.status:
-        wrong.append('status %d, wanted %d' % (done.returncode, case.status))
-    out = done.stdout or b''
-    if case.stdout is None and out != case.out:
-        wrong.append('standard output %r, wanted %r' % (out[:300], case.out[:300]))
+    if done.status != case.status:
+        wrong.append('status %d, wanted %d' % (done.status, case.status))
+    if not case.stdout and done.out != case.out:
+        wrong.append('standard output %r, wanted %r' % (done.out[:300], case.out[:300]))
     if case.err_begins:
-        if not done.stderr.startswith(case.err) or done.stderr[-1:] != b'\n' or done.stderr[-2:] == b'\n\n':
-            wrong.append('standard error %r, wanted %r first and one newline last' % (done.stderr[:300], case.err))
-    elif done.stderr != case.err:
-        wrong.append('standard error %r, wanted %r' % (done.stderr[:300], case.err[:300]))
+        if not done.error.startswith(case.err) or done.error[-1:] != b'\n' or done.error[-2:] == b'\n\n':
+            wrong.append('standard error %r, wanted %r first and one newline last' % (done.error[:300], case.err))
+    elif done.error != case.err:
+        wrong.append('standard error %r, wanted %r' % (done.error[:300], case.err[:300]))
     wrong += differing(case, before, what_is_there(folder))
     for name, mode in case.modes.items():
         found = stat.S_IMODE(os.stat(os.path.join(folder, name)).st_mode)
@@ -164,45 +199,46 @@ def judge(case, done, folder, before, got):
     return wrong
 
 
-def start(case, program, folder):
-    """The program, with its standard output where the case says."""
-    program = program_named(case.name_of_program, program) if case.name_of_program else program
-    stdin = open(os.path.join(folder, case.stdin), 'rb') if case.stdin else subprocess.DEVNULL
-    stdout = subprocess.PIPE
-    if case.stdout == 'closed-pipe':
-        reader, stdout = os.pipe()
-        os.close(reader)
-    elif case.stdout:
-        append = case.stdout.startswith('>>')
-        stdout = open(os.path.join(folder, case.stdout.lstrip('> ')), 'ab' if append else 'wb')
-    return subprocess.run([program.encode()] + case.args, cwd=folder, stdin=stdin, stdout=stdout,
-                          stderr=subprocess.PIPE, timeout=TIMEOUT)
+def run_in(case: Case, program: str, folder: str) -> Ended:
+    """What the program ended with, whose standard files are those of the case."""
+    path = program_named(case.name_of_program, program) if case.name_of_program else program
+    with contextlib.ExitStack() as opened:
+        options: RunOptions = {'limit': TIMEOUT}
+        if case.stdin:
+            options['stdin'] = opened.enter_context(open(os.path.join(folder, case.stdin), 'rb'))
+        if case.stdout == 'closed-pipe':
+            reader, writer = os.pipe()
+            os.close(reader)
+            options['stdout'] = opened.enter_context(open(writer, 'wb'))
+        elif case.stdout:
+            mode = 'ab' if case.stdout.startswith('>>') else 'wb'
+            options['stdout'] = opened.enter_context(open(os.path.join(folder, case.stdout.lstrip('> ')), mode))
+        return ended([path, *case.args], folder, **options)
 
 
-def run(case, program):
-    folder = tempfile.mkdtemp(prefix='nfs3canon')
-    try:
+def run(program: str, case: Case) -> list[str]:
+    """What is wrong with a case."""
+    with tempfile.TemporaryDirectory(prefix='nfs3canon', ignore_cleanup_errors=True) as folder:
         make(case, folder)
-        before, got, readers = what_is_there(folder), {}, []
+        before = what_is_there(folder)
+        got: dict[str, bytes] = {}
+        readers: list[threading.Thread] = []
         for name in case.through:
             reader = threading.Thread(target=read_fifo, args=(os.path.join(folder, name), got, name), daemon=True)
             reader.start()
             readers.append(reader)
         try:
-            done = start(case, program, folder)
+            done = run_in(case, program, folder)
         except subprocess.TimeoutExpired:
             return ['it did not end in %d seconds' % TIMEOUT]
         for reader in readers:
             reader.join(TIMEOUT)
         return judge(case, done, folder, before, got)
-    finally:
-        shutil.rmtree(folder, ignore_errors=True)
 
 
-def main():
+def main() -> None:
     cases = [case for path in sorted(HERE.glob('*.cases')) for case in cases_of(path)]
-    tries = [('%s (%s)' % (case.name, case.place), lambda program, case: run(case, program), case) for case in cases]
-    try_all(words_of(__doc__), tries, 2 * (os.cpu_count() or 2))
+    try_all(words_of(__doc__), [('%s (%s)' % (case.name, case.place), run, case) for case in cases], 2 * (os.cpu_count() or 2))
 
 
 if __name__ == '__main__':

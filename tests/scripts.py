@@ -2,12 +2,11 @@
 import io
 import os
 import pathlib
-import subprocess
 import sys
 import tempfile
 import typing
 
-from captures import TIMEOUT, Runs
+from running import Answer, RunOptions, Runs, ended
 
 TOP = pathlib.Path(__file__).resolve().parent.parent
 sys.path[:0] = [str(TOP / 'tools'), str(TOP / 'examples')]
@@ -26,6 +25,7 @@ Streams = tuple[bytes, bytes]
 
 
 def stream(bodies: typing.Iterable[bytes]) -> bytes:
+    """A stream with these bodies, a record each."""
     return b''.join(messages.record(body)[4:] for body in bodies)
 
 
@@ -72,10 +72,9 @@ class Tools(Runs):
 
     tried = 0  # lines of the README
 
-    def tool(self, name: str, *words: str, stdin: bytes | None = None, **options: typing.Any) -> tuple[int, str, str]:
-        done = subprocess.run([str(TOP / 'tools' / name), *words], cwd=self.folder, input=stdin, timeout=TIMEOUT,
-                              stdout=subprocess.PIPE, stderr=subprocess.PIPE, check=False, **options)
-        return done.returncode, done.stdout.decode(errors='replace'), done.stderr.decode()
+    def tool(self, name: str, *words: str, **options: typing.Unpack[RunOptions]) -> Answer:
+        """What a script ended with. Its standard output may be no text."""
+        return ended([str(TOP / 'tools' / name), *words], self.folder, **options).text('replace')
 
     def taken(self, what: str, recording: bytes, wanted: list[Streams], **options: typing.Any) -> list[str]:
         """The recording gives just these connections. Returns what is told of it."""
@@ -102,7 +101,8 @@ class Tools(Runs):
             self.want(what, 'taken', message)
 
     def exists(self, name: str) -> bool:
-        return os.path.exists(os.path.join(self.folder, name))
+        """Whether a file is in the folder."""
+        return os.path.exists(self.path(name))
 
 
 def tried(program: str, test: typing.Callable[[Tools], None]) -> list[str]:

@@ -3,8 +3,8 @@
 
     python3 tests/verdicts.py [PROGRAM] [--only TEXT] [-v]
 
-PROGRAM is crates/nfs3canon/out/nfs3canon where none is named. What needs tshark is skipped, with a word, if tshark is not
-there. The last line is 'N passed, M failed', and the status is 1 where any failed.
+PROGRAM is crates/nfs3canon/out/nfs3canon if none is named. What needs tshark is skipped, with a word, if tshark is not
+there. The last line is 'N passed, M failed', and the status is 1 if any failed.
 """
 import json
 import os
@@ -12,17 +12,17 @@ import random
 import re
 import shutil
 import signal
-import subprocess
 import time
 import xml.etree.ElementTree
 
 from recordings import NANOSECONDS, fragments, interface, section, simple
-from running import try_all, words_of
+from running import begin, ended, pipe_of, try_all, words_of
 from scripts import ALL, CALLS, REPLIES, TOP, Tools, exchange, in_fragments, stream, taken_of, tried, whole
 from messages import NFS, call, success
 from packets import ACK, Talk, ethernet, pcap
 from nfs3tools.places import SIDES, Place
 
+VERDICTS = str(TOP / 'tools/verdicts')
 CALL, REPLY = len(stream(CALLS[:1])), len(stream(REPLIES[:1]))
 HEAD = 'connection 1 %s: client 192.0.2.7:700, server 192.0.2.1:2049, tcp.stream == 0'
 FAULTS = {'bad_client_record': ('client record 1 byte 4: BadEnum', 4), 'bad_server_record': ('server record 2 byte 0: NoCall', 13),
@@ -33,6 +33,7 @@ FAULTS = {'bad_client_record': ('client record 1 byte 4: BadEnum', 4), 'bad_serv
 # --- where ---
 
 def where(tools: Tools, place: str, *options: str) -> tuple[int, list[str], str]:
+    """The status of `tools/where` on the recording `a.pcap`, its lines, and what is told on standard error."""
     status, out, error = tools.tool('where', *options, 'a.pcap', place)
     return status, out.splitlines(), error
 
@@ -63,6 +64,12 @@ def places(tools: Tools) -> None:
     for byte, frame in ((16, 4), (19, 4), (65, 4), (66, 5)):
         lines = [f'file {byte}', times[frame], f'frame.number == {frame}']
         tools.want(f'file {byte}', where(tools, f'file {byte}: TooManyBytes'), (0, lines, ''))
+    places_that_are_not_there(tools)
+    places_by_standard_input(tools, frames)
+
+
+def places_that_are_not_there(tools: Tools) -> None:
+    """Of the recording of `places`."""
     for place, status, message in (
             ('connection 1 client record 1 byte 41', 1, 'there is no connection 1 client record 1 byte 41: the body is shorter'),
             ('connection 1 client record 40', 1, 'there is no connection 1 client record 40'),
@@ -73,13 +80,17 @@ def places(tools: Tools) -> None:
             ('file 999999', 1, 'byte 999999 of the capture is not of a stream, so no frame carries it'),
             ('somewhere', 2, 'no place: somewhere')):
         tools.want(place, where(tools, place), (status, [], f'where: {message}\n'))
+
+
+def places_by_standard_input(tools: Tools, frames: list[bytes]) -> None:
+    """The place, or the recording; and files that have no frames, or are not there."""
     answer = tools.tool('where', 'a.pcap', stdin=b'connection 1 client record 1 byte 0: RpcVersion\n')
     tools.want('a place from standard input', answer[1].splitlines()[-1:], ['frame.number == 4'])
     answer = tools.tool('where', '-', 'connection 1 client record 1 byte 0', stdin=pcap(frames))
     tools.want('a recording from standard input', answer[1].splitlines()[-1:], ['frame.number == 4'])
     for words, message in ((('-',), 'where: PLACE has to be an argument if the recording is standard input\n'),
                            (('b.nfs3cap', 'file 8'), 'where: b.nfs3cap is a capture, which has no frames\n')):
-        shutil.copy(TOP / 'examples/null.nfs3cap', os.path.join(tools.folder, 'b.nfs3cap'))
+        shutil.copy(TOP / 'examples/null.nfs3cap', tools.path('b.nfs3cap'))
         tools.want(message, tools.tool('where', *words), (2, '', message))
     tools.want('an absent file', tools.tool('where', 'absent', 'file 8'), (3, '', 'where: absent: No such file or directory\n'))
 
@@ -122,8 +133,9 @@ def places_at_the_frames_of_tshark(tools: Tools) -> None:
         tools.write('a.pcap', recording)
         words = ['tshark', '-n', '-r', 'a.pcap', '-Y', 'tcp.len > 0', '-T', 'fields', '-o', 'tcp.desegment_tcp_streams:FALSE']
         words += [word for field in ('frame.number', 'tcp.stream', 'tcp.srcport', 'tcp.seq', 'tcp.len') for word in ('-e', field)]
-        done = subprocess.run(words, cwd=tools.folder, stdout=subprocess.PIPE, stderr=subprocess.DEVNULL, text=True, check=True)
-        segments = [tuple(map(int, line.split())) for line in done.stdout.splitlines()]
+        done = ended(words, tools.folder)
+        tools.want('the status of tshark', done.status, 0)
+        segments = [tuple(map(int, line.split())) for line in done.out.splitlines()]
         taken = taken_of(recording)
         for _ in range(40):
             connection, side = chance.choice(taken.connections), chance.choice(SIDES)
@@ -177,33 +189,41 @@ def rows_of_all_kinds(tools: Tools) -> None:
     tools.want('one at a time', verdicts(tools, '-j', '1', 'a.pcap'), (1, wanted, '2 ok, 2 refused, 0 errors', ''))
     tools.want('standard input', verdicts(tools, '-', stdin=pcap(frames))[1], [['-', *row[1:]] for row in wanted])
     tools.write('b.pcap', pcap(whole()))
-    shutil.copy(TOP / 'examples/two_connections.nfs3cap', os.path.join(tools.folder, 'c.nfs3cap'))
-    shutil.copy(TOP / 'examples/interleaved.nfs3cap', os.path.join(tools.folder, 'd.nfs3cap'))
+    shutil.copy(TOP / 'examples/two_connections.nfs3cap', tools.path('c.nfs3cap'))
+    shutil.copy(TOP / 'examples/interleaved.nfs3cap', tools.path('d.nfs3cap'))
     status, rows, last, error = verdicts(tools, 'b.pcap', 'c.nfs3cap', 'd.nfs3cap')
     tools.want('all ok', (status, [[row[0], *row[-3:]] for row in rows], last, error),
                (0, [['b.pcap', '39', '39', 'ok'], *([['c.nfs3cap', '1', '1', 'ok']] * 2), ['d.nfs3cap', '7', '7', 'ok'],
                     ['d.nfs3cap', '51', '51', 'ok'], ['d.nfs3cap', '2', '2', 'ok']], '6 ok, 0 refused, 0 errors', ''))
-    two = (TOP / 'examples/two_connections.nfs3cap').read_bytes()
-    as_a_whole = ['-', '-', '-', '-', '-']
-    for name, content, rows in (
-            ('cut', two[:-1], [['1', '-', '-', '1', '1', 'ok'], ['2', '-', '-', '1', '1', 'ok'], [*as_a_whole, f'file {len(two) - 1}: CaptureCut']]),
-            ('more', two + b'x', [['1', '-', '-', '1', '1', 'ok'], ['2', '-', '-', '1', '1', 'ok'], [*as_a_whole, f'file {len(two)}: AfterEnd']]),
-            ('mark', two[:100] + b'\0\0\0\7' + two[104:], [['1', '-', '-', '1', '1', 'ok'], [*as_a_whole, 'file 100: BadMark']]),
-            ('both', (TOP / 'examples/bad_server_record.nfs3cap').read_bytes()[:-1],
-             [['1', '-', '-', '1', '1', 'ok'], ['2', '-', '-', '1', '2', 'server record 2 byte 0: NoCall']]),
-            ('text', b'no recording', [[*as_a_whole, 'it is neither pcap nor pcapng']]),
-            ('xz', b'\xfd7zXZ\0\0', [[*as_a_whole, 'it is compressed by xz: decompress it first, as in `xz -dc FILE | tools/from_pcap - OUT`']]),
-            ('damaged', pcap(whole()) + b'\xff' * 16, [['1', '192.0.2.7:700', '192.0.2.1:2049', '39', '39', 'ok'],
-                                                       [*as_a_whole, 'the recording is damaged after frame 15: frame 16 claims 4294967295 bytes']]),
-            ('empty', pcap([]), [[*as_a_whole, 'no connection to judge']]),
-            ('absent', None, [[*as_a_whole, 'absent: No such file or directory']])):
-        if content is not None:
-            tools.write(name, content)
-        status, found, last, error = verdicts(tools, name, 'b.pcap')
-        tools.want(name, (status, found[:-1]), (1, [[name, *row] for row in rows]))
-        tools.want(name + ', the other', found[-1][-1], 'ok')
+    rows_of_files_that_are_not_whole(tools)
     tools.want('no program', tools.tool('verdicts', '--program', './absent', 'b.pcap'), (2, '', 'verdicts: ./absent is missing\n'))
     tools.want('no processes', tools.tool('verdicts', '-j', '0', 'b.pcap')[0], 2)
+
+
+def rows_of_files_that_are_not_whole(tools: Tools) -> None:
+    """Each beside a good one."""
+    two = (TOP / 'examples/two_connections.nfs3cap').read_bytes()
+    first, second, as_a_whole = ['1', '-', '-', '1', '1', 'ok'], ['2', '-', '-', '1', '1', 'ok'], ['-', '-', '-', '-', '-']
+    cases: list[tuple[str, bytes | None, list[list[str]]]] = [
+        ('cut', two[:-1], [first, second, [*as_a_whole, f'file {len(two) - 1}: CaptureCut']]),
+        ('more', two + b'x', [first, second, [*as_a_whole, f'file {len(two)}: AfterEnd']]),
+        ('mark', two[:100] + b'\0\0\0\7' + two[104:], [first, [*as_a_whole, 'file 100: BadMark']]),
+        ('both', (TOP / 'examples/bad_server_record.nfs3cap').read_bytes()[:-1],
+         [first, ['2', '-', '-', '1', '2', 'server record 2 byte 0: NoCall']]),
+        ('text', b'no recording', [[*as_a_whole, 'it is neither pcap nor pcapng']]),
+        ('xz', b'\xfd7zXZ\0\0',
+         [[*as_a_whole, 'it is compressed by xz: decompress it first, as in `xz -dc FILE | tools/from_pcap - OUT`']]),
+        ('damaged', pcap(whole()) + b'\xff' * 16,
+         [['1', '192.0.2.7:700', '192.0.2.1:2049', '39', '39', 'ok'],
+          [*as_a_whole, 'the recording is damaged after frame 15: frame 16 claims 4294967295 bytes']]),
+        ('empty', pcap([]), [[*as_a_whole, 'no connection to judge']]),
+        ('absent', None, [[*as_a_whole, 'absent: No such file or directory']])]
+    for name, content, rows in cases:
+        if content is not None:
+            tools.write(name, content)
+        status, found, _, _ = verdicts(tools, name, 'b.pcap')
+        tools.want(name, (status, found[:-1]), (1, [[name, *row] for row in rows]))
+        tools.want(name + ', the other', found[-1][-1], 'ok')
 
 
 def what_is_told(tools: Tools) -> None:
@@ -223,15 +243,15 @@ def what_is_told(tools: Tools) -> None:
 def files_for_others(tools: Tools) -> None:
     """JUnit XML and JSON, which hold whatever a file's name has."""
     name = 'a\1\n<&"]]>\udcff.pcap'
-    with open(os.path.join(os.fsencode(tools.folder), os.fsencode(name)), 'wb') as file:
-        file.write((TOP / 'examples/bad_server_record.pcap').read_bytes())
+    tools.write(name, (TOP / 'examples/bad_server_record.pcap').read_bytes())
     tools.write('b.pcap', pcap(whole()[:4] + whole()[5:] + Talk(800).opened()))
-    words = [os.fsencode(word) for word in ('verdicts', '--junit', 'x.xml', '--json', 'x.json', '--program', tools.program, name, 'b.pcap', 'c')]
-    done = subprocess.run([os.fsencode(TOP / 'tools/verdicts'), *words[1:]], cwd=tools.folder, capture_output=True, check=False)
-    tools.want('status', (done.returncode, b'Traceback' in done.stderr), (1, False))
+    words = ['--junit', 'x.xml', '--json', 'x.json', '--program', tools.program, name, 'b.pcap', 'c']
+    done = ended([VERDICTS, *words], tools.folder)
+    tools.want('status', (done.status, b'Traceback' in done.error), (1, False))
     suites = xml.etree.ElementTree.fromstring((tools.read('x.xml') or b'').decode())
     suite = suites[0]
-    tools.want('the suite', [suite.get(key) for key in ('name', 'tests', 'failures', 'errors', 'skipped')], ['nfs3canon', '5', '1', '1', '1'])
+    tools.want('the suite', [suite.get(key) for key in ('name', 'tests', 'failures', 'errors', 'skipped')],
+               ['nfs3canon', '5', '1', '1', '1'])
     escaped = 'a\\x01\\n<&"]]>\\udcff.pcap'
     cases = [(case.get('classname'), case.get('name'), [(item.tag, item.get('message')) for item in case if item.tag != 'system-out'])
              for case in suite]
@@ -250,26 +270,24 @@ def files_for_others(tools: Tools) -> None:
         ('ok', 1, 0, None, None, []),
         ('refused', 2, 1, 'server record 2 byte 0', 'NoCall', [{'number': 13, 'time': 1_000_012_000}]),
         ('ok', 1, 0, None, None, []), ('skipped', None, None, None, None, []), ('error', None, None, None, None, [])])
-    tools.want('a file that cannot be written', tools.tool('verdicts', '--program', tools.program, '--junit', 'absent/x', 'b.pcap')[0::2][0], 3)
+    status, _, _ = tools.tool('verdicts', '--program', tools.program, '--junit', 'absent/x', 'b.pcap')
+    tools.want('a file that cannot be written', status, 3)
 
 
 def interrupted(tools: Tools) -> None:
     """An interrupt ends it without a traceback, and nothing is left behind."""
-    os.mkfifo(os.path.join(tools.folder, 'fifo'))
-    words = [str(TOP / 'tools/verdicts'), '--program', tools.program, 'fifo']
-    process = subprocess.Popen(words, cwd=tools.folder, stdout=subprocess.PIPE, stderr=subprocess.PIPE, preexec_fn=take_interrupts)
-    with open(os.path.join(tools.folder, 'fifo'), 'wb') as fifo:
+    os.mkfifo(tools.path('fifo'))
+    process = begin([VERDICTS, '--program', tools.program, 'fifo'], tools.folder, prepare=take_interrupts)
+    with open(tools.path('fifo'), 'wb') as fifo:
         fifo.write(pcap(whole()))
         fifo.flush()
         time.sleep(0.3)
         process.send_signal(signal.SIGINT)
         out, error = process.communicate(timeout=20)
     tools.want('interrupted', (process.returncode, out, error), (130, b'', b''))
-    listed = subprocess.Popen([str(TOP / 'tools/verdicts'), '--program', tools.program, str(TOP / 'examples/ganesha_a.pcap')],
-                              stdout=subprocess.PIPE, stderr=subprocess.PIPE)
-    assert listed.stdout and listed.stderr
-    listed.stdout.close()
-    tools.want('a reader that is gone', (listed.stderr.read(), listed.wait()), (b'', 3))
+    listed = begin([VERDICTS, '--program', tools.program, str(TOP / 'examples/ganesha_a.pcap')], tools.folder)
+    pipe_of(listed.stdout).close()
+    tools.want('a reader that is gone', (pipe_of(listed.stderr).read(), listed.wait()), (b'', 3))
 
 
 def take_interrupts() -> None:
