@@ -10,7 +10,6 @@ import itertools
 import os
 import pathlib
 import re
-import subprocess
 import tempfile
 from collections.abc import Callable, Iterable, Sequence
 
@@ -21,7 +20,6 @@ import messages
 from messages import chunk, fragment
 
 HERE = pathlib.Path(__file__).resolve().parent
-TIMEOUT = 60
 # Longer captures are not cut into single bytes, nor cut short.
 SMALL = 2_000
 COUNTS = re.compile(r'ok connections=\d+ calls=(\d+) replies=(\d+) handles=\d+')
@@ -107,10 +105,8 @@ def refused(runs: Runs, capture: bytes, line: str) -> None:
     runs.want('show', runs.run('show', 'a'), (2, listing, line + '\n'))
     runs.want('canon front', runs.run('canon', 'front', 'front.out')[0], 0)
     form = runs.read('front.out') or b''
-    with open(os.path.join(runs.folder, 'device'), 'wb') as out:
-        done = subprocess.run([runs.program, 'canon', 'a', '/dev/stdout'], cwd=runs.folder, stdout=out, stderr=subprocess.PIPE,
-                              timeout=TIMEOUT)
-    runs.want('canon to a device', (done.returncode, done.stderr.decode()), (2, line + '\n'))
+    with open(runs.path('device'), 'wb') as out:
+        runs.want('canon to a device', runs.run('canon', 'a', '/dev/stdout', stdout=out), (2, '', line + '\n'))
     runs.want('what canon wrote to it', runs.read('device'), form[:len(form) - missing])
     runs.write('good', bytes_of('MAGIC 00000000'))
     runs.want('same a good', runs.run('same', 'a', 'good'), (2, '', 'first: ' + line + '\n'))

@@ -25,7 +25,7 @@ from masking import Masker, Renamer, masked_bodies
 from running import BUILT, Runs
 from traffic import Names, Traffic, in_pieces, in_version_2, streams_of
 import messages
-from messages import word
+from messages import chunk, fragment, version_1, word
 from nfs3tools.classes import Mask, Way
 
 LAWS_OF_A_CAPTURE, FLIPS, CAPTURES_AT_ONCE = 2, 5, 25
@@ -117,19 +117,14 @@ def a_line_is_shown_for_each_message(trial: Trial) -> None:
 
 def packing_the_streams_gives_the_capture(trial: Trial) -> None:
     """Each stream in chunks of 65,536 bytes and one of what is left."""
-    wanted = messages.MAGIC
-    names: list[str] = []
-    for number, connection in enumerate(trial.traffic.connections):
-        wanted += word(1)
-        for side, bodies in zip(('client', 'server'), connection):
-            stream = b''.join(messages.record(body)[4:] for body in bodies)
-            chunks = (stream[at:at + 65_536] for at in range(0, len(stream), 65_536))
-            wanted += b''.join(word(len(chunk)) + chunk for chunk in chunks) + word(0)
-            names.append('%s%d' % (side, number))
-            trial.write(names[-1], stream)
-    if names:
-        status, packed, error = trial.answer('pack', '/dev/stdout', *names)
-        trial.want('pack', (status, packed, error), (0, wanted + word(0), ''))
+    streams = {'%s%d' % (side, number): b''.join(map(fragment, bodies)) for number, connection in enumerate(trial.traffic.connections)
+               for side, bodies in zip(('client', 'server'), connection)}
+    for name, stream in streams.items():
+        trial.write(name, stream)
+    if streams:
+        sides = [[chunk(stream[at:at + 65_536]) for at in range(0, len(stream), 65_536)] for stream in streams.values()]
+        status, packed, error = trial.answer('pack', '/dev/stdout', *streams)
+        trial.want('pack', (status, packed, error), (0, b''.join(version_1(zip(sides[::2], sides[1::2]))), ''))
         trial.write('packed', packed)
         trial.want('canon of what was packed', trial.form('packed'), trial.form('a'))
 

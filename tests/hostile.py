@@ -345,8 +345,8 @@ def remove(path: str) -> None:
 
 
 def many_streams_and_few_open_files(place: Place) -> None:
-    place.write('call', messages.record(NULL[0][0])[4:])
-    place.write('reply', messages.record(NULL[1][0])[4:])
+    place.write('call', fragment(NULL[0][0]))
+    place.write('reply', fragment(NULL[1][0]))
     place.want('pack', place.limited('-n 16', 'pack', 'out', *['call', 'reply'] * 3_000), (0, '', ''))
     place.want('what was packed', place.read('out') == messages.capture(*[NULL] * 3_000), True)
 
@@ -630,13 +630,13 @@ def handles_chosen_against_a_known_word(place: Place) -> None:
 
 def empty_fragments(count: int) -> Streams:
     """Before the last fragment of a call."""
-    stream = word(0) * count + messages.record(NULL[0][0])[4:]
+    stream = word(0) * count + fragment(NULL[0][0])
     return word(len(stream)) + stream, b''
 
 
 def single_bytes(count: int) -> Streams:
     """One raw call in chunks of a byte."""
-    stream = messages.record(call(1, NFSACL, 3, 1, bytes(count)))[4:]
+    stream = fragment(call(1, NFSACL, 3, 1, bytes(count)))
     return b''.join(b'\0\0\0\x01%c' % byte for byte in stream), b''
 
 
@@ -655,13 +655,13 @@ def bytes_in_turns(count: int) -> bytes:
 
 def version_2(chunks: bytes) -> bytes:
     """A capture of one connection with these chunks."""
-    return MAGIC_2 + word(1) + chunks + word(0) + word(0)
+    return b''.join(messages.version_2([[chunks]]))
 
 
 def version_1(streams: Streams) -> bytes:
     """A capture of one connection with these streams."""
     client, server = streams
-    return messages.MAGIC + word(1) + client + word(0) + server + word(0) + word(0)
+    return b''.join(messages.version_1([([client], [server])]))
 
 
 def seconds(place: Place, command: str, *names: str) -> float:

@@ -59,14 +59,9 @@ def scrambled(number: int) -> int:
     return number * PRIME & 0xffffffff
 
 
-def stream(bodies: Iterable[bytes]) -> bytes:
-    """The chunks of a stream with these bodies, a record and a chunk each, and its word 0."""
-    return b''.join(messages.record(body) for body in bodies) + word(0)
-
-
-def capture(client: bytes, server: bytes) -> bytes:
-    """A capture of one connection, from the chunks of its streams and their words 0."""
-    return messages.MAGIC + word(1) + client + server + word(0)
+def capture(calls: Iterable[bytes], replies: Iterable[bytes]) -> bytes:
+    """A capture of one connection with these bodies, a record and a chunk each."""
+    return b''.join(messages.version_1([(map(messages.record, calls), map(messages.record, replies))]))
 
 
 # --- Tables ---
@@ -79,17 +74,17 @@ def getattrs(xid: Callable[[int], int], handle: Callable[[int], bytes]) -> Itera
 
 def calls_and_handles_of_one_connection(place: Place) -> None:
     given = getattrs(scrambled, lambda number: hyper(scrambled(number)))
-    place.write('a', capture(stream(given), word(0)))
+    place.write('a', capture(given, []))
     place.counted('a', calls=MANY, handles=MANY)
     form = getattrs(lambda number: number + 1, lambda number: word(number + 1))
-    place.rewritten('a', capture(stream(form), word(0)))
+    place.rewritten('a', capture(form, []))
 
 
 def nulls(xid: Callable[[int], int]) -> bytes:
     """NULL calls of different xids, and their replies, the last one first."""
     head, rest = call(0, NFS, 3, 0)[4:], success(0)[4:]
-    calls = stream(word(xid(number)) + head for number in range(MANY))
-    return capture(calls, stream(word(xid(number)) + rest for number in reversed(range(MANY))))
+    calls = (word(xid(number)) + head for number in range(MANY))
+    return capture(calls, (word(xid(number)) + rest for number in reversed(range(MANY))))
 
 
 def xids_and_replies_of_one_connection(place: Place) -> None:
@@ -100,8 +95,8 @@ def xids_and_replies_of_one_connection(place: Place) -> None:
 
 def commits(count: int, verifier: Callable[[int], bytes]) -> bytes:
     """COMMITs, each answered with another write verifier."""
-    calls = stream(call(number + 1, NFS, 3, COMMIT, fh(word(1)) + bytes(12)) for number in range(count))
-    return capture(calls, stream(success(number + 1, ok(wcc(), verifier(number))) for number in range(count)))
+    calls = (call(number + 1, NFS, 3, COMMIT, fh(word(1)) + bytes(12)) for number in range(count))
+    return capture(calls, (success(number + 1, ok(wcc(), verifier(number))) for number in range(count)))
 
 
 def write_verifiers(place: Place) -> None:
@@ -117,7 +112,7 @@ def records_of_same(place: Place) -> None:
     def accesses(last: int) -> bytes:
         """ACCESS calls, of which the last but one asks for other rights."""
         asked = [1] * (count - 2) + [last, 1]
-        return capture(stream(call(number, NFS, 3, 4, fh(b'file') + word(bits)) for number, bits in enumerate(asked)), word(0))
+        return capture((call(number, NFS, 3, 4, fh(b'file') + word(bits)) for number, bits in enumerate(asked)), [])
     place.write('a', accesses(1))
     place.write('b', accesses(2))
     place.want('same a a', place.run('same', 'a', 'a'), (0, 'same\n', ''))
@@ -134,7 +129,7 @@ def streams_of_version_2(place: Place) -> None:
     replies = bodies(success, 40)
     place.write('a', mixed([[('>', fragment(body)) for body in calls] + [('<', fragment(body)) for body in replies]]))
     place.counted('a', calls=80, replies=40)
-    place.rewritten('a', capture(stream(calls), stream(replies)))
+    place.rewritten('a', capture(calls, replies))
 
 
 def records_of_the_largest_size(place: Place) -> None:
@@ -144,11 +139,11 @@ def records_of_the_largest_size(place: Place) -> None:
     body += bytes(LONGEST - len(body))
     line = (b'1 client 1 xid=1 RAW mtype=0 rpcvers=2 prog=%d vers=1 proc=1 cred_flavor=0 cred_body= verf_flavor=0 verf_body= rest=%b'
             % (UNKNOWN, body[40:].hex().encode()))
-    for name, content in (('a', capture(stream([body]), word(0))), ('b', mixed([[('>', fragment(body))]]))):
+    for name, content in (('a', capture([body], [])), ('b', mixed([[('>', fragment(body))]]))):
         place.write(name, content)
         place.counted(name, calls=1)
         place.listed(name, [line])
-        place.rewritten(name, capture(stream([body]), word(0)))
+        place.rewritten(name, capture([body], []))
 
 
 # --- Texts ---
@@ -167,7 +162,7 @@ def looked_up(number: int, name: bytes) -> bytes:
 def names_in_messages(place: Place) -> None:
     """Of lengths about those at which a buffer may end, plain and with bytes that are escaped."""
     names = [kind[:1] * size for kind in (b'n', b'"', b'\xff') for size in (255, 256, 257, 4_095, 4_096, 4_097, 65_536, 1_000_000)]
-    place.write('a', capture(stream(call(number, NFS, 3, 3, dirop(b'a', name)) for number, name in enumerate(names, 1)), word(0)))
+    place.write('a', capture((call(number, NFS, 3, 3, dirop(b'a', name)) for number, name in enumerate(names, 1)), []))
     place.counted('a', calls=len(names), handles=1)
     place.listed('a', (looked_up(number, name) for number, name in enumerate(names, 1)))
 
@@ -175,7 +170,7 @@ def names_in_messages(place: Place) -> None:
 def links_in_messages(place: Place) -> None:
     """The path of a READLINK is a string as well."""
     path = bytes(range(256)) * 64
-    place.write('a', capture(stream([call(1, NFS, 3, 5, fh(b'a'))]), stream([success(1, ok(post_op_attr(), messages.opaque(path)))])))
+    place.write('a', capture([call(1, NFS, 3, 5, fh(b'a'))], [success(1, ok(post_op_attr(), messages.opaque(path)))]))
     head = b'xid=1 NFSPROC3_READLINK mtype='
     place.listed('a', [
         b'1 client 1 ' + head + b'0 rpcvers=2 prog=100003 vers=3 proc=5 cred_flavor=0 cred_body= verf_flavor=0 verf_body= fh=61',

@@ -6,12 +6,12 @@ import sys
 import tempfile
 import typing
 
+from containers import in_one
 from running import Answer, RunOptions, Runs, ended
 
 TOP = pathlib.Path(__file__).resolve().parent.parent
 sys.path[:0] = [str(TOP / 'tools'), str(TOP / 'examples')]
-import messages  # noqa: E402
-from messages import NFS, call, success  # noqa: E402
+from messages import NFS, call, fragment, success, version_1  # noqa: E402
 from packets import Talk  # noqa: E402
 from nfs3tools.captures import capture_of  # noqa: E402
 from nfs3tools.messages import lines_of  # noqa: E402
@@ -26,13 +26,13 @@ Streams = tuple[bytes, bytes]
 
 def stream(bodies: typing.Iterable[bytes]) -> bytes:
     """A stream with these bodies, a record each."""
-    return b''.join(messages.record(body)[4:] for body in bodies)
+    return b''.join(map(fragment, bodies))
 
 
 def in_fragments(body: bytes, size: int) -> bytes:
     """A record of fragments of so many bytes, and a last one."""
     whole = range(0, len(body) - size, size)
-    return b''.join(messages.word(size) + body[at:at + size] for at in whole) + messages.record(body[len(whole) * size:])[4:]
+    return b''.join(fragment(body[at:at + size], is_last=False) for at in whole) + fragment(body[len(whole) * size:])
 
 
 ALL = (stream(CALLS), stream(REPLIES))
@@ -40,10 +40,7 @@ ALL = (stream(CALLS), stream(REPLIES))
 
 def packed(*connections: Streams) -> bytes:
     """What `pack` writes of connections with short streams."""
-    sides = [side for connection in connections for side in connection]
-    sides = [messages.word(len(side)) + side + messages.word(0) if side else messages.word(0) for side in sides]
-    parts = (messages.word(1) + client + server for client, server in zip(sides[::2], sides[1::2]))
-    return messages.MAGIC + b''.join(parts) + messages.word(0)
+    return b''.join(version_1((in_one(client), in_one(server)) for client, server in connections))
 
 
 def exchange(talk: Talk, pieces: int = 1, calls: list[bytes] = CALLS, replies: list[bytes] = REPLIES) -> list[bytes]:
