@@ -106,7 +106,8 @@ def refused(runs: Runs, capture: bytes, line: str) -> None:
     runs.want('canon front', runs.run('canon', 'front', 'front.out')[0], 0)
     form = runs.read('front.out') or b''
     with open(runs.path('device'), 'wb') as out:
-        runs.want('canon to a device', runs.run('canon', 'a', '/dev/stdout', stdout=out), (2, '', line + '\n'))
+        answer = runs.run('canon', 'a', '/dev/stdout', stdout=out)
+    runs.want('canon to a device', answer, (2, '', line + '\n'))
     runs.want('what canon wrote to it', runs.read('device'), form[:len(form) - missing])
     runs.write('good', bytes_of('MAGIC 00000000'))
     runs.want('same a good', runs.run('same', 'a', 'good'), (2, '', 'first: ' + line + '\n'))

@@ -20,7 +20,7 @@ import typing
 from recordings import (
     NANOSECONDS, block, cooked, cooked_2, enhanced, extended, fragments, fragments_6, interface, loopback, obsolete, pcapng, section,
     simple)
-from running import try_all, words_of
+from running import begin, pipe_of, try_all, words_of
 from scripts import (
     ALL, CALLS, REPLIES, TOP, Tools, exchange, in_fragments, packed, stream, taken_of, tried, whole)
 import messages
@@ -558,13 +558,13 @@ def files(tools: Tools) -> None:
     tools.want('no connection', tools.tool('from_pcap', 'none.pcap', 'x'), (1, '', 'from_pcap: no connection to pack\n'))
     tools.want('no OUT is made', tools.exists('x'), False)
     tools.write('out', b'old')
-    limited = ['sh', '-c', 'ulimit -f 8; exec "$0" "$@"', str(TOP / 'tools/from_pcap')]
+    limited = ['sh', '-c', 'ulimit -f 8; exec "$@"', 'sh']
     talk = Talk()
     tools.write('long.pcap', pcap([*talk.opened(), *(talk.sent(0, bytes(50_000)) for _ in range(2))]))
     tools.write('wide.pcap', pcap([*talk.opened(), *(talk.sent(0, bytes(9_000)) for _ in range(5))]))
     for name, message in (('wide.pcap', 'from_pcap: out: File too large'), ('long.pcap', 'from_pcap: a temporary file: File too large')):
-        done = subprocess.run([*limited, name, 'out'], cwd=tools.folder, stderr=subprocess.PIPE, check=False)
-        tools.want('a full disk', (done.returncode, done.stderr.decode().splitlines()[-1], tools.read('out')), (3, message, b'old'))
+        status, _, error = tools.tool('from_pcap', name, 'out', before=limited)
+        tools.want('a full disk', (status, error.splitlines()[-1], tools.read('out')), (3, message, b'old'))
     tools.want('what is left', [name for name in os.listdir(tools.folder) if name.startswith('.')], [])
 
 
@@ -632,20 +632,21 @@ def streamed(tools: Tools, count: int, lost: int) -> tuple[int, list[str]]:
     """Feeds a recording of frames of 64 KB of records, but for one, and gives the memory of the tool and what it tells."""
     body = call(1, NFS, 3, 7, messages.fh(b'a') + messages.hyper(0) + messages.word(65_336) + messages.word(0) + messages.opaque(bytes(65_336)))
     record, talk = stream([body]), Talk()
-    error = open(os.path.join(tools.folder, 'told'), 'w+b')
-    process = subprocess.Popen([str(TOP / 'tools/from_pcap'), '-', 'out'], cwd=tools.folder, stdin=subprocess.PIPE, stderr=error)
-    assert process.stdin
-    process.stdin.write(pcap(talk.opened()))
-    for number in range(count):
-        frame = talk.sent(0, record)
-        frame = frame[:16] + b'\0\0' + frame[18:] if len(frame) > 65_535 else frame
-        if number != lost:
-            process.stdin.write(pcap([frame], 1 << 20)[24:])
-    process.stdin.close()
-    _, status, usage = os.wait4(process.pid, 0)
-    process.returncode = status
-    error.seek(0)
-    return usage.ru_maxrss, error.read().decode().split()
+    with open(tools.path('told'), 'w+b') as error:
+        process = begin([str(TOP / 'tools/from_pcap'), '-', 'out'], tools.folder, stdin=subprocess.PIPE,
+                        stdout=subprocess.DEVNULL, stderr=error)
+        given = pipe_of(process.stdin)
+        given.write(pcap(talk.opened()))
+        for number in range(count):
+            frame = talk.sent(0, record)
+            frame = frame[:16] + b'\0\0' + frame[18:] if len(frame) > 65_535 else frame
+            if number != lost:
+                given.write(pcap([frame], 1 << 20)[24:])
+        given.close()
+        _, status, usage = os.wait4(process.pid, 0)
+        process.returncode = status
+        error.seek(0)
+        return usage.ru_maxrss, error.read().decode().split()
 
 
 # --- tshark ---

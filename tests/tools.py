@@ -20,7 +20,7 @@ import pages
 from captures import SMALL, capture_in, rows_of
 from rooms import (crowded_folders, in_the_wrong_room, long_lines, of_private_fields, of_several_meanings, of_two_files,
                    scans_without_values)
-from running import program_named, try_all, words_of
+from running import ended, program_named, try_all, words_of
 from scripts import TOP, Tools, tried
 from traffic import Names, Traffic
 import messages
@@ -158,8 +158,8 @@ def commands_of_the_readme(tools: Tools) -> None:
         for word, local in here.items():
             words = words.replace(word, local)
         words = re.sub(r'^tools/(verdicts|compare) ', r'tools/\1 --program %s ' % tools.program, words)
-        done = subprocess.run(['sh', '-c', words], cwd=TOP, stdout=subprocess.PIPE, stderr=subprocess.STDOUT, text=True)
-        printed = done.stdout.splitlines()
+        _, out, _ = ended(['sh', '-c', words], TOP, stderr=subprocess.STDOUT, limit=None).text()
+        printed = out.splitlines()
         tools.want(command, 'as written' if is_printed(wanted, printed) else printed, 'as written')
 
 
@@ -173,13 +173,13 @@ def lines_for_many_captures(tools: Tools) -> None:
     last = {'tools/verdicts': ['13 ok, 7 refused, 0 errors'],
             'parallel': ['0 ok, 1 refused, 0 errors'] * 4 + ['1 ok, 1 refused, 0 errors'] + ['3 ok, 0 refused, 0 errors'] * 3}
     for line in lines[:2]:
-        if line.startswith('parallel') and b'GNU' not in subprocess.run(version, stdout=subprocess.PIPE).stdout:
+        if line.startswith('parallel') and b'GNU' not in ended(version, TOP).out:
             continue
         for word, local in here.items():
             line = line.replace(word, local)
-        done = subprocess.run(['sh', '-c', line], cwd=TOP, stdout=subprocess.PIPE, stderr=subprocess.DEVNULL, text=True)
-        found = sorted(told for told in done.stdout.splitlines() if told.endswith(' errors'))
-        tools.want(line, (found, done.returncode), (last[line.split()[0]], 5 if line.startswith('parallel') else 1))
+        status, out, _ = ended(['sh', '-c', line], TOP, stderr=subprocess.DEVNULL, limit=None).text()
+        found = sorted(told for told in out.splitlines() if told.endswith(' errors'))
+        tools.want(line, (found, status), (last[line.split()[0]], 5 if line.startswith('parallel') else 1))
 
 
 def rows_of_the_examples() -> list[tuple[str, str, str]]:
@@ -215,8 +215,7 @@ def examples_are_made_alike(tools: Tools) -> None:
     """examples/make.py writes the captures and the wrong recordings that are there."""
     for name in ('make.py', 'messages.py', 'packets.py'):
         shutil.copy(TOP / 'examples' / name, tools.folder)
-    done = subprocess.run([sys.executable, 'make.py'], cwd=tools.folder, stdout=subprocess.PIPE, stderr=subprocess.STDOUT)
-    tools.want('make.py', (done.returncode, done.stdout), (0, b''))
+    tools.want('make.py', ended([sys.executable, 'make.py'], tools.folder, limit=None), (0, b'', b''))
     for path in [*(TOP / 'examples').glob('*.nfs3cap'), *(TOP / 'examples').glob('bad_*.pcap')]:
         tools.want(path.name, tools.read(path.name), path.read_bytes())
 
@@ -240,8 +239,7 @@ def pages_agree(tools: Tools) -> None:
         tools.want('places of the dump', [int(at) for at, _ in dump], [sum(sizes[:at]) for at in range(len(sizes))])
     if shutil.which('man'):
         for page in (TOP / 'man').iterdir():
-            done = subprocess.run(['man', '--warnings', '-l', page], stdout=subprocess.DEVNULL, stderr=subprocess.PIPE)
-            tools.want('warnings of ' + page.name, done.stderr, b'')
+            tools.want('warnings of ' + page.name, ended(['man', '--warnings', '-l', str(page)], TOP).error, b'')
 
 
 def pages_of_the_tools(tools: Tools) -> None:
