@@ -9,6 +9,11 @@ pub data Taking : Type 0 where
   Led : Run Joining Joined → Taking
   OutOfMemory : Taking
 
+-- What a joiner has taken, and how many bytes of a body fit before its memory has to grow.
+pub record JoinerState : Type 0 where
+  pub taking : Taking
+  pub capacity : ℕ
+
 -- These bytes, and no others, were taken since the start of the record: a record, or what one
 -- begins with, or what ends with a header that passes the limit.
 abbrev pub HasTaken : Taking → List ℕ → Type 0

@@ -14,4 +14,6 @@ loop-self-preserved c =
       led = led_on-take (taking_of c.self.inside) (taking_of c.loop-self.self-inside) _ c.args.piece.now c.loop-self.taken c.in-Ok.count c.loop-self.invariant.led (cc c.in-Ok.ensures.state);
       moved = λ some. ran_before (taking_of c.self.inside) (taking_of c.loop-self.self-inside) c.args.piece.now c.loop-self.taken c.loop-self.invariant.led c.loop-self.invariant.moved
           (open_runs c.loop-self.self-inside.stage c.loop-self.self-inside.body.items c.loop-self.invariant.sound (is_open c.loop-self.self-inside.stage c.in_default.not-Done c.in_default.not-Refused c.in_default.not-Starved));
+      room = omega (arith, c.loop-self.invariant.room, c.in-Ok.ensures.capacity);
+      grown = omega (arith, c.loop-self.invariant.grown, c.in-Ok.ensures.grown);
     }

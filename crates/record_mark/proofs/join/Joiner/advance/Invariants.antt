@@ -1,4 +1,4 @@
-use Rattle.std.proofs.Common.{◌≡◌, ◌≤◌, ◌<◌, ◌-◌, length, take}
+use Rattle.std.proofs.Common.{◌≡◌, ◌≤◌, ◌<◌, ◌+◌, ◌-◌, length, take, vec_capacity, vec_len}
 use Rattle.record_mark.specs.Taking.{IsRunning}
 use Rattle.record_mark.specs.machinery.TakingSteps.{led_on}
 use Rattle.record_mark.specs.Joiner.{taking_of, IsSound}
@@ -10,6 +10,8 @@ invariant-loop-self l = record {
   sound : IsSound l.self-inside;
   led : taking_of l.self-inside ≡ led_on (taking_of l.initial.self-inside) (take l.taken l.piece);
   moved : 0 < l.taken → IsRunning (taking_of l.initial.self-inside);
+  room : vec_capacity l.initial.self-inside.body ≤ vec_capacity l.self-inside.body;
+  grown : vec_len l.self-inside.body ≤ vec_len l.initial.self-inside.body + l.taken;
 }
 
 abbrev pub decreases-loop-self : goal.decreases-loop-self

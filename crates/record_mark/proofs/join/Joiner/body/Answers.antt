@@ -5,4 +5,4 @@ use Rattle.record_mark.proofs.join.Joiner.body.Goals as goal
 
 pub returns-clause-history : goal.returns-clause-history
 returns-clause-history c bytes body h k =
-    c.deref.ensures.value ∙ stage_body c.self.inside.stage c.self.inside.body.items bytes body c.self.invariant (subst (λ t. HasTaken t bytes) (sym c.self.view_is) h) k
+    c.deref.ensures.value ∙ stage_body c.self.inside.stage c.self.inside.body.items bytes body c.self.invariant (subst (λ s. HasTaken s.taking bytes) (sym c.self.view_is) h) k
