@@ -41,7 +41,7 @@ pub(crate) struct Container {
 impl Container {
     pub(crate) fn new(alloc: Global) -> Container
         ensures sound { IsSoundPosition result.position }
-        ensures running { IsRunning result.joiner }
+        ensures running { IsRunning result.joiner.taking }
         ensures empty { AreEmpty result.streams }
         ensures unopened { result.cursor ≡ None }
         ensures room { room_of result.position result.streams ≡ most_things }
@@ -57,8 +57,8 @@ impl Container {
 
     /// Returns the body of the record that is whole.
     pub(crate) fn body(&self) -> &[u8]
-        requires { IsWhole self.now.joiner }
-        ensures body { result.now ≡ body_of self.now.joiner }
+        requires { IsWhole self.now.joiner.taking }
+        ensures body { result.now ≡ body_of self.now.joiner.taking }
         ensures limit { length result.now ≤ max_body }
     {
         self.joiner.body()
@@ -66,7 +66,7 @@ impl Container {
 
     /// If a record is whole, makes room for the next one.
     pub(crate) fn release(&mut self)
-        ensures joiner { self.new.joiner ≡ released self.old.joiner }
+        ensures joiner { self.new.joiner.taking ≡ released self.old.joiner.taking }
         ensures position { self.new.position ≡ self.old.position }
         ensures streams { self.new.streams ≡ self.old.streams }
         ensures cursor { self.new.cursor ≡ self.old.cursor }
@@ -92,7 +92,7 @@ impl Container {
     pub(crate) fn next(&mut self, piece: &[u8]) -> Result<(usize, Option<Event>), Error>
         requires sound { IsSoundPosition self.old.position }
         requires stored { IsStored self.old }
-        requires ready { IsReady self.old.cursor self.old.joiner }
+        requires ready { IsReady self.old.cursor self.old.joiner.taking }
         ensures within { IfOk result (λ r. r.0 ≤ length piece.now) }
         ensures some { IfOk result (λ r. 0 < length piece.now → r.1 ≡ None → 0 < r.0) }
         ensures more { IfOk result (λ r. r.1 ≡ None → r.0 ≡ length piece.now) }
@@ -100,11 +100,11 @@ impl Container {
             (λ r. (r.0 ≡ 0) × (r.1 ≢ None)) }
         ensures opened { IfOk result (λ r. r.1 ≢ Some Event.Streams) }
         ensures comes { IfOk result (λ r. Comes self.old self.new (take r.0 piece.now) r.1) }
-        ensures joiner { IfOk result (λ r. Leaves r.1 self.new.joiner) }
+        ensures joiner { IfOk result (λ r. Leaves r.1 self.new.joiner.taking) }
         ensures fault { IfErr result (ComesToFault self.old piece.now) }
         ensures sound { OnOk result (IsSoundPosition self.new.position) }
         ensures stored { OnOk result (IsStored self.new) }
-        ensures ready { OnOk result (IsReady self.new.cursor (released self.new.joiner)) }
+        ensures ready { OnOk result (IsReady self.new.cursor (released self.new.joiner.taking)) }
         ensures room { IfOk result
             (λ r. room_in self.new + cost_of r.1 self.new.streams ≤ room_in self.old) }
     {
@@ -135,13 +135,13 @@ impl Container {
     fn take_whole(&mut self, piece: &[u8]) -> Option<(usize, Side)>
         requires sound { IsSoundPosition self.old.position }
         requires stored { AreStored self.old.position None self.old.streams }
-        requires running { IsRunning self.old.joiner }
+        requires running { IsRunning self.old.joiner.taking }
         ensures within { IfSome result (λ r. (0 < r.0) × (r.0 ≤ length piece.now)) }
         ensures sound { IfSome result (λ r. IsSoundPosition self.new.position) }
-        ensures joiner { IfSome result (λ r. IsWhole self.new.joiner) }
+        ensures joiner { IfSome result (λ r. IsWhole self.new.joiner.taking) }
         ensures machine { IfSome result
             (λ r. Arrives (unpacking_in self.old) (take r.0 piece.now)
-            (Some (Event.Record r.1)) self.new.position self.new.joiner self.new.streams) }
+            (Some (Event.Record r.1)) self.new.position self.new.joiner.taking self.new.streams) }
         ensures room { IfSome result
             (λ r. room_of self.new.position self.new.streams + 1
             ≤ room_of self.old.position self.old.streams) }
@@ -167,13 +167,13 @@ impl Container {
         requires stored { StoredWith (Some Event.Streams) self.old.position self.old.streams }
         ensures recalled { IfOk result
             (Recalled (first_cursor) self.old.position self.new.position self.old.streams
-            self.new.streams self.new.joiner self.new.cursor) }
-        ensures joiner { IfOk result (λ event. Leaves (Some event) self.new.joiner) }
+            self.new.streams self.new.joiner.taking self.new.cursor) }
+        ensures joiner { IfOk result (λ event. Leaves (Some event) self.new.joiner.taking) }
         ensures fault { IfErr result
             (RecallFails first_cursor self.old.position self.old.streams) }
         ensures sound { OnOk result (IsSoundPosition self.new.position) }
         ensures stored { OnOk result (IsStored self.new) }
-        ensures ready { OnOk result (IsReady self.new.cursor (released self.new.joiner)) }
+        ensures ready { OnOk result (IsReady self.new.cursor (released self.new.joiner.taking)) }
         ensures room { OnOk result (room_in self.new + 1
             ≤ room_of self.old.position self.old.streams
             + cost_of (Some Event.Streams) self.old.streams) }
@@ -188,15 +188,15 @@ impl Container {
     fn advance(&mut self, piece: &[u8]) -> Result<(usize, Option<Event>), Error>
         requires sound { IsSoundPosition self.old.position }
         requires stored { AreStored self.old.position None self.old.streams }
-        requires running { IsRunning self.old.joiner }
+        requires running { IsRunning self.old.joiner.taking }
         ensures within { IfOk result (λ r. r.0 ≤ length piece.now) }
         ensures sound { OnOk result (IsSoundPosition self.new.position) }
         ensures some { IfOk result (λ r. 0 < length piece.now → 0 < r.0) }
         ensures more { IfOk result (λ r. r.1 ≡ None → r.0 ≡ length piece.now) }
-        ensures joiner { IfOk result (λ r. Leaves r.1 self.new.joiner) }
+        ensures joiner { IfOk result (λ r. Leaves r.1 self.new.joiner.taking) }
         ensures machine { IfOk result
             (λ r. Arrives (unpacking_in self.old) (take r.0 piece.now) r.1 self.new.position
-            self.new.joiner self.new.streams) }
+            self.new.joiner.taking self.new.streams) }
         ensures fault { IfErr result (ShowsError (unpacking_in self.old) piece.now) }
         ensures room { IfOk result
             (λ r. room_of self.new.position self.new.streams + cost_of r.1 self.new.streams
@@ -235,12 +235,12 @@ impl Container {
         requires some { 0 < length rest.now }
         requires sound { IsSoundPosition self.old.position }
         requires stored { AreStored self.old.position None self.old.streams }
-        requires running { IsRunning self.old.joiner }
+        requires running { IsRunning self.old.joiner.taking }
         ensures taken { IfOk result (TakesSome self.old.position rest.now) }
-        ensures joiner { IfOk result (λ taken. Leaves taken.event self.new.joiner) }
+        ensures joiner { IfOk result (λ taken. Leaves taken.event self.new.joiner.taking) }
         ensures machine { IfOk result
             (λ taken. Arrives (unpacking_in self.old) (take taken.count rest.now) taken.event
-            taken.position self.new.joiner self.new.streams) }
+            taken.position self.new.joiner.taking self.new.streams) }
         ensures fault { IfErr result (ShowsError (unpacking_in self.old) rest.now) }
         ensures room { IfOk result
             (λ taken. room_of taken.position self.new.streams
@@ -273,20 +273,20 @@ impl Container {
         requires some { 0 < length rest.now }
         requires sound { IsSoundPosition self.old.position }
         requires stored { AreStored self.old.position None self.old.streams }
-        requires running { IsRunning self.old.joiner }
+        requires running { IsRunning self.old.joiner.taking }
         requires here { self.old.position.spot ≡ Spot.SideChunk side left }
         ensures taken { IfOk result (TakesSome self.old.position rest.now) }
         ensures event { IfOk result (λ taken. taken.event ≡ None) }
         ensures machine { IfOk result
             (λ taken. Arrives (unpacking_in self.old) (take taken.count rest.now) None
-            taken.position self.new.joiner self.new.streams) }
+            taken.position self.new.joiner.taking self.new.streams) }
         ensures error { IfErr result (λ error. error ≡ Error.Memory) }
         ensures room { IfOk result
             (λ taken. room_of taken.position self.new.streams
             ≤ room_of self.old.position self.old.streams) }
         ensures stored { IfOk result
             (λ taken. AreStored taken.position None self.new.streams) }
-        ensures joiner { self.new.joiner ≡ self.old.joiner }
+        ensures joiner { self.new.joiner.taking ≡ self.old.joiner.taking }
         ensures position { self.new.position ≡ self.old.position }
         ensures cursor { self.new.cursor ≡ self.old.cursor }
     {
@@ -300,7 +300,7 @@ impl Container {
         ensures result { result ≡ first_cursor }
         ensures cursor { self.new.cursor ≡ Some result }
         ensures position { self.new.position ≡ self.old.position }
-        ensures joiner { self.new.joiner ≡ unbegun }
+        ensures joiner { self.new.joiner.taking ≡ unbegun }
         ensures streams { self.new.streams ≡ self.old.streams }
     {
         // No record is begun among chunks that are kept. To clear the joiner spares the clauses that
@@ -321,15 +321,15 @@ impl Container {
         requires sound { IsSoundPosition self.old.position }
         requires here { self.old.cursor ≡ Some cursor }
         requires stored { IsStored self.old }
-        requires unbegun { self.old.joiner ≡ unbegun }
+        requires unbegun { self.old.joiner.taking ≡ unbegun }
         ensures recalled { IfOk result
             (Recalled cursor self.old.position self.new.position self.old.streams self.new.streams
-            self.new.joiner self.new.cursor) }
-        ensures joiner { IfOk result (λ event. Leaves (Some event) self.new.joiner) }
+            self.new.joiner.taking self.new.cursor) }
+        ensures joiner { IfOk result (λ event. Leaves (Some event) self.new.joiner.taking) }
         ensures fault { IfErr result (RecallFails cursor self.old.position self.old.streams) }
         ensures sound { OnOk result (IsSoundPosition self.new.position) }
         ensures stored { OnOk result (IsStored self.new) }
-        ensures ready { OnOk result (IsReady self.new.cursor (released self.new.joiner)) }
+        ensures ready { OnOk result (IsReady self.new.cursor (released self.new.joiner.taking)) }
         ensures room { OnOk result (room_in self.new + 1 ≤ room_in self.old) }
     {
         let side = cursor.side;
@@ -357,9 +357,9 @@ impl Container {
     /// Ends this side's stream, which is cut if a record is open.
     fn recall_end(&mut self, side: Side) -> Result<Event, Error>
         requires sound { IsSoundPosition self.old.position }
-        requires running { IsRunning self.old.joiner }
-        ensures between { OnOk result (joining_of self.old.joiner ≡ Between) }
-        ensures joiner { self.new.joiner ≡ self.old.joiner }
+        requires running { IsRunning self.old.joiner.taking }
+        ensures between { OnOk result (joining_of self.old.joiner.taking ≡ Between) }
+        ensures joiner { self.new.joiner.taking ≡ self.old.joiner.taking }
         ensures client { side ≡ Side.Client → IfOk result
             (λ event. (event ≡ Event.Turn)
             × (self.new.position ≡ record self.old.position { records = 0 })
@@ -369,7 +369,7 @@ impl Container {
             (λ event. (event ≡ Event.Close) × (self.new.position ≡ self.old.position)
             × (self.new.cursor ≡ None) × AreEmpty self.new.streams) }
         ensures cut { IfErr result
-            (IsCutInRecord self.old.position side (joining_of self.old.joiner)) }
+            (IsCutInRecord self.old.position side (joining_of self.old.joiner.taking)) }
     {
         if let Some(byte) = self.open_body() {
             return Err(
@@ -396,8 +396,8 @@ impl Container {
 
     /// Returns how many bytes of the body have come if a record is open.
     fn open_body(&self) -> Option<u32>
-        requires { IsRunning self.now.joiner }
-        ensures { IsOpenBody result (joining_of self.now.joiner) }
+        requires { IsRunning self.now.joiner.taking }
+        ensures { IsOpenBody result (joining_of self.now.joiner.taking) }
     {
         if self.joiner.is_between() {
             None
@@ -410,13 +410,13 @@ impl Container {
     fn join(&mut self, side: Side, left: u32, rest: &[u8]) -> Result<Taken, Error>
         requires some { 0 < length rest.now }
         requires sound { IsSoundPosition self.old.position }
-        requires running { IsRunning self.old.joiner }
+        requires running { IsRunning self.old.joiner.taking }
         requires here { self.old.position.spot ≡ Spot.Chunk side left }
         ensures taken { IfOk result (TakesSome self.old.position rest.now) }
-        ensures joiner { IfOk result (λ taken. Leaves taken.event self.new.joiner) }
+        ensures joiner { IfOk result (λ taken. Leaves taken.event self.new.joiner.taking) }
         ensures machine { IfOk result
             (λ taken. Arrives (unpacking_in self.old) (take taken.count rest.now) taken.event
-            taken.position self.new.joiner self.new.streams) }
+            taken.position self.new.joiner.taking self.new.streams) }
         ensures fault { IfErr result (ShowsError (unpacking_in self.old) rest.now) }
         ensures room { IfOk result (TakesRoom self.old.position) }
         ensures stored { IfOk result (KeepsStreams self.old.position) }

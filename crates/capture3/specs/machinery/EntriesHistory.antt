@@ -33,7 +33,7 @@ module _ {R S H : Type 0} {builds : BuildHasher.Ghosts S H} {hashes : Hasher.Gho
   -- the record of this entry stands, if it was the last
   abbrev pub HoldsRecordOf : Entries R S H builds hashes → Entry → Type 0
   HoldsRecordOf entries entry = (kind : Kind) → entries.last ≡ Some kind
-      → IsHeld kind entries.parser.container.joiner entry
+      → IsHeld kind entries.parser.container.joiner.taking entry
 
   abbrev pub HoldsLast : Entries R S H builds hashes → List Entry → Type 0
   HoldsLast entries handed = (front : List Entry) (entry : Entry) → handed ≡ front ++ entry ∷ []

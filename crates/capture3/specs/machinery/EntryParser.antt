@@ -63,7 +63,7 @@ StandsOrRecalls (Some cursor) position taking streams table bytes entries =
 -- the same where the record that became whole last, if one did, is let go
 abbrev pub HasCome : Container → List NumberedCall → List ℕ → List Entry → Type 0
 HasCome c table bytes entries =
-    StandsOrRecalls c.cursor c.position (released c.joiner) c.streams table bytes entries
+    StandsOrRecalls c.cursor c.position (released c.joiner.taking) c.streams table bytes entries
 
 -- what is whole with the last byte
 abbrev pub met : Event → Position → Taking → Streams → Unpacked
@@ -76,7 +76,7 @@ met events.Streams position taking streams =
     HasStreams streams (unpacking_of position taking streams)
 
 abbrev pub met_in : Event → Container → Unpacked
-met_in event c = met event c.position c.joiner c.streams
+met_in event c = met event c.position c.joiner.taking c.streams
 
 -- the last of the bytes made this whole, after these entries
 pub record HasMet (container : Container) (table : List NumberedCall) (event : Event)
@@ -103,7 +103,7 @@ pub record HasRecalled (container : Container) (table : List NumberedCall) (side
       table bytes entries
   pub joins : after join_next (Runs Between)
       (take count (drop taken (stream_of side container.streams)))
-      ≡ Stops (Whole (body_of container.joiner))
+      ≡ Stops (Whole (body_of container.joiner.taking))
   pub next_is : container.cursor ≡ Some (record { side = side; taken = taken + count })
   pub records_are : container.position.records ≡ records + 1
 
@@ -156,7 +156,7 @@ abbrev pub GoesTo : {V : Type 0} → (V → List Item → Type 0) → (was now :
     → Container → List NumberedCall → List ℕ → List Entry → Type 0
 GoesTo stands was now None container table bytes entries = HasCome container table bytes entries
 GoesTo stands was now (Some kind) container table bytes entries =
-    (entry : Entry) × IsHeld kind container.joiner entry × Adds stands was now (items_of entry)
+    (entry : Entry) × IsHeld kind container.joiner.taking entry × Adds stands was now (items_of entry)
     × HasCome container table bytes (entries ++ entry ∷ [])
 
 -- one of the bytes shows the fault, and these entries are all that they reach, unless memory ran

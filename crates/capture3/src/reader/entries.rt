@@ -68,8 +68,8 @@ pub struct Entries<'r, R, S: BuildHasher + Drop> {
     ghost sound: { stage ≡ stages.Reading → ∥ IsSoundPosition parser.container.position ∥₁ },
     ghost stored: { stage ≡ stages.Reading → ∥ IsStored parser.container ∥₁ },
     ghost ready: { stage ≡ stages.Reading
-        → ∥ IsReady parser.container.cursor (released parser.container.joiner) ∥₁ },
-    ghost spells: { ∥ SpellsLast last parser.container.joiner ∥₁ },
+        → ∥ IsReady parser.container.cursor (released parser.container.joiner.taking) ∥₁ },
+    ghost spells: { ∥ SpellsLast last parser.container.joiner.taking ∥₁ },
     ghost never_writes: { stage ≢ stages.Failed errors.Write },
     ghost unlent: { (error : Error) → stage ≡ stages.Failed error → last ≡ None },
 }

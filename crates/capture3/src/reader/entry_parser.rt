@@ -35,7 +35,7 @@ impl<C: CallTable + Drop> EntryParser<C> {
         requires none { C.calls calls ≡ [] }
         ensures sound { IsSoundPosition result.container.position }
         ensures stored { IsStored result.container }
-        ensures ready { IsReady result.container.cursor (released result.container.joiner) }
+        ensures ready { IsReady result.container.cursor (released result.container.joiner.taking) }
         ensures room { room_in result.container ≤ most_things }
         ensures machine { HasCome result.container (C.calls result.calls) [] [] }
     {
@@ -56,17 +56,17 @@ impl<C: CallTable + Drop> EntryParser<C> {
     ) -> Result<(usize, Option<Kind>), Error>
         requires sound { IsSoundPosition self.old.container.position }
         requires stored { IsStored self.old.container }
-        requires ready { IsReady self.old.container.cursor (released self.old.container.joiner) }
+        requires ready { IsReady self.old.container.cursor (released self.old.container.joiner.taking) }
         ensures within { IfOk result (λ r. r.0 ≤ length piece.now) }
         ensures some { IfOk result (λ r. 0 < length piece.now → r.1 ≡ None → 0 < r.0) }
         ensures more { IfOk result (λ r. r.1 ≡ None → r.0 ≡ length piece.now) }
         ensures untold { IfOk result (λ r. r.1 ≡ None → visitor.new ≡ visitor.old) }
         ensures not_end { IfOk result (λ r. r.1 ≢ Some Kind.End) }
-        ensures spells { IfOk result (λ r. ∥ SpellsLast r.1 self.new.container.joiner ∥₁) }
+        ensures spells { IfOk result (λ r. ∥ SpellsLast r.1 self.new.container.joiner.taking ∥₁) }
         ensures sound { OnOk result (IsSoundPosition self.new.container.position) }
         ensures stored { OnOk result (IsStored self.new.container) }
         ensures ready { OnOk result
-            (IsReady self.new.container.cursor (released self.new.container.joiner)) }
+            (IsReady self.new.container.cursor (released self.new.container.joiner.taking)) }
         ensures room { IfOk result
             (λ r. room_in self.new.container + entry_cost r.1 ≤ room_in self.old.container) }
         ensures recalling { self.old.container.cursor ≢ None → IfOk result
@@ -102,9 +102,9 @@ impl<C: CallTable + Drop> EntryParser<C> {
 
     /// Borrows the entry of this kind that `next` returned last.
     pub(crate) fn lend(&self, kind: Kind) -> EntryRef<'_>
-        requires spells { ∥ SpellsKind kind self.now.container.joiner ∥₁ }
+        requires spells { ∥ SpellsKind kind self.now.container.joiner.taking ∥₁ }
         ensures kind { kind_of result ≡ kind }
-        ensures lent { (entry : spec.Entry) → IsHeld kind self.now.container.joiner entry
+        ensures lent { (entry : spec.Entry) → IsHeld kind self.now.container.joiner.taking entry
             → IsLent result entry }
     {
         match kind {
@@ -135,11 +135,11 @@ impl<C: CallTable + Drop> EntryParser<C> {
 
     /// Returns the entry that is whole.
     fn entry<V: Visit>(&mut self, event: Event, visitor: &mut V) -> Result<Kind, Error>
-        requires leaves { Leaves (Some event) self.old.container.joiner }
+        requires leaves { Leaves (Some event) self.old.container.joiner.taking }
         requires opened { event ≢ Event.Streams }
         ensures container { self.new.container ≡ self.old.container }
         ensures not_end { IfOk result (λ kind. kind ≢ Kind.End) }
-        ensures spells { IfOk result (λ kind. SpellsKind kind self.new.container.joiner) }
+        ensures spells { IfOk result (λ kind. SpellsKind kind self.new.container.joiner.taking) }
         ensures machine { (bytes : List ℕ) (entries : List spec.Entry)
             → MeetsEvent self.old.container (C.calls self.old.calls) event bytes entries
             → IfOk result
@@ -165,10 +165,10 @@ impl<C: CallTable + Drop> EntryParser<C> {
 
     /// Returns the message that is whole.
     fn message<V: Visit>(&mut self, side: Side, visitor: &mut V) -> Result<Kind, Error>
-        requires { IsWhole self.old.container.joiner }
+        requires { IsWhole self.old.container.joiner.taking }
         ensures container { self.new.container ≡ self.old.container }
         ensures not_end { IfOk result (λ kind. kind ≢ Kind.End) }
-        ensures spells { IfOk result (λ kind. SpellsKind kind self.new.container.joiner) }
+        ensures spells { IfOk result (λ kind. SpellsKind kind self.new.container.joiner.taking) }
         ensures machine { (bytes : List ℕ) (entries : List spec.Entry)
             → MeetsEvent self.old.container (C.calls self.old.calls) (Event.Record side) bytes
             entries
@@ -196,18 +196,18 @@ impl<C: CallTable + Drop> EntryParser<C> {
 
     /// Returns the procedure of the call that is whole, which joins the calls of its connection.
     fn call<V: Visit>(&mut self, visitor: &mut V) -> Result<ProcId, Error>
-        requires { IsWhole self.old.container.joiner }
+        requires { IsWhole self.old.container.joiner.taking }
         ensures container { self.new.container ≡ self.old.container }
         ensures spells { IfOk result
-            (λ id. ∥ SpellsCall id (body_of self.old.container.joiner) ∥₁) }
+            (λ id. ∥ SpellsCall id (body_of self.old.container.joiner.taking) ∥₁) }
         ensures ok { (calls : List (List Item)) → IsTableOf (C.calls self.old.calls) calls
             → IfOk result
             (JudgesCall V.stands visitor.old visitor.new calls
-            (body_of self.old.container.joiner) (C.calls self.new.calls)) }
+            (body_of self.old.container.joiner.taking) (C.calls self.new.calls)) }
         ensures err { (calls : List (List Item)) → IsTableOf (C.calls self.old.calls) calls
             → IfErr result
             (RefusesBody self.old.container.position Side.Client
-            (judge_call calls (body_of self.old.container.joiner))) }
+            (judge_call calls (body_of self.old.container.joiner.taking))) }
         ensures device { IfErr result IsOfBytes }
     {
         let call = match scan_call(self.container.body(), visitor) {
@@ -223,19 +223,19 @@ impl<C: CallTable + Drop> EntryParser<C> {
 
     /// Returns the procedure of the reply that is whole.
     fn reply<V: Visit>(&mut self, visitor: &mut V) -> Result<ProcId, Error>
-        requires { IsWhole self.old.container.joiner }
+        requires { IsWhole self.old.container.joiner.taking }
         ensures container { self.new.container ≡ self.old.container }
         ensures calls { C.calls self.new.calls ≡ C.calls self.old.calls }
         ensures spells { IfOk result
-            (λ id. ∥ SpellsReply id (body_of self.old.container.joiner) ∥₁) }
+            (λ id. ∥ SpellsReply id (body_of self.old.container.joiner.taking) ∥₁) }
         ensures ok { (calls : List (List Item)) → IsTableOf (C.calls self.old.calls) calls
             → IfOk result
             (JudgesReply V.stands visitor.old visitor.new calls
-            (body_of self.old.container.joiner)) }
+            (body_of self.old.container.joiner.taking)) }
         ensures err { (calls : List (List Item)) → IsTableOf (C.calls self.old.calls) calls
             → IfErr result
             (RefusesBody self.old.container.position Side.Server
-            (judge_reply calls (body_of self.old.container.joiner))) }
+            (judge_reply calls (body_of self.old.container.joiner.taking))) }
         ensures device { IfErr result IsOfBytes }
     {
         match scan_reply(&mut self.calls, self.container.body(), visitor) {

@@ -153,21 +153,21 @@ module _ (bytes : List ℕ) (p : Position) (t : Taking) (streams : Streams) (tab
 come_length : (c : Container) (table : List NumberedCall) (bytes : List ℕ) (handed : List Entry) → AreBytes bytes → HasCome c table bytes handed → length bytes ≤ most_bytes Two + 1
 come_length c table bytes handed are h = by_cursor c.cursor h
   where
-    by_cursor : (cursor : Option Cursor) → StandsOrRecalls cursor c.position (released c.joiner) c.streams table bytes handed → length bytes ≤ most_bytes Two + 1
-    by_cursor None s = omega (arith, clean_most bytes are (clean_here bytes c.position (released c.joiner) c.streams table handed are s))
+    by_cursor : (cursor : Option Cursor) → StandsOrRecalls cursor c.position (released c.joiner.taking) c.streams table bytes handed → length bytes ≤ most_bytes Two + 1
+    by_cursor None s = omega (arith, clean_most bytes are (clean_here bytes c.position (released c.joiner.taking) c.streams table handed are s))
     by_cursor (Some cursor) r = omega (arith, clean_most r.front (split_bytes bytes r.front (r.byte ∷ []) r.split are).0 (clean_from_runs r.front r.state r.runs), ap length r.split, length-append r.front (r.byte ∷ []))
 
 -- what was handed out are the first entries that the bytes reach, whatever comes after
 come_first : (c : Container) (table : List NumberedCall) (bytes rest : List ℕ) (handed : List Entry) → AreBytes (bytes ++ rest) → HasCome c table bytes handed → AreFirstReached (bytes ++ rest) handed
 come_first c table bytes rest handed are h = by_cursor c.cursor h
   where
-    by_cursor : (cursor : Option Cursor) → StandsOrRecalls cursor c.position (released c.joiner) c.streams table bytes handed → AreFirstReached (bytes ++ rest) handed
-    by_cursor None s = subst (AreFirstReached (bytes ++ rest)) (sym s.emitted) (first_reached_at bytes rest (unpacking_of c.position (released c.joiner) c.streams) s.so_far are s.agrees s.stands)
+    by_cursor : (cursor : Option Cursor) → StandsOrRecalls cursor c.position (released c.joiner.taking) c.streams table bytes handed → AreFirstReached (bytes ++ rest) handed
+    by_cursor None s = subst (AreFirstReached (bytes ++ rest)) (sym s.emitted) (first_reached_at bytes rest (unpacking_of c.position (released c.joiner.taking) c.streams) s.so_far are s.agrees s.stands)
     by_cursor (Some cursor) r = recalled_first (after_side_word c.position) c.streams cursor.side cursor.taken c.position.records table bytes rest handed are r
 
 -- no streams are judged
-stands_unopened : (c : Container) (table : List NumberedCall) (bytes : List ℕ) (handed : List Entry) → c.cursor ≡ None → HasCome c table bytes handed → StandsAt c.position (released c.joiner) c.streams table bytes handed
-stands_unopened c table bytes handed none h = subst (λ (cursor : Option Cursor). StandsOrRecalls cursor c.position (released c.joiner) c.streams table bytes handed) none h
+stands_unopened : (c : Container) (table : List NumberedCall) (bytes : List ℕ) (handed : List Entry) → c.cursor ≡ None → HasCome c table bytes handed → StandsAt c.position (released c.joiner.taking) c.streams table bytes handed
+stands_unopened c table bytes handed none h = subst (λ (cursor : Option Cursor). StandsOrRecalls cursor c.position (released c.joiner.taking) c.streams table bytes handed) none h
 
 few_first : (bytes : List ℕ) (handed : List Entry) → AreFirstReached bytes handed → begins handed ≤ max_connections
 few_first bytes handed (more, reached) = omega (arith, (reached_within bytes (handed ++ more) reached).few, begins-append handed more)
@@ -252,14 +252,14 @@ module _ {R S H : Type 0} {builds : BuildHasher.Ghosts S H} {hashes : Hasher.Gho
 
   same_last : (old new : Entries R S H builds hashes) (handed : List Entry) → new.last ≡ old.last → new.parser ≡ old.parser → HoldsLast old handed → HoldsLast new handed
   same_last old new handed last same h front entry ends kind is =
-      subst (λ (c : EntryParser (List NumberedCall)). IsHeld kind c.container.joiner entry) (sym same) (h front entry ends kind (sym last ∙ is))
+      subst (λ (c : EntryParser (List NumberedCall)). IsHeld kind c.container.joiner.taking entry) (sym same) (h front entry ends kind (sym last ∙ is))
 
-  now_last : (e : Entries R S H builds hashes) (handed : List Entry) (came : Kind) (entry : Entry) → e.last ≡ Some came → IsHeld came e.parser.container.joiner entry → HoldsLast e (handed ++ entry ∷ [])
+  now_last : (e : Entries R S H builds hashes) (handed : List Entry) (came : Kind) (entry : Entry) → e.last ≡ Some came → IsHeld came e.parser.container.joiner.taking entry → HoldsLast e (handed ++ entry ∷ [])
   now_last e handed came entry last held front other ends kind is =
       let one : Some other ≡ Some entry = ap (λ (e : Entry). Some e) (sym (same_from_push handed front entry other ends).1) in
       let entries : entry ≡ other = cc in
       let kinds : came ≡ kind = cc in
-      subst (λ (one : Entry). IsHeld kind e.parser.container.joiner one) entries (subst (λ (k : Kind). IsHeld k e.parser.container.joiner entry) kinds held)
+      subst (λ (one : Entry). IsHeld kind e.parser.container.joiner.taking one) entries (subst (λ (k : Kind). IsHeld k e.parser.container.joiner.taking entry) kinds held)
 
   -- what was handed out are the first entries that the bytes reach
   first_in : (e : Entries R S H builds hashes) (given : List ℕ) (handed : List Entry) → AreBytes given → IsReading e given handed → AreFirstReached given handed
@@ -303,7 +303,7 @@ module _ {R S H : Type 0} {builds : BuildHasher.Ghosts S H} {hashes : Hasher.Gho
   all_judged e given handed empty r = r.split ∙ ap (λ (b : List ℕ). r.judged ++ b) (empty_range e.block.items e.start e.end empty) ∙ append-nil r.judged
 
   machine_at : (e : Entries R S H builds hashes) (given : List ℕ) (handed : List Entry) → e.start ≡ e.end → e.parser.container.cursor ≡ None → IsReading e given handed
-      → StandsAt e.parser.container.position (released e.parser.container.joiner) e.parser.container.streams e.parser.calls given handed
+      → StandsAt e.parser.container.position (released e.parser.container.joiner.taking) e.parser.container.streams e.parser.calls given handed
   machine_at e given handed empty none r =
       stands_unopened e.parser.container e.parser.calls given handed none (subst (λ (b : List ℕ). HasCome e.parser.container e.parser.calls b handed) (sym (all_judged e given handed empty r)) r.machine)
 
@@ -362,7 +362,7 @@ module _ {R S H : Type 0} {builds : BuildHasher.Ghosts S H} {hashes : Hasher.Gho
       let r = reading_of old given handed is s in
       let (entry, held, adds, machine) = leads r.judged r.machine in (
         entry,
-        kind_held kind new.parser.container.joiner entry held,
+        kind_held kind new.parser.container.joiner.taking entry held,
         adds,
         stands_reading new given (handed ++ entry ∷ []) goes s.bytes (omega (arith, room_before old given handed is s, room, length-append handed (entry ∷ []))) (omega (arith, s.limits.most, size)) (now_last new handed kind entry last held) (moves_on old new count given handed (handed ++ entry ∷ []) judged block fits within r machine),
       )

@@ -146,10 +146,10 @@ not_recalling None answer is untrue = refl
 not_recalling (Some one) answer is untrue = absurd (cc)
 
 -- all bytes are taken, and no streams are judged
-pub judged_all : (c : Container) (table : List NumberedCall) (bytes all : List ℕ) (model : List Entry) → bytes ≡ all → c.cursor ≡ None → HasCome c table bytes model → StandsAt c.position (released c.joiner) c.streams table all model
+pub judged_all : (c : Container) (table : List NumberedCall) (bytes all : List ℕ) (model : List Entry) → bytes ≡ all → c.cursor ≡ None → HasCome c table bytes model → StandsAt c.position (released c.joiner.taking) c.streams table all model
 judged_all c table bytes all model is none h =
-    subst (λ (b : List ℕ). StandsAt c.position (released c.joiner) c.streams table b model) is
-    (subst (λ (cursor : Option Cursor). StandsOrRecalls cursor c.position (released c.joiner) c.streams table bytes model) none h)
+    subst (λ (b : List ℕ). StandsAt c.position (released c.joiner.taking) c.streams table b model) is
+    (subst (λ (cursor : Option Cursor). StandsOrRecalls cursor c.position (released c.joiner.taking) c.streams table bytes model) none h)
 
 abbrev pub Keeps : Container → List NumberedCall → List ℕ → List kept.Entry → Type 0
 Keeps c table bytes items = (model : List Entry) × HasCome c table bytes model × AreKept items model
@@ -163,11 +163,11 @@ module _ {V : Type 0} (stands : V → List Item → Type 0) (was now : V) (c : C
   keeps_on (Some kind) e goes are = absurd (cc)
 
   -- with the entry that is whole
-  pub keeps_more : (came : Option Kind) (kind : Kind) (one : kept.Entry) → came ≡ Some kind → Goes came → ((entry : Entry) → IsHeld kind c.joiner entry → IsKept one entry) → AreKept items model → Keeps c table (take (n + m) bytes) (items ++ one ∷ [])
+  pub keeps_more : (came : Option Kind) (kind : Kind) (one : kept.Entry) → came ≡ Some kind → Goes came → ((entry : Entry) → IsHeld kind c.joiner.taking entry → IsKept one entry) → AreKept items model → Keeps c table (take (n + m) bytes) (items ++ one ∷ [])
   keeps_more None kind one e goes keeps are = absurd (cc)
   keeps_more (Some new) kind one e (entry, held, adds, come) keeps are =
       let same : new ≡ kind = cc in
-      (model ++ entry ∷ [], come_more c bytes n m table (model ++ entry ∷ []) come, kept_snoc items model one entry are (keeps entry (subst (λ (k : Kind). IsHeld k c.joiner entry) same held)))
+      (model ++ entry ∷ [], come_more c bytes n m table (model ++ entry ∷ []) come, kept_snoc items model one entry are (keeps entry (subst (λ (k : Kind). IsHeld k c.joiner.taking entry) same held)))
 
 -- ---- what kept entries begin
 

@@ -8,8 +8,8 @@ abbrev pub invariant-loop-taken : goal.invariant-loop-taken
 invariant-loop-taken l = record {
   within : l.taken ≤ length l.piece;
   sound : IsSoundPosition l.self.position;
-  running : IsRunning l.self.joiner;
-  machine : Arrives (unpacking_in l.initial.self) (take l.taken l.piece) None l.self.position l.self.joiner l.self.streams;
+  running : IsRunning l.self.joiner.taking;
+  machine : Arrives (unpacking_in l.initial.self) (take l.taken l.piece) None l.self.position l.self.joiner.taking l.self.streams;
   room : room_of l.self.position l.self.streams ≤ room_of l.initial.self.position l.initial.self.streams;
   cursor : l.self.cursor ≡ l.initial.self.cursor;
   stored : StoredAt l.self.position.spot l.self.position.total l.self.streams;

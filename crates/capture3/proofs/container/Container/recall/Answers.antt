@@ -8,7 +8,7 @@ use Rattle.capture3.proofs.container.Container.recall.Goals as goal
 pub returns-in-Ok-default-Record-clause-stored : goal.returns-in-Ok-default-Record-clause-stored
 returns-in-Ok-default-Record-clause-stored c =
     let stored : AreStored c.args.self.now.position (Some c.args.cursor) c.args.self.now.streams = rw c.requires.here at c.requires.stored in
-    let running : IsRunning c.args.self.now.joiner = subst IsRunning (sym c.requires.unbegun) tt in
+    let running : IsRunning c.args.self.now.joiner.taking = subst IsRunning (sym c.requires.unbegun) tt in
     let some : 0 < c.in-Ok-default-Record.count = record_takes _ _ _ _ (c.in-Ok-default-Record.ensures.stops running c.in-Ok-default-Record.field-0-1-is) in
     rw c.with_records-self.ensures
     (grind (arith, common_steps, c.in-Ok-default-Record.ensures.within, stored.0, c.of_side.ensures), omega (arith, stored.1), stored.2, stored.3)

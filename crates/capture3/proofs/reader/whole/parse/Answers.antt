@@ -52,7 +52,7 @@ returns-clause-entries c =
     let invariant = c.loop-taken.invariant in
     let all : take c.loop-taken.taken c.args.bytes.now ≡ c.args.bytes.now = take_all c.loop-taken.taken c.args.bytes.now (omega (arith, c.if-taken-bytes.false)) in (
       invariant.machine.0 ++ End ∷ [],
-      typed_at c.args.bytes.now _ _ _ _ invariant.machine.0 (λ i. omega (arith, c.type_inv.bytes i)) (judged_all _ _ _ _ _ all (not_recalling _ _ c.is_recalling.ensures c.if-is_recalling.false) invariant.machine.1) c.in_ok-end.ensures.ok,
+      typed_at c.args.bytes.now _ _ _ _ invariant.machine.0 (λ i. omega (arith, c.type_inv.bytes i)) (judged_all c.loop-taken.parser.container _ _ _ _ all (not_recalling _ _ c.is_recalling.ensures c.if-is_recalling.false) invariant.machine.1) c.in_ok-end.ensures.ok,
       rw c.in_ok-push-2.ensures.items (kept_snoc c.loop-taken.entries.items invariant.machine.0 _ End invariant.machine.2 refl),
     )
 
@@ -68,9 +68,9 @@ pub returns-in_err-end-clause-fault : goal.returns-in_err-end-clause-fault
 returns-in_err-end-clause-fault c =
     let invariant = c.loop-taken.invariant in
     let all : take c.loop-taken.taken c.args.bytes.now ≡ c.args.bytes.now = take_all c.loop-taken.taken c.args.bytes.now (omega (arith, c.if-taken-bytes.false)) in
-    let met = cut_at c.args.bytes.now _ _ _ _ invariant.machine.0 (λ i. omega (arith, c.type_inv.bytes i)) (judged_all _ _ _ _ _ all (not_recalling _ _ c.is_recalling.ensures c.if-is_recalling.false) invariant.machine.1) c.in_err-end.ensures.err.0 in
+    let met = cut_at c.args.bytes.now _ _ _ _ invariant.machine.0 (λ i. omega (arith, c.type_inv.bytes i)) (judged_all c.loop-taken.parser.container _ _ _ _ all (not_recalling _ _ c.is_recalling.ensures c.if-is_recalling.false) invariant.machine.1) c.in_err-end.ensures.err.0 in
     rw (error_is _ _ c.from_residual-in_err-end.ensures ∙ ap Err c.in_err-end.ensures.err.1) met
 
 pub lend-requires : goal.lend-requires
 lend-requires c =
-    record { spells = subst (λ (came : Option Kind). ∥ SpellsLast came c.next.new.self.container.joiner ∥₁) c.in-Some.is c.in_ok-count.ensures.spells }
+    record { spells = subst (λ (came : Option Kind). ∥ SpellsLast came c.next.new.self.container.joiner.taking ∥₁) c.in-Some.is c.in_ok-count.ensures.spells }

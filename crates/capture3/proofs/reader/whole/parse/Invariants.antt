@@ -10,7 +10,7 @@ invariant-loop-taken l = record {
   within : l.taken ≤ length l.bytes;
   sound : IsSoundPosition l.parser.container.position;
   stored : IsStored l.parser.container;
-  ready : IsReady l.parser.container.cursor (released l.parser.container.joiner);
+  ready : IsReady l.parser.container.cursor (released l.parser.container.joiner.taking);
   room : vec_len l.entries + room_in l.parser.container ≤ most_things;
   machine : Keeps l.parser.container l.parser.calls (take l.taken l.bytes) l.entries.items;
 }

@@ -21,8 +21,8 @@ returns-in-Err-reply-clause-fault g c bytes all m = reply_fails_at _ _ bytes all
 
 pub returns-in-Ok-clause-spells : goal.returns-in-Ok-clause-spells
 returns-in-Ok-clause-spells g c =
-    subst (λ (container : Container). IsWhole container.joiner × ∥ SpellsCall c.in-Ok.id (body_of container.joiner) ∥₁) (sym c.in-Ok.ensures.container) (c.requires, c.in-Ok.ensures.spells)
+    subst (λ (container : Container). IsWhole container.joiner.taking × ∥ SpellsCall c.in-Ok.id (body_of container.joiner.taking) ∥₁) (sym c.in-Ok.ensures.container) (c.requires, c.in-Ok.ensures.spells)
 
 pub returns-in-Ok-reply-clause-spells : goal.returns-in-Ok-reply-clause-spells
 returns-in-Ok-reply-clause-spells g c =
-    subst (λ (container : Container). IsWhole container.joiner × ∥ SpellsReply c.in-Ok-reply.id (body_of container.joiner) ∥₁) (sym c.in-Ok-reply.ensures.container) (c.requires, c.in-Ok-reply.ensures.spells)
+    subst (λ (container : Container). IsWhole container.joiner.taking × ∥ SpellsReply c.in-Ok-reply.id (body_of container.joiner.taking) ∥₁) (sym c.in-Ok-reply.ensures.container) (c.requires, c.in-Ok-reply.ensures.spells)
