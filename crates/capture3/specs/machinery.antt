@@ -9,6 +9,7 @@ pub mod Messages
 pub mod OtherCalls
 pub mod Position
 pub mod KeptStreams
+pub mod StreamsInMemory
 pub mod FileStanding
 pub mod SideStart
 pub mod Spelled

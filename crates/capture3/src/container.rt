@@ -5,8 +5,9 @@ pub(crate) mod packing;
 pub(crate) mod position;
 pub(crate) mod side_words;
 
-ghost use Rattle.std.specs.Prelude.{◌≡◌, ◌≢◌, ◌≤◌, ◌<◌, ◌+◌, length, take, IfOk, IfErr, IfSome, OnOk, None, Some};
-ghost use Rattle.capture3.specs.machinery.Container.{AreStored, Arrives, Comes, ComesToFault, ShowsError, first_cursor, IsCutInRecord, IsReady, IsStored, Leaves, RecallFails, Recalled, room_in, unpacking_in};
+ghost use Rattle.std.specs.Prelude.{◌≡◌, ◌≢◌, ◌≤◌, ◌<◌, ◌+◌, length, take, Err, IfOk, IfErr, IfSome, OnErr, OnOk, None, Some};
+ghost use Rattle.capture3.specs.machinery.Container.{AreStored, Arrives, Comes, ComesToFault, ShowsError, first_cursor, IsCutInRecord, IsReady, IsStored, Leaves, RecallFails, Recalled, room_in, stream_of, unpacking_in};
+ghost use Rattle.capture3.specs.machinery.StreamsInMemory.{capacity_of};
 ghost use Rattle.record_mark.specs.Joining.{Between};
 ghost use Rattle.capture3.specs.machinery.Position.{AreEmpty, cost_of, IsEndSpot, IsOpenBody, IsSoundPosition, KeepsStreams, most_things, room_of, StoredWith, TakesRoom, TakesSome};
 ghost use Rattle.capture3.specs.machinery.ContainerMachine.{unpacking_start};
@@ -42,9 +43,9 @@ impl Container {
     pub(crate) fn new(alloc: Global) -> Container
         ensures sound { IsSoundPosition result.position }
         ensures running { IsRunning result.joiner.taking }
-        ensures empty { AreEmpty result.streams }
+        ensures empty { AreEmpty result.streams.kept }
         ensures unopened { result.cursor ≡ None }
-        ensures room { room_of result.position result.streams ≡ most_things }
+        ensures room { room_of result.position result.streams.kept ≡ most_things }
         ensures machine { unpacking_in result ≡ unpacking_start }
     {
         Container {
@@ -68,7 +69,7 @@ impl Container {
     pub(crate) fn release(&mut self)
         ensures joiner { self.new.joiner.taking ≡ released self.old.joiner.taking }
         ensures position { self.new.position ≡ self.old.position }
-        ensures streams { self.new.streams ≡ self.old.streams }
+        ensures streams { self.new.streams.kept ≡ self.old.streams.kept }
         ensures cursor { self.new.cursor ≡ self.old.cursor }
     {
         self.joiner.release();
@@ -106,7 +107,7 @@ impl Container {
         ensures stored { OnOk result (IsStored self.new) }
         ensures ready { OnOk result (IsReady self.new.cursor (released self.new.joiner.taking)) }
         ensures room { IfOk result
-            (λ r. room_in self.new + cost_of r.1 self.new.streams ≤ room_in self.old) }
+            (λ r. room_in self.new + cost_of r.1 self.new.streams.kept ≤ room_in self.old) }
     {
         // Written out, since `?` takes more instructions for each message.
         match self.cursor {
@@ -134,19 +135,19 @@ impl Container {
     #[inline(always)]
     fn take_whole(&mut self, piece: &[u8]) -> Option<(usize, Side)>
         requires sound { IsSoundPosition self.old.position }
-        requires stored { AreStored self.old.position None self.old.streams }
+        requires stored { AreStored self.old.position None self.old.streams.kept }
         requires running { IsRunning self.old.joiner.taking }
         ensures within { IfSome result (λ r. (0 < r.0) × (r.0 ≤ length piece.now)) }
         ensures sound { IfSome result (λ r. IsSoundPosition self.new.position) }
         ensures joiner { IfSome result (λ r. IsWhole self.new.joiner.taking) }
         ensures machine { IfSome result
             (λ r. Arrives (unpacking_in self.old) (take r.0 piece.now)
-            (Some (Event.Record r.1)) self.new.position self.new.joiner.taking self.new.streams) }
+            (Some (Event.Record r.1)) self.new.position self.new.joiner.taking self.new.streams.kept) }
         ensures room { IfSome result
-            (λ r. room_of self.new.position self.new.streams + 1
-            ≤ room_of self.old.position self.old.streams) }
+            (λ r. room_of self.new.position self.new.streams.kept + 1
+            ≤ room_of self.old.position self.old.streams.kept) }
         ensures stored { IfSome result
-            (λ r. AreStored self.new.position None self.new.streams) }
+            (λ r. AreStored self.new.position None self.new.streams.kept) }
         ensures cursor { self.new.cursor ≡ self.old.cursor }
         ensures none { result ≡ None → self.new ≡ self.old }
     {
@@ -164,19 +165,19 @@ impl Container {
     #[inline(never)]
     fn first_recalled(&mut self) -> Result<Event, Error>
         requires sound { IsSoundPosition self.old.position }
-        requires stored { StoredWith (Some Event.Streams) self.old.position self.old.streams }
+        requires stored { StoredWith (Some Event.Streams) self.old.position self.old.streams.kept }
         ensures recalled { IfOk result
-            (Recalled (first_cursor) self.old.position self.new.position self.old.streams
-            self.new.streams self.new.joiner.taking self.new.cursor) }
+            (Recalled (first_cursor) self.old.position self.new.position self.old.streams.kept
+            self.new.streams.kept self.new.joiner.taking self.new.cursor) }
         ensures joiner { IfOk result (λ event. Leaves (Some event) self.new.joiner.taking) }
         ensures fault { IfErr result
-            (RecallFails first_cursor self.old.position self.old.streams) }
+            (RecallFails first_cursor self.old.position self.old.streams.kept) }
         ensures sound { OnOk result (IsSoundPosition self.new.position) }
         ensures stored { OnOk result (IsStored self.new) }
         ensures ready { OnOk result (IsReady self.new.cursor (released self.new.joiner.taking)) }
         ensures room { OnOk result (room_in self.new + 1
-            ≤ room_of self.old.position self.old.streams
-            + cost_of (Some Event.Streams) self.old.streams) }
+            ≤ room_of self.old.position self.old.streams.kept
+            + cost_of (Some Event.Streams) self.old.streams.kept) }
     {
         let cursor = self.open_streams();
         self.recall(cursor)
@@ -187,7 +188,7 @@ impl Container {
     #[inline(never)]
     fn advance(&mut self, piece: &[u8]) -> Result<(usize, Option<Event>), Error>
         requires sound { IsSoundPosition self.old.position }
-        requires stored { AreStored self.old.position None self.old.streams }
+        requires stored { AreStored self.old.position None self.old.streams.kept }
         requires running { IsRunning self.old.joiner.taking }
         ensures within { IfOk result (λ r. r.0 ≤ length piece.now) }
         ensures sound { OnOk result (IsSoundPosition self.new.position) }
@@ -196,12 +197,12 @@ impl Container {
         ensures joiner { IfOk result (λ r. Leaves r.1 self.new.joiner.taking) }
         ensures machine { IfOk result
             (λ r. Arrives (unpacking_in self.old) (take r.0 piece.now) r.1 self.new.position
-            self.new.joiner.taking self.new.streams) }
+            self.new.joiner.taking self.new.streams.kept) }
         ensures fault { IfErr result (ShowsError (unpacking_in self.old) piece.now) }
         ensures room { IfOk result
-            (λ r. room_of self.new.position self.new.streams + cost_of r.1 self.new.streams
-            ≤ room_of self.old.position self.old.streams) }
-        ensures stored { IfOk result (λ r. StoredWith r.1 self.new.position self.new.streams) }
+            (λ r. room_of self.new.position self.new.streams.kept + cost_of r.1 self.new.streams.kept
+            ≤ room_of self.old.position self.old.streams.kept) }
+        ensures stored { IfOk result (λ r. StoredWith r.1 self.new.position self.new.streams.kept) }
         ensures cursor { self.new.cursor ≡ self.old.cursor }
     {
         let mut taken = 0;
@@ -234,20 +235,20 @@ impl Container {
     fn step(&mut self, rest: &[u8]) -> Result<Taken, Error>
         requires some { 0 < length rest.now }
         requires sound { IsSoundPosition self.old.position }
-        requires stored { AreStored self.old.position None self.old.streams }
+        requires stored { AreStored self.old.position None self.old.streams.kept }
         requires running { IsRunning self.old.joiner.taking }
         ensures taken { IfOk result (TakesSome self.old.position rest.now) }
         ensures joiner { IfOk result (λ taken. Leaves taken.event self.new.joiner.taking) }
         ensures machine { IfOk result
             (λ taken. Arrives (unpacking_in self.old) (take taken.count rest.now) taken.event
-            taken.position self.new.joiner.taking self.new.streams) }
+            taken.position self.new.joiner.taking self.new.streams.kept) }
         ensures fault { IfErr result (ShowsError (unpacking_in self.old) rest.now) }
         ensures room { IfOk result
-            (λ taken. room_of taken.position self.new.streams
-            + cost_of taken.event self.new.streams
-            ≤ room_of self.old.position self.old.streams) }
+            (λ taken. room_of taken.position self.new.streams.kept
+            + cost_of taken.event self.new.streams.kept
+            ≤ room_of self.old.position self.old.streams.kept) }
         ensures stored { IfOk result
-            (λ taken. StoredWith taken.event taken.position self.new.streams) }
+            (λ taken. StoredWith taken.event taken.position self.new.streams.kept) }
         ensures cursor { self.new.cursor ≡ self.old.cursor }
         ensures position { self.new.position ≡ self.old.position }
     {
@@ -272,20 +273,22 @@ impl Container {
     fn gather(&mut self, side: Side, left: u32, rest: &[u8]) -> Result<Taken, Error>
         requires some { 0 < length rest.now }
         requires sound { IsSoundPosition self.old.position }
-        requires stored { AreStored self.old.position None self.old.streams }
+        requires stored { AreStored self.old.position None self.old.streams.kept }
         requires running { IsRunning self.old.joiner.taking }
         requires here { self.old.position.spot ≡ Spot.SideChunk side left }
         ensures taken { IfOk result (TakesSome self.old.position rest.now) }
         ensures event { IfOk result (λ taken. taken.event ≡ None) }
         ensures machine { IfOk result
             (λ taken. Arrives (unpacking_in self.old) (take taken.count rest.now) None
-            taken.position self.new.joiner.taking self.new.streams) }
+            taken.position self.new.joiner.taking self.new.streams.kept) }
         ensures error { IfErr result (λ error. error ≡ Error.Memory) }
+        ensures short { OnErr result (capacity_of side self.old.streams
+            < length (stream_of side self.old.streams.kept) + length rest.now) }
         ensures room { IfOk result
-            (λ taken. room_of taken.position self.new.streams
-            ≤ room_of self.old.position self.old.streams) }
+            (λ taken. room_of taken.position self.new.streams.kept
+            ≤ room_of self.old.position self.old.streams.kept) }
         ensures stored { IfOk result
-            (λ taken. AreStored taken.position None self.new.streams) }
+            (λ taken. AreStored taken.position None self.new.streams.kept) }
         ensures joiner { self.new.joiner.taking ≡ self.old.joiner.taking }
         ensures position { self.new.position ≡ self.old.position }
         ensures cursor { self.new.cursor ≡ self.old.cursor }
@@ -301,7 +304,7 @@ impl Container {
         ensures cursor { self.new.cursor ≡ Some result }
         ensures position { self.new.position ≡ self.old.position }
         ensures joiner { self.new.joiner.taking ≡ unbegun }
-        ensures streams { self.new.streams ≡ self.old.streams }
+        ensures streams { self.new.streams.kept ≡ self.old.streams.kept }
     {
         // No record is begun among chunks that are kept. To clear the joiner spares the clauses that
         // would carry this to here.
@@ -323,10 +326,10 @@ impl Container {
         requires stored { IsStored self.old }
         requires unbegun { self.old.joiner.taking ≡ unbegun }
         ensures recalled { IfOk result
-            (Recalled cursor self.old.position self.new.position self.old.streams self.new.streams
+            (Recalled cursor self.old.position self.new.position self.old.streams.kept self.new.streams.kept
             self.new.joiner.taking self.new.cursor) }
         ensures joiner { IfOk result (λ event. Leaves (Some event) self.new.joiner.taking) }
-        ensures fault { IfErr result (RecallFails cursor self.old.position self.old.streams) }
+        ensures fault { IfErr result (RecallFails cursor self.old.position self.old.streams.kept) }
         ensures sound { OnOk result (IsSoundPosition self.new.position) }
         ensures stored { OnOk result (IsStored self.new) }
         ensures ready { OnOk result (IsReady self.new.cursor (released self.new.joiner.taking)) }
@@ -364,10 +367,10 @@ impl Container {
             (λ event. (event ≡ Event.Turn)
             × (self.new.position ≡ record self.old.position { records = 0 })
             × (self.new.cursor ≡ Some (record { side = Side.Server; taken = 0 }))
-            × (self.new.streams ≡ self.old.streams)) }
+            × (self.new.streams.kept ≡ self.old.streams.kept)) }
         ensures server { side ≡ Side.Server → IfOk result
             (λ event. (event ≡ Event.Close) × (self.new.position ≡ self.old.position)
-            × (self.new.cursor ≡ None) × AreEmpty self.new.streams) }
+            × (self.new.cursor ≡ None) × AreEmpty self.new.streams.kept) }
         ensures cut { IfErr result
             (IsCutInRecord self.old.position side (joining_of self.old.joiner.taking)) }
     {
@@ -416,11 +419,13 @@ impl Container {
         ensures joiner { IfOk result (λ taken. Leaves taken.event self.new.joiner.taking) }
         ensures machine { IfOk result
             (λ taken. Arrives (unpacking_in self.old) (take taken.count rest.now) taken.event
-            taken.position self.new.joiner.taking self.new.streams) }
+            taken.position self.new.joiner.taking self.new.streams.kept) }
         ensures fault { IfErr result (ShowsError (unpacking_in self.old) rest.now) }
+        ensures short { result ≡ Err Error.Memory → self.old.joiner.capacity
+            < length (body_of self.old.joiner.taking) + length rest.now }
         ensures room { IfOk result (TakesRoom self.old.position) }
         ensures stored { IfOk result (KeepsStreams self.old.position) }
-        ensures streams { self.new.streams ≡ self.old.streams }
+        ensures streams { self.new.streams.kept ≡ self.old.streams.kept }
         ensures cursor { self.new.cursor ≡ self.old.cursor }
         ensures position { self.new.position ≡ self.old.position }
     {

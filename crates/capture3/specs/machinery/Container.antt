@@ -31,7 +31,7 @@ unpacking_of position taking streams = unpacking_at position streams (joining_of
 
 -- the same of a container
 abbrev pub unpacking_in : Container → Unpacking
-unpacking_in c = unpacking_of c.position c.joiner.taking c.streams
+unpacking_in c = unpacking_of c.position c.joiner.taking c.streams.kept
 
 -- Where the machine is: it goes on, or something is whole. After a record the next one has not
 -- begun.
@@ -73,7 +73,7 @@ AreStored position (Some cursor) streams =
 
 -- the same of a container
 abbrev pub IsStored : Container → Type 0
-IsStored c = AreStored c.position c.cursor c.streams
+IsStored c = AreStored c.position c.cursor c.streams.kept
 
 -- a joiner between two calls: no record is begun where the streams are judged
 abbrev pub IsReady : Option Cursor → Taking → Type 0
@@ -93,7 +93,7 @@ recall_room (Some cursor) streams = room_after cursor.side cursor.taken streams
 
 -- how many things can become whole from here on, kept streams with the rest of the file
 abbrev pub room_in : Container → ℕ
-room_in c = room_of c.position c.streams + recall_room c.cursor c.streams
+room_in c = room_of c.position c.streams.kept + recall_room c.cursor c.streams.kept
 
 -- ---- what is whole next in the streams that are kept, after the cursor
 
@@ -163,16 +163,16 @@ first_cursor = record { side = sides.Client; taken = 0 }
 -- thing of such streams.
 pub data Comes (old new : Container) (bytes : List ℕ) (event : Option Event) : Type 0 where
   FromFile : old.cursor ≡ None → new.cursor ≡ None
-      → Arrives (unpacking_in old) bytes event new.position new.joiner.taking new.streams
+      → Arrives (unpacking_in old) bytes event new.position new.joiner.taking new.streams.kept
       → Comes old new bytes event
   FirstKept : (mid : Container) (one : Event) → old.cursor ≡ None
-      → Arrives (unpacking_in old) bytes (Some Streams) mid.position mid.joiner.taking mid.streams
-      → StoredWith (Some Streams) mid.position mid.streams → event ≡ Some one
-      → Recalled first_cursor mid.position new.position mid.streams new.streams new.joiner.taking
+      → Arrives (unpacking_in old) bytes (Some Streams) mid.position mid.joiner.taking mid.streams.kept
+      → StoredWith (Some Streams) mid.position mid.streams.kept → event ≡ Some one
+      → Recalled first_cursor mid.position new.position mid.streams.kept new.streams.kept new.joiner.taking
       new.cursor one → Comes old new bytes event
   NextKept : (cursor : Cursor) (one : Event) → old.cursor ≡ Some cursor → bytes ≡ []
       → event ≡ Some one
-      → Recalled cursor old.position new.position old.streams new.streams new.joiner.taking new.cursor one
+      → Recalled cursor old.position new.position old.streams.kept new.streams.kept new.joiner.taking new.cursor one
       → Comes old new bytes event
 
 -- the fault of what would come, in the same three ways, unless memory ran out
@@ -180,7 +180,7 @@ pub data ComesToFault (old : Container) (bytes : List ℕ) (error : Error) : Typ
   InFile : old.cursor ≡ None → ShowsError (unpacking_in old) bytes error
       → ComesToFault old bytes error
   InFirstKept : (mid : Container) (n : ℕ) → old.cursor ≡ None
-      → Arrives (unpacking_in old) (take n bytes) (Some Streams) mid.position mid.joiner.taking mid.streams
-      → RecallFails first_cursor mid.position mid.streams error → ComesToFault old bytes error
+      → Arrives (unpacking_in old) (take n bytes) (Some Streams) mid.position mid.joiner.taking mid.streams.kept
+      → RecallFails first_cursor mid.position mid.streams.kept error → ComesToFault old bytes error
   InNextKept : (cursor : Cursor) → old.cursor ≡ Some cursor
-      → RecallFails cursor old.position old.streams error → ComesToFault old bytes error
+      → RecallFails cursor old.position old.streams.kept error → ComesToFault old bytes error

@@ -63,7 +63,7 @@ StandsOrRecalls (Some cursor) position taking streams table bytes entries =
 -- the same where the record that became whole last, if one did, is let go
 abbrev pub HasCome : Container → List NumberedCall → List ℕ → List Entry → Type 0
 HasCome c table bytes entries =
-    StandsOrRecalls c.cursor c.position (released c.joiner.taking) c.streams table bytes entries
+    StandsOrRecalls c.cursor c.position (released c.joiner.taking) c.streams.kept table bytes entries
 
 -- what is whole with the last byte
 abbrev pub met : Event → Position → Taking → Streams → Unpacked
@@ -76,7 +76,7 @@ met events.Streams position taking streams =
     HasStreams streams (unpacking_of position taking streams)
 
 abbrev pub met_in : Event → Container → Unpacked
-met_in event c = met event c.position c.joiner.taking c.streams
+met_in event c = met event c.position c.joiner.taking c.streams.kept
 
 -- the last of the bytes made this whole, after these entries
 pub record HasMet (container : Container) (table : List NumberedCall) (event : Event)
@@ -99,10 +99,10 @@ pub record HasRecalled (container : Container) (table : List NumberedCall) (side
   pub taken : ℕ
   pub records : ℕ
   pub count : ℕ
-  pub stood : Recalls (after_side_word container.position) container.streams side taken records
+  pub stood : Recalls (after_side_word container.position) container.streams.kept side taken records
       table bytes entries
   pub joins : after join_next (Runs Between)
-      (take count (drop taken (stream_of side container.streams)))
+      (take count (drop taken (stream_of side container.streams.kept)))
       ≡ Stops (Whole (body_of container.joiner.taking))
   pub next_is : container.cursor ≡ Some (record { side = side; taken = taken + count })
   pub records_are : container.position.records ≡ records + 1

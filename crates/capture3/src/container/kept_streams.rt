@@ -1,7 +1,8 @@
 //! The streams of a connection whose chunks come mixed.
 
-ghost use Rattle.std.specs.Prelude.{◌≡◌, [], OnOk};
+ghost use Rattle.std.specs.Prelude.{◌≡◌, ◌<◌, ◌≤◌, ◌+◌, [], length, OnErr, OnOk};
 ghost use Rattle.capture3.specs.machinery.Container.{stream_of};
+ghost use Rattle.capture3.specs.machinery.StreamsInMemory.{capacity_of};
 ghost use Rattle.capture3.specs.SidedChunks.{gathered, with_more};
 
 use crate::fault::Side;
@@ -17,19 +18,18 @@ pub(crate) struct Streams {
 }
 
 impl Model for Streams {
-    ghost use Rattle.capture3.specs.SidedChunks as kept;
+    ghost use Rattle.capture3.specs.machinery.StreamsInMemory.{StreamsInMemory};
 
-    ghost Value = { kept.Streams };
+    ghost Value = { StreamsInMemory };
 
-    ghost view = { λ streams. record {
-      client = streams.client.items;
-      server = streams.server.items;
-    } };
+    ghost use Rattle.capture3.specs.machinery.StreamsInMemory.{in_memory};
+
+    ghost view = { λ streams. in_memory streams.client streams.server };
 }
 
 impl Streams {
     pub(crate) fn new(alloc: Global) -> Streams
-        ensures { result ≡ gathered [] }
+        ensures { result.kept ≡ gathered [] }
     {
         Streams {
             client: Vec::new(alloc),
@@ -37,9 +37,11 @@ impl Streams {
         }
     }
 
-    /// Appends bytes to a side's stream.
+    /// Appends bytes to a side's stream. Fails only if the capacity for that stream is too small.
     pub(crate) fn add(&mut self, side: Side, bytes: &[u8]) -> Result<(), AllocError>
-        ensures { OnOk result (self.new ≡ with_more self.old side bytes.now) }
+        ensures added { OnOk result (self.new.kept ≡ with_more self.old.kept side bytes.now) }
+        ensures short { OnErr result (capacity_of side self.old
+            < length (stream_of side self.old.kept) + length bytes.now) }
     {
         match side {
             Side::Client => self.client.extend_from_slice(bytes)?,
@@ -49,7 +51,7 @@ impl Streams {
     }
 
     pub(crate) fn of_side(&self, side: Side) -> &[u8]
-        ensures { result.now ≡ stream_of side self.now }
+        ensures { result.now ≡ stream_of side self.now.kept }
     {
         match side {
             Side::Client => &self.client,
@@ -59,7 +61,7 @@ impl Streams {
 
     /// Drops the bytes, and keeps their memory for the next connection.
     pub(crate) fn clear(&mut self)
-        ensures { self.new ≡ gathered [] }
+        ensures { self.new.kept ≡ gathered [] }
     {
         self.client.clear();
         self.server.clear();

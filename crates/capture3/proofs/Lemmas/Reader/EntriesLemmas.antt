@@ -106,7 +106,7 @@ stored-prop p None streams = stored_at-prop p.spot p.total streams
 stored-prop p (Some cursor) streams = hlevel (props, before_mark-prop)
 
 pub stored_container : (c : Container) → ∥ IsStored c ∥₁ → IsStored c
-stored_container c h = ∥∥₁_elim h (stored-prop c.position c.cursor c.streams) (λ s. s)
+stored_container c h = ∥∥₁_elim h (stored-prop c.position c.cursor c.streams.kept) (λ s. s)
 
 running-prop : (t : Taking) → IsProp (IsRunning t)
 running-prop (Led (Runs s)) = hlevel props
@@ -153,21 +153,21 @@ module _ (bytes : List ℕ) (p : Position) (t : Taking) (streams : Streams) (tab
 come_length : (c : Container) (table : List NumberedCall) (bytes : List ℕ) (handed : List Entry) → AreBytes bytes → HasCome c table bytes handed → length bytes ≤ most_bytes Two + 1
 come_length c table bytes handed are h = by_cursor c.cursor h
   where
-    by_cursor : (cursor : Option Cursor) → StandsOrRecalls cursor c.position (released c.joiner.taking) c.streams table bytes handed → length bytes ≤ most_bytes Two + 1
-    by_cursor None s = omega (arith, clean_most bytes are (clean_here bytes c.position (released c.joiner.taking) c.streams table handed are s))
+    by_cursor : (cursor : Option Cursor) → StandsOrRecalls cursor c.position (released c.joiner.taking) c.streams.kept table bytes handed → length bytes ≤ most_bytes Two + 1
+    by_cursor None s = omega (arith, clean_most bytes are (clean_here bytes c.position (released c.joiner.taking) c.streams.kept table handed are s))
     by_cursor (Some cursor) r = omega (arith, clean_most r.front (split_bytes bytes r.front (r.byte ∷ []) r.split are).0 (clean_from_runs r.front r.state r.runs), ap length r.split, length-append r.front (r.byte ∷ []))
 
 -- what was handed out are the first entries that the bytes reach, whatever comes after
 come_first : (c : Container) (table : List NumberedCall) (bytes rest : List ℕ) (handed : List Entry) → AreBytes (bytes ++ rest) → HasCome c table bytes handed → AreFirstReached (bytes ++ rest) handed
 come_first c table bytes rest handed are h = by_cursor c.cursor h
   where
-    by_cursor : (cursor : Option Cursor) → StandsOrRecalls cursor c.position (released c.joiner.taking) c.streams table bytes handed → AreFirstReached (bytes ++ rest) handed
-    by_cursor None s = subst (AreFirstReached (bytes ++ rest)) (sym s.emitted) (first_reached_at bytes rest (unpacking_of c.position (released c.joiner.taking) c.streams) s.so_far are s.agrees s.stands)
-    by_cursor (Some cursor) r = recalled_first (after_side_word c.position) c.streams cursor.side cursor.taken c.position.records table bytes rest handed are r
+    by_cursor : (cursor : Option Cursor) → StandsOrRecalls cursor c.position (released c.joiner.taking) c.streams.kept table bytes handed → AreFirstReached (bytes ++ rest) handed
+    by_cursor None s = subst (AreFirstReached (bytes ++ rest)) (sym s.emitted) (first_reached_at bytes rest (unpacking_of c.position (released c.joiner.taking) c.streams.kept) s.so_far are s.agrees s.stands)
+    by_cursor (Some cursor) r = recalled_first (after_side_word c.position) c.streams.kept cursor.side cursor.taken c.position.records table bytes rest handed are r
 
 -- no streams are judged
-stands_unopened : (c : Container) (table : List NumberedCall) (bytes : List ℕ) (handed : List Entry) → c.cursor ≡ None → HasCome c table bytes handed → StandsAt c.position (released c.joiner.taking) c.streams table bytes handed
-stands_unopened c table bytes handed none h = subst (λ (cursor : Option Cursor). StandsOrRecalls cursor c.position (released c.joiner.taking) c.streams table bytes handed) none h
+stands_unopened : (c : Container) (table : List NumberedCall) (bytes : List ℕ) (handed : List Entry) → c.cursor ≡ None → HasCome c table bytes handed → StandsAt c.position (released c.joiner.taking) c.streams.kept table bytes handed
+stands_unopened c table bytes handed none h = subst (λ (cursor : Option Cursor). StandsOrRecalls cursor c.position (released c.joiner.taking) c.streams.kept table bytes handed) none h
 
 few_first : (bytes : List ℕ) (handed : List Entry) → AreFirstReached bytes handed → begins handed ≤ max_connections
 few_first bytes handed (more, reached) = omega (arith, (reached_within bytes (handed ++ more) reached).few, begins-append handed more)
@@ -303,7 +303,7 @@ module _ {R S H : Type 0} {builds : BuildHasher.Ghosts S H} {hashes : Hasher.Gho
   all_judged e given handed empty r = r.split ∙ ap (λ (b : List ℕ). r.judged ++ b) (empty_range e.block.items e.start e.end empty) ∙ append-nil r.judged
 
   machine_at : (e : Entries R S H builds hashes) (given : List ℕ) (handed : List Entry) → e.start ≡ e.end → e.parser.container.cursor ≡ None → IsReading e given handed
-      → StandsAt e.parser.container.position (released e.parser.container.joiner.taking) e.parser.container.streams e.parser.calls given handed
+      → StandsAt e.parser.container.position (released e.parser.container.joiner.taking) e.parser.container.streams.kept e.parser.calls given handed
   machine_at e given handed empty none r =
       stands_unopened e.parser.container e.parser.calls given handed none (subst (λ (b : List ℕ). HasCome e.parser.container e.parser.calls b handed) (sym (all_judged e given handed empty r)) r.machine)
 

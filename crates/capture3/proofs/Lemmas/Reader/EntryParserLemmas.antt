@@ -150,10 +150,10 @@ met_is Close q u streams = refl
 met_is events.Streams q u streams = refl
 
 pub stands_met : (p : Position) (t : Taking) (old : Streams) (new : Container) (table : List NumberedCall) (bytes : List ℕ) (all : List Entry) (piece : List ℕ) (event : Event) (came : Option Event)
-    → StandsAt p t old table bytes all → came ≡ Some event → Arrives (unpacking_of p t old) piece came new.position new.joiner.taking new.streams → HasMet new table event (bytes ++ piece) all
+    → StandsAt p t old table bytes all → came ≡ Some event → Arrives (unpacking_of p t old) piece came new.position new.joiner.taking new.streams.kept → HasMet new table event (bytes ++ piece) all
 stands_met p t old new table bytes all piece event came s is arrives_at =
-    let arrives = subst (λ (e : Option Event). Arrives (unpacking_of p t old) piece e new.position new.joiner.taking new.streams) is arrives_at in
-    let stops : after unpack_next (Runs (unpacking_of p t old)) piece ≡ Stops (met_in event new) = arrives ∙ met_is event new.position new.joiner.taking new.streams in
+    let arrives = subst (λ (e : Option Event). Arrives (unpacking_of p t old) piece e new.position new.joiner.taking new.streams.kept) is arrives_at in
+    let stops : after unpack_next (Runs (unpacking_of p t old)) piece ≡ Stops (met_in event new) = arrives ∙ met_is event new.position new.joiner.taking new.streams.kept in
     let next = stops_follow piece (unpacking_of p t old) (met_in event new) s.so_far s.agrees stops in
     let m = stops_at_last piece (unpacking_of p t old) (met_in event new) s.so_far s.agrees stops in
     record {
@@ -217,11 +217,11 @@ fails_longer bytes piece n all errors.Write f = f
 fails_longer bytes piece n all errors.Memory f = tt
 
 -- a whole record was let go
-pub let_released : (old new : Container) (table : List NumberedCall) (bytes : List ℕ) (all : List Entry) → new.position ≡ old.position → new.joiner.taking ≡ released old.joiner.taking → new.streams ≡ old.streams → new.cursor ≡ old.cursor
-    → HasCome old table bytes all → StandsOrRecalls new.cursor new.position new.joiner.taking new.streams table bytes all
+pub let_released : (old new : Container) (table : List NumberedCall) (bytes : List ℕ) (all : List Entry) → new.position ≡ old.position → new.joiner.taking ≡ released old.joiner.taking → new.streams.kept ≡ old.streams.kept → new.cursor ≡ old.cursor
+    → HasCome old table bytes all → StandsOrRecalls new.cursor new.position new.joiner.taking new.streams.kept table bytes all
 let_released old new table bytes all same is kept here s = rw (same, is, kept, here) s
 
-pub stored_still : (old new : Container) → new.position ≡ old.position → new.streams ≡ old.streams → new.cursor ≡ old.cursor → IsStored old → IsStored new
+pub stored_still : (old new : Container) → new.position ≡ old.position → new.streams.kept ≡ old.streams.kept → new.cursor ≡ old.cursor → IsStored old → IsStored new
 stored_still old new same kept here stored = rw (same, kept, here) stored
 
 -- ---- what is whole
@@ -258,13 +258,13 @@ leaves_running (Some Close) t h = at_rest_runs t h
 leaves_running (Some events.Streams) t h = at_rest_runs t h
 leaves_running None t h = at_rest_runs t h
 
-come_at_rest : (c : Container) (table : List NumberedCall) (bytes : List ℕ) (all : List Entry) → c.cursor ≡ None → IsRunning c.joiner.taking → StandsAt c.position c.joiner.taking c.streams table bytes all → HasCome c table bytes all
+come_at_rest : (c : Container) (table : List NumberedCall) (bytes : List ℕ) (all : List Entry) → c.cursor ≡ None → IsRunning c.joiner.taking → StandsAt c.position c.joiner.taking c.streams.kept table bytes all → HasCome c table bytes all
 come_at_rest c table bytes all none runs s =
-    subst (λ (n : Option Cursor). StandsOrRecalls n c.position (released c.joiner.taking) c.streams table bytes all) (sym none)
-    (subst (λ (u : Taking). StandsAt c.position u c.streams table bytes all) (sym (at_rest c.joiner.taking runs)) s)
+    subst (λ (n : Option Cursor). StandsOrRecalls n c.position (released c.joiner.taking) c.streams.kept table bytes all) (sym none)
+    (subst (λ (u : Taking). StandsAt c.position u c.streams.kept table bytes all) (sym (at_rest c.joiner.taking runs)) s)
 
-pub come_at_start : (c : Container) (table : List NumberedCall) → c.cursor ≡ None → IsRunning c.joiner.taking → unpacking_of c.position c.joiner.taking c.streams ≡ unpacking_start → table ≡ [] → HasCome c table [] []
-come_at_start c table none runs at empty = come_at_rest c table [] [] none runs (stands_at_start c.position c.joiner.taking c.streams table at empty)
+pub come_at_start : (c : Container) (table : List NumberedCall) → c.cursor ≡ None → IsRunning c.joiner.taking → unpacking_of c.position c.joiner.taking c.streams.kept ≡ unpacking_start → table ≡ [] → HasCome c table [] []
+come_at_start c table none runs at empty = come_at_rest c table [] [] none runs (stands_at_start c.position c.joiner.taking c.streams.kept table at empty)
 
 module _ {V : Type 0} (stands : V → List Item → Type 0) where
   pub begin_goes : (v : V) (c : Container) (table none : List NumberedCall) (bytes : List ℕ) (all : List Entry) → none ≡ [] → IsRunning c.joiner.taking → MeetsEvent c table Begin bytes all → GoesTo stands v v (Some kinds.Begin) c none bytes all
@@ -273,7 +273,7 @@ module _ {V : Type 0} (stands : V → List Item → Type 0) where
     refl,
     untold stands v,
     come_at_rest c none bytes (all ++ entries.Begin ∷ []) unopened runs (record {
-      so_far = connection_begun (unpacking_of c.position c.joiner.taking c.streams) m.so_far;
+      so_far = connection_begun (unpacking_of c.position c.joiner.taking c.streams.kept) m.so_far;
       agrees = m.agrees;
       calls = λ q. ap (λ (l : List NumberedCall). found l q) empty;
       stands = met_leads c table Begin bytes all m;
@@ -306,13 +306,13 @@ module _ {V : Type 0} (stands : V → List Item → Type 0) where
       → ((calls : List (List Item)) → IsTableOf table calls → JudgesCall stands was now calls (body_of c.joiner.taking) new id) → GoesTo stands was now (Some (kinds.Call id)) c new bytes all
   call_goes was now c table new bytes all id whole (inl (none, m)) tells =
       let k = tells m.so_far.calls m.calls in
-      let v : Unpacking = unpacking_at c.position c.streams Between in
-      let at : unpacking_of c.position (released c.joiner.taking) c.streams ≡ v = ap (λ (t : Taking). unpacking_of c.position t c.streams) (let_go c.joiner.taking whole) in
+      let v : Unpacking = unpacking_at c.position c.streams.kept Between in
+      let at : unpacking_of c.position (released c.joiner.taking) c.streams.kept ≡ v = ap (λ (t : Taking). unpacking_of c.position t c.streams.kept) (let_go c.joiner.taking whole) in
       let j : Judged = resuming.with_call m.so_far k.items in (
         entries.Call k.items,
         (k.items, whole, k.is_call, k.id_is, refl),
         k.adds,
-        subst (λ (n : Option Cursor). StandsOrRecalls n c.position (released c.joiner.taking) c.streams new bytes (all ++ entries.Call k.items ∷ [])) (sym none)
+        subst (λ (n : Option Cursor). StandsOrRecalls n c.position (released c.joiner.taking) c.streams.kept new bytes (all ++ entries.Call k.items ∷ [])) (sym none)
             (record {
               so_far = j;
               agrees = subst (λ (w : Unpacking). resuming.Agrees w j) (sym at) (m.agrees.0 k.items);
@@ -327,9 +327,9 @@ module _ {V : Type 0} (stands : V → List Item → Type 0) where
         entries.Call k.items,
         (k.items, whole, k.is_call, k.id_is, refl),
         k.adds,
-        subst (λ (n : Option Cursor). StandsOrRecalls n c.position (released c.joiner.taking) c.streams new bytes (all ++ entries.Call k.items ∷ [])) (sym m.next_is)
-            (subst (λ (n : ℕ). Recalls u c.streams Client (m.taken + m.count) n new bytes (all ++ entries.Call k.items ∷ [])) (sym m.records_are)
-            (call_recalled u c.streams m.taken m.records table bytes all m.stood m.count (body_of c.joiner.taking) k.items new m.joins k.judged k.added)),
+        subst (λ (n : Option Cursor). StandsOrRecalls n c.position (released c.joiner.taking) c.streams.kept new bytes (all ++ entries.Call k.items ∷ [])) (sym m.next_is)
+            (subst (λ (n : ℕ). Recalls u c.streams.kept Client (m.taken + m.count) n new bytes (all ++ entries.Call k.items ∷ [])) (sym m.records_are)
+            (call_recalled u c.streams.kept m.taken m.records table bytes all m.stood m.count (body_of c.joiner.taking) k.items new m.joins k.judged k.added)),
       )
 
   -- ---- a reply
@@ -338,14 +338,14 @@ module _ {V : Type 0} (stands : V → List Item → Type 0) where
       → ((calls : List (List Item)) → IsTableOf table calls → JudgesReply stands was now calls (body_of c.joiner.taking) id) → GoesTo stands was now (Some (kinds.Reply id)) c table bytes all
   reply_goes was now c table bytes all id whole (inl (none, m)) tells =
       let k = tells m.so_far.calls m.calls in
-      let v : Unpacking = unpacking_at c.position c.streams Between in
-      let at : unpacking_of c.position (released c.joiner.taking) c.streams ≡ v = ap (λ (t : Taking). unpacking_of c.position t c.streams) (let_go c.joiner.taking whole) in
+      let v : Unpacking = unpacking_at c.position c.streams.kept Between in
+      let at : unpacking_of c.position (released c.joiner.taking) c.streams.kept ≡ v = ap (λ (t : Taking). unpacking_of c.position t c.streams.kept) (let_go c.joiner.taking whole) in
       let answer : ReplyItems = record { id = id; items = k.items } in
       let j : Judged = resuming.with_reply m.so_far answer in (
         entries.Reply id k.items,
         (k.items, whole, k.is_reply, refl),
         k.adds,
-        subst (λ (n : Option Cursor). StandsOrRecalls n c.position (released c.joiner.taking) c.streams table bytes (all ++ entries.Reply id k.items ∷ [])) (sym none)
+        subst (λ (n : Option Cursor). StandsOrRecalls n c.position (released c.joiner.taking) c.streams.kept table bytes (all ++ entries.Reply id k.items ∷ [])) (sym none)
             (record {
               so_far = j;
               agrees = subst (λ (w : Unpacking). resuming.Agrees w j) (sym at) (m.agrees.0 answer);
@@ -361,9 +361,9 @@ module _ {V : Type 0} (stands : V → List Item → Type 0) where
         entries.Reply id k.items,
         (k.items, whole, k.is_reply, refl),
         k.adds,
-        subst (λ (n : Option Cursor). StandsOrRecalls n c.position (released c.joiner.taking) c.streams table bytes (all ++ entries.Reply id k.items ∷ [])) (sym m.next_is)
-            (subst (λ (n : ℕ). Recalls u c.streams Server (m.taken + m.count) n table bytes (all ++ entries.Reply id k.items ∷ [])) (sym m.records_are)
-            (reply_recalled u c.streams m.taken m.records table bytes all m.stood m.count (body_of c.joiner.taking) answer m.joins k.judged)),
+        subst (λ (n : Option Cursor). StandsOrRecalls n c.position (released c.joiner.taking) c.streams.kept table bytes (all ++ entries.Reply id k.items ∷ [])) (sym m.next_is)
+            (subst (λ (n : ℕ). Recalls u c.streams.kept Server (m.taken + m.count) n table bytes (all ++ entries.Reply id k.items ∷ [])) (sym m.records_are)
+            (reply_recalled u c.streams.kept m.taken m.records table bytes all m.stood m.count (body_of c.joiner.taking) answer m.joins k.judged)),
       )
 
 -- the same with the side and the container as the code has them
@@ -395,7 +395,7 @@ module _ (c : Container) (table : List NumberedCall) (bytes : List ℕ) (all : L
         shown = refusal fault;
         split = m.split;
         runs = m.runs;
-        ends = m.ends ∙ ap (call_judged (unpacking_at c.position c.streams Between) m.so_far) judged
+        ends = m.ends ∙ ap (call_judged (unpacking_at c.position c.streams.kept Between) m.so_far) judged
             ∙ ap (λ (f : Fault). Ends (refusal f)) (ap (λ (n : ℕ). record { place = places.Record c.position.connections Client n stop.at; reason = stop.reason }) (sym m.agrees.1) ∙ sym is);
         is = refl;
         emits = sym m.before ∙ sym (append-nil (emitted m.state));
@@ -404,7 +404,7 @@ module _ (c : Container) (table : List NumberedCall) (bytes : List ℕ) (all : L
       let (stop, judged, is) = refuses m.stood.so_far.calls m.stood.calls in
       let same : suc (length m.stood.so_far.calls) ≡ c.position.records = omega (arith, m.records_are, m.stood.here.1) in
       subst (ShowsFirst bytes all) (ap (λ (n : ℕ). record { place = places.Record c.position.connections Client n stop.at; reason = stop.reason }) same ∙ sym is)
-      (call_refused (after_side_word c.position) c.streams m.taken m.records table bytes all m.stood m.count (Whole (body_of c.joiner.taking)) (fault_at m.stood.so_far.calls stop.at stop.reason) m.joins (ap (reading.judged m.stood.so_far.calls) judged))
+      (call_refused (after_side_word c.position) c.streams.kept m.taken m.records table bytes all m.stood m.count (Whole (body_of c.joiner.taking)) (fault_at m.stood.so_far.calls stop.at stop.reason) m.joins (ap (reading.judged m.stood.so_far.calls) judged))
   call_fails errors.Read (inl (none, m)) h = h m.so_far.calls m.calls
   call_fails errors.Read (inr m) h = h m.stood.so_far.calls m.stood.calls
   call_fails errors.Write (inl (none, m)) h = h m.so_far.calls m.calls
@@ -422,7 +422,7 @@ module _ (c : Container) (table : List NumberedCall) (bytes : List ℕ) (all : L
         shown = refusal fault;
         split = m.split;
         runs = m.runs;
-        ends = m.ends ∙ ap (reply_judged (unpacking_at c.position c.streams Between) m.so_far) judged
+        ends = m.ends ∙ ap (reply_judged (unpacking_at c.position c.streams.kept Between) m.so_far) judged
             ∙ ap (λ (f : Fault). Ends (refusal f)) (ap (λ (n : ℕ). record { place = places.Record c.position.connections Server n stop.at; reason = stop.reason }) (sym m.agrees.1) ∙ sym is);
         is = refl;
         emits = sym m.before ∙ sym (append-nil (emitted m.state));
@@ -431,7 +431,7 @@ module _ (c : Container) (table : List NumberedCall) (bytes : List ℕ) (all : L
       let (stop, judged, is) = refuses m.stood.so_far.calls m.stood.calls in
       let same : suc (length m.stood.so_far.replies) ≡ c.position.records = omega (arith, m.records_are, m.stood.here.2) in
       subst (ShowsFirst bytes all) (ap (λ (n : ℕ). record { place = places.Record c.position.connections Server n stop.at; reason = stop.reason }) same ∙ sym is)
-      (reply_refused (after_side_word c.position) c.streams m.taken m.records table bytes all m.stood m.count (Whole (body_of c.joiner.taking)) (fault_at m.stood.so_far.replies stop.at stop.reason) m.joins (ap (reading.judged m.stood.so_far.replies) judged))
+      (reply_refused (after_side_word c.position) c.streams.kept m.taken m.records table bytes all m.stood m.count (Whole (body_of c.joiner.taking)) (fault_at m.stood.so_far.replies stop.at stop.reason) m.joins (ap (reading.judged m.stood.so_far.replies) judged))
   reply_fails errors.Read (inl (none, m)) h = h m.so_far.calls m.calls
   reply_fails errors.Read (inr m) h = h m.stood.so_far.calls m.stood.calls
   reply_fails errors.Write (inl (none, m)) h = h m.so_far.calls m.calls
@@ -455,7 +455,7 @@ running_between (Led (Stopped x)) h e = absurd h
 running_between OutOfMemory h e = absurd h
 
 -- the streams are whole: their judging begins
-streams_open : (c : Container) (table : List NumberedCall) (bytes : List ℕ) (all : List Entry) → HasMet c table events.Streams bytes all → StandsOrRecalls (Some first_cursor) c.position c.joiner.taking c.streams table bytes all
+streams_open : (c : Container) (table : List NumberedCall) (bytes : List ℕ) (all : List Entry) → HasMet c table events.Streams bytes all → StandsOrRecalls (Some first_cursor) c.position c.joiner.taking c.streams.kept table bytes all
 streams_open c table bytes all m =
     let j : Judged = record m.so_far { calls = []; replies = [] } in
     record {
@@ -480,8 +480,8 @@ before_mark streams spot at before =
     ap (λ (s : Spot). opened_at streams s at) is.2 ∙ ap₂ Mark is.3 is.4
 
 -- what is whole next in them
-module _ (cursor : Cursor) (old new : Container) (table : List NumberedCall) (bytes : List ℕ) (all : List Entry) (s : StandsOrRecalls (Some cursor) old.position old.joiner.taking old.streams table bytes all) where
-  recalled_record : (side : Side) → Recalled cursor old.position new.position old.streams new.streams new.joiner.taking new.cursor (Record side) → MeetsEvent new table (Record side) bytes all
+module _ (cursor : Cursor) (old new : Container) (table : List NumberedCall) (bytes : List ℕ) (all : List Entry) (s : StandsOrRecalls (Some cursor) old.position old.joiner.taking old.streams.kept table bytes all) where
+  recalled_record : (side : Side) → Recalled cursor old.position new.position old.streams.kept new.streams.kept new.joiner.taking new.cursor (Record side) → MeetsEvent new table (Record side) bytes all
   recalled_record side (side_is, streams_are, position_is, (count, next_is, joins)) =
       inr (record {
         taken = cursor.taken;
@@ -493,23 +493,23 @@ module _ (cursor : Cursor) (old new : Container) (table : List NumberedCall) (by
         records_are = ap (λ (p : Position). p.records) position_is;
       })
 
-  recalled_turn : Recalled cursor old.position new.position old.streams new.streams new.joiner.taking new.cursor Turn → HasCome new table bytes (all ++ entries.Turn ∷ [])
+  recalled_turn : Recalled cursor old.position new.position old.streams.kept new.streams.kept new.joiner.taking new.cursor Turn → HasCome new table bytes (all ++ entries.Turn ∷ [])
   recalled_turn (side_is, streams_are, position_is, next_is, between, runs) =
       let u : Unpacking = after_side_word old.position in
-      let at : Recalls u old.streams Client cursor.taken old.position.records table bytes all = subst (λ (side : Side). Recalls u old.streams side cursor.taken old.position.records table bytes all) side_is s in
-      let rest : after join_next (Runs Between) (drop cursor.taken old.streams.client) ≡ Runs Between = subst (λ (side : Side). after join_next (Runs Between) (drop cursor.taken (stream_of side old.streams)) ≡ Runs Between) side_is runs in
-      rw (streams_are, position_is, next_is) (turn_recalled u old.streams cursor.taken old.position.records table bytes all at rest)
+      let at : Recalls u old.streams.kept Client cursor.taken old.position.records table bytes all = subst (λ (side : Side). Recalls u old.streams.kept side cursor.taken old.position.records table bytes all) side_is s in
+      let rest : after join_next (Runs Between) (drop cursor.taken old.streams.kept.client) ≡ Runs Between = subst (λ (side : Side). after join_next (Runs Between) (drop cursor.taken (stream_of side old.streams.kept)) ≡ Runs Between) side_is runs in
+      rw (streams_are, position_is, next_is) (turn_recalled u old.streams.kept cursor.taken old.position.records table bytes all at rest)
 
-  recalled_close : IsRunning new.joiner.taking → AreStored old.position (Some cursor) old.streams → Recalled cursor old.position new.position old.streams new.streams new.joiner.taking new.cursor Close → HasCome new table bytes (all ++ entries.Close ∷ [])
+  recalled_close : IsRunning new.joiner.taking → AreStored old.position (Some cursor) old.streams.kept → Recalled cursor old.position new.position old.streams.kept new.streams.kept new.joiner.taking new.cursor Close → HasCome new table bytes (all ++ entries.Close ∷ [])
   recalled_close running stored (side_is, empty, position_is, next_is, between, runs) =
       let p : Position = old.position in
       let u : Unpacking = after_side_word p in
-      let at : Recalls u old.streams Server cursor.taken p.records table bytes all = subst (λ (side : Side). Recalls u old.streams side cursor.taken p.records table bytes all) side_is s in
-      let rest : after join_next (Runs Between) (drop cursor.taken old.streams.server) ≡ Runs Between = subst (λ (side : Side). after join_next (Runs Between) (drop cursor.taken (stream_of side old.streams)) ≡ Runs Between) side_is runs in
-      let closes = close_recalled u old.streams cursor.taken p.records table bytes all at rest in
-      let opened_is : opened_at new.streams p.spot p.at ≡ Mark Two [] = before_mark new.streams p.spot p.at stored.3 in
+      let at : Recalls u old.streams.kept Server cursor.taken p.records table bytes all = subst (λ (side : Side). Recalls u old.streams.kept side cursor.taken p.records table bytes all) side_is s in
+      let rest : after join_next (Runs Between) (drop cursor.taken old.streams.kept.server) ≡ Runs Between = subst (λ (side : Side). after join_next (Runs Between) (drop cursor.taken (stream_of side old.streams.kept)) ≡ Runs Between) side_is runs in
+      let closes = close_recalled u old.streams.kept cursor.taken p.records table bytes all at rest in
+      let opened_is : opened_at new.streams.kept p.spot p.at ≡ Mark Two [] = before_mark new.streams.kept p.spot p.at stored.3 in
       let w : Unpacking = record { at = p.at; total = p.total; connections = p.connections; records = p.records; opened = Mark Two []; joining = Between } in
-      let here : unpacking_of p new.joiner.taking new.streams ≡ w = ap₂ (λ o j. record { at = p.at; total = p.total; connections = p.connections; records = p.records; opened = o; joining = j }) opened_is between in
+      let here : unpacking_of p new.joiner.taking new.streams.kept ≡ w = ap₂ (λ o j. record { at = p.at; total = p.total; connections = p.connections; records = p.records; opened = o; joining = j }) opened_is between in
       come_at_rest new table bytes (all ++ entries.Close ∷ []) next_is running (rw position_is (record {
         so_far = connection_closed at.so_far;
         agrees = subst (λ (x : Unpacking). resuming.Agrees x (connection_closed at.so_far)) (sym here) refl;
@@ -518,7 +518,7 @@ module _ (cursor : Cursor) (old new : Container) (table : List NumberedCall) (by
         emitted = closes.1 ∙ sym (ap (λ (x : Unpacking). emitted_at x.opened (connection_closed at.so_far)) here);
       }))
 
-  recalled_meets : (event : Event) → Leaves (Some event) new.joiner.taking → AreStored old.position (Some cursor) old.streams → Recalled cursor old.position new.position old.streams new.streams new.joiner.taking new.cursor event → MeetsEvent new table event bytes all
+  recalled_meets : (event : Event) → Leaves (Some event) new.joiner.taking → AreStored old.position (Some cursor) old.streams.kept → Recalled cursor old.position new.position old.streams.kept new.streams.kept new.joiner.taking new.cursor event → MeetsEvent new table event bytes all
   recalled_meets (Record side) leaves stored r = recalled_record side r
   recalled_meets Turn leaves stored r = inr (recalled_turn r)
   recalled_meets Close leaves stored r = inr (recalled_close leaves stored r)
@@ -558,47 +558,47 @@ recall_fails cursor p t streams table bytes all errors.Memory s f = tt
 
 -- ---- what comes next, from the file or from streams that were kept
 
-unopened_at : (c : Container) (table : List NumberedCall) (bytes : List ℕ) (all : List Entry) → c.cursor ≡ None → StandsOrRecalls c.cursor c.position c.joiner.taking c.streams table bytes all → StandsAt c.position c.joiner.taking c.streams table bytes all
-unopened_at c table bytes all none s = subst (λ (n : Option Cursor). StandsOrRecalls n c.position c.joiner.taking c.streams table bytes all) none s
+unopened_at : (c : Container) (table : List NumberedCall) (bytes : List ℕ) (all : List Entry) → c.cursor ≡ None → StandsOrRecalls c.cursor c.position c.joiner.taking c.streams.kept table bytes all → StandsAt c.position c.joiner.taking c.streams.kept table bytes all
+unopened_at c table bytes all none s = subst (λ (n : Option Cursor). StandsOrRecalls n c.position c.joiner.taking c.streams.kept table bytes all) none s
 
-opened_with : (c : Container) (cursor : Cursor) (table : List NumberedCall) (bytes : List ℕ) (all : List Entry) → c.cursor ≡ Some cursor → StandsOrRecalls c.cursor c.position c.joiner.taking c.streams table bytes all
-    → StandsOrRecalls (Some cursor) c.position c.joiner.taking c.streams table bytes all
-opened_with c cursor table bytes all some s = subst (λ (n : Option Cursor). StandsOrRecalls n c.position c.joiner.taking c.streams table bytes all) some s
+opened_with : (c : Container) (cursor : Cursor) (table : List NumberedCall) (bytes : List ℕ) (all : List Entry) → c.cursor ≡ Some cursor → StandsOrRecalls c.cursor c.position c.joiner.taking c.streams.kept table bytes all
+    → StandsOrRecalls (Some cursor) c.position c.joiner.taking c.streams.kept table bytes all
+opened_with c cursor table bytes all some s = subst (λ (n : Option Cursor). StandsOrRecalls n c.position c.joiner.taking c.streams.kept table bytes all) some s
 
 -- the streams of a connection are whole with these bytes
-first_kept : (old mid : Container) (table : List NumberedCall) (bytes : List ℕ) (all : List Entry) (piece : List ℕ) → old.cursor ≡ None → StandsOrRecalls old.cursor old.position old.joiner.taking old.streams table bytes all
-    → Arrives (unpacking_of old.position old.joiner.taking old.streams) piece (Some events.Streams) mid.position mid.joiner.taking mid.streams → StandsOrRecalls (Some first_cursor) mid.position mid.joiner.taking mid.streams table (bytes ++ piece) all
+first_kept : (old mid : Container) (table : List NumberedCall) (bytes : List ℕ) (all : List Entry) (piece : List ℕ) → old.cursor ≡ None → StandsOrRecalls old.cursor old.position old.joiner.taking old.streams.kept table bytes all
+    → Arrives (unpacking_of old.position old.joiner.taking old.streams.kept) piece (Some events.Streams) mid.position mid.joiner.taking mid.streams.kept → StandsOrRecalls (Some first_cursor) mid.position mid.joiner.taking mid.streams.kept table (bytes ++ piece) all
 first_kept old mid table bytes all piece none s arrives =
-    streams_open mid table (bytes ++ piece) all (stands_met old.position old.joiner.taking old.streams mid table bytes all piece events.Streams (Some events.Streams) (unopened_at old table bytes all none s) refl arrives)
+    streams_open mid table (bytes ++ piece) all (stands_met old.position old.joiner.taking old.streams.kept mid table bytes all piece events.Streams (Some events.Streams) (unopened_at old table bytes all none s) refl arrives)
 
 one_event : (came : Option Event) (event one : Event) → came ≡ Some event → came ≡ Some one → one ≡ event
 one_event came event one is also = cc
 
-module _ (old new : Container) (table : List NumberedCall) (bytes : List ℕ) (all : List Entry) (piece : List ℕ) (came : Option Event) (s : StandsOrRecalls old.cursor old.position old.joiner.taking old.streams table bytes all) where
+module _ (old new : Container) (table : List NumberedCall) (bytes : List ℕ) (all : List Entry) (piece : List ℕ) (came : Option Event) (s : StandsOrRecalls old.cursor old.position old.joiner.taking old.streams.kept table bytes all) where
   pub comes_on : came ≡ None → Leaves came new.joiner.taking → Comes old new piece came → HasCome new table (bytes ++ piece) all
   comes_on is leaves (FromFile none unopened arrives) =
       come_at_rest new table (bytes ++ piece) all unopened (subst (λ (e : Option Event). Leaves e new.joiner.taking) is leaves)
-      (stands_on old.position new.position old.joiner.taking new.joiner.taking old.streams new.streams table bytes all piece came (unopened_at old table bytes all none s) is arrives)
+      (stands_on old.position new.position old.joiner.taking new.joiner.taking old.streams.kept new.streams.kept table bytes all piece came (unopened_at old table bytes all none s) is arrives)
   comes_on is leaves (FirstKept mid one none arrives stored also recalled) = absurd (cc)
   comes_on is leaves (NextKept cursor one some nothing also recalled) = absurd (cc)
 
   pub comes_meets : (event : Event) → came ≡ Some event → Leaves came new.joiner.taking → IsStored old → Comes old new piece came → MeetsEvent new table event (bytes ++ piece) all
   comes_meets event is leaves stored (FromFile none unopened arrives) =
-      inl (unopened, stands_met old.position old.joiner.taking old.streams new table bytes all piece event came (unopened_at old table bytes all none s) is arrives)
+      inl (unopened, stands_met old.position old.joiner.taking old.streams.kept new table bytes all piece event came (unopened_at old table bytes all none s) is arrives)
   comes_meets event is leaves stored (FirstKept mid one none arrives whole also recalled) =
       subst (λ (e : Event). MeetsEvent new table e (bytes ++ piece) all) (one_event came event one is also)
-      (recalled_meets first_cursor mid new table (bytes ++ piece) all (first_kept old mid table bytes all piece none s arrives) one (subst (λ (e : Option Event). Leaves e new.joiner.taking) also leaves) (stored_first mid.position mid.streams whole) recalled)
+      (recalled_meets first_cursor mid new table (bytes ++ piece) all (first_kept old mid table bytes all piece none s arrives) one (subst (λ (e : Option Event). Leaves e new.joiner.taking) also leaves) (stored_first mid.position mid.streams.kept whole) recalled)
   comes_meets event is leaves stored (NextKept cursor one some nothing also recalled) =
       let same : bytes ++ piece ≡ bytes = ap (λ (b : List ℕ). bytes ++ b) nothing ∙ append-nil bytes in
       subst (λ (e : Event). MeetsEvent new table e (bytes ++ piece) all) (one_event came event one is also)
       (subst (λ (b : List ℕ). MeetsEvent new table one b all) (sym same)
       (recalled_meets cursor old new table bytes all (opened_with old cursor table bytes all some s) one (subst (λ (e : Option Event). Leaves e new.joiner.taking) also leaves)
-      (subst (λ (n : Option Cursor). AreStored old.position n old.streams) some stored) recalled))
+      (subst (λ (n : Option Cursor). AreStored old.position n old.streams.kept) some stored) recalled))
 
-pub comes_to_fault : (old : Container) (table : List NumberedCall) (bytes : List ℕ) (all : List Entry) (piece : List ℕ) (error : Error) → StandsOrRecalls old.cursor old.position old.joiner.taking old.streams table bytes all → ComesToFault old piece error → FailsAt (bytes ++ piece) all error
-comes_to_fault old table bytes all piece error s (InFile none fails) = stands_fails old.position old.joiner.taking old.streams table bytes all piece error (unopened_at old table bytes all none s) fails
+pub comes_to_fault : (old : Container) (table : List NumberedCall) (bytes : List ℕ) (all : List Entry) (piece : List ℕ) (error : Error) → StandsOrRecalls old.cursor old.position old.joiner.taking old.streams.kept table bytes all → ComesToFault old piece error → FailsAt (bytes ++ piece) all error
+comes_to_fault old table bytes all piece error s (InFile none fails) = stands_fails old.position old.joiner.taking old.streams.kept table bytes all piece error (unopened_at old table bytes all none s) fails
 comes_to_fault old table bytes all piece error s (InFirstKept mid n none arrives fails) =
     fails_longer bytes piece n all error
-    (recall_fails first_cursor mid.position mid.joiner.taking mid.streams table (bytes ++ take n piece) all error (first_kept old mid table bytes all (take n piece) none s arrives) fails)
+    (recall_fails first_cursor mid.position mid.joiner.taking mid.streams.kept table (bytes ++ take n piece) all error (first_kept old mid table bytes all (take n piece) none s arrives) fails)
 comes_to_fault old table bytes all piece error s (InNextKept cursor some fails) =
-    fails_longer bytes piece 0 all error (subst (λ (b : List ℕ). FailsAt b all error) (sym (append-nil bytes)) (recall_fails cursor old.position old.joiner.taking old.streams table bytes all error (opened_with old cursor table bytes all some s) fails))
+    fails_longer bytes piece 0 all error (subst (λ (b : List ℕ). FailsAt b all error) (sym (append-nil bytes)) (recall_fails cursor old.position old.joiner.taking old.streams.kept table bytes all error (opened_with old cursor table bytes all some s) fails))

@@ -146,10 +146,10 @@ not_recalling None answer is untrue = refl
 not_recalling (Some one) answer is untrue = absurd (cc)
 
 -- all bytes are taken, and no streams are judged
-pub judged_all : (c : Container) (table : List NumberedCall) (bytes all : List ℕ) (model : List Entry) → bytes ≡ all → c.cursor ≡ None → HasCome c table bytes model → StandsAt c.position (released c.joiner.taking) c.streams table all model
+pub judged_all : (c : Container) (table : List NumberedCall) (bytes all : List ℕ) (model : List Entry) → bytes ≡ all → c.cursor ≡ None → HasCome c table bytes model → StandsAt c.position (released c.joiner.taking) c.streams.kept table all model
 judged_all c table bytes all model is none h =
-    subst (λ (b : List ℕ). StandsAt c.position (released c.joiner.taking) c.streams table b model) is
-    (subst (λ (cursor : Option Cursor). StandsOrRecalls cursor c.position (released c.joiner.taking) c.streams table bytes model) none h)
+    subst (λ (b : List ℕ). StandsAt c.position (released c.joiner.taking) c.streams.kept table b model) is
+    (subst (λ (cursor : Option Cursor). StandsOrRecalls cursor c.position (released c.joiner.taking) c.streams.kept table bytes model) none h)
 
 abbrev pub Keeps : Container → List NumberedCall → List ℕ → List kept.Entry → Type 0
 Keeps c table bytes items = (model : List Entry) × HasCome c table bytes model × AreKept items model

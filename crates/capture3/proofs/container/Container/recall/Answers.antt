@@ -7,7 +7,7 @@ use Rattle.capture3.proofs.container.Container.recall.Goals as goal
 
 pub returns-in-Ok-default-Record-clause-stored : goal.returns-in-Ok-default-Record-clause-stored
 returns-in-Ok-default-Record-clause-stored c =
-    let stored : AreStored c.args.self.now.position (Some c.args.cursor) c.args.self.now.streams = rw c.requires.here at c.requires.stored in
+    let stored : AreStored c.args.self.now.position (Some c.args.cursor) c.args.self.now.streams.kept = rw c.requires.here at c.requires.stored in
     let running : IsRunning c.args.self.now.joiner.taking = subst IsRunning (sym c.requires.unbegun) tt in
     let some : 0 < c.in-Ok-default-Record.count = record_takes _ _ _ _ (c.in-Ok-default-Record.ensures.stops running c.in-Ok-default-Record.field-0-1-is) in
     rw c.with_records-self.ensures
@@ -15,5 +15,5 @@ returns-in-Ok-default-Record-clause-stored c =
 
 pub returns-in-Ok-default-More-clause-stored : goal.returns-in-Ok-default-More-clause-stored
 returns-in-Ok-default-More-clause-stored c =
-    let stored : AreStored c.args.self.now.position (Some c.args.cursor) c.args.self.now.streams = rw c.requires.here at c.requires.stored in
-    stored_end c.args.cursor c.args.self.now.position _ c.args.self.now.streams _ _ c.recall_end.result stored c.recall_end.ensures.client c.recall_end.ensures.server
+    let stored : AreStored c.args.self.now.position (Some c.args.cursor) c.args.self.now.streams.kept = rw c.requires.here at c.requires.stored in
+    stored_end c.args.cursor c.args.self.now.position _ c.args.self.now.streams.kept _ _ c.recall_end.result stored c.recall_end.ensures.client c.recall_end.ensures.server
