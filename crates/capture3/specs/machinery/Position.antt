@@ -223,6 +223,13 @@ abbrev pub KeepsStreams : Position → Taken → Type 0
 KeepsStreams before taken = (streams : sided.Streams) → StoredAt before.spot before.total streams
     → StoredWith taken.event taken.position streams
 
+-- a step of the container, with which no record becomes whole
+pub record StepsFrom (before : Position) (taken : Taken) : Type 0 where
+  pub sound : IsSoundPosition taken.position
+  pub event : IsOfContainer taken.event
+  pub room : TakesRoom before taken
+  pub stored : KeepsStreams before taken
+
 -- the machine goes there, or to the fault
 abbrev pub MovesFrom : Position → Joining → List ℕ → Result Taken Error → Type 0
 MovesFrom before joining bytes result = (streams : sided.Streams)

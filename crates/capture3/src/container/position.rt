@@ -2,7 +2,7 @@
 
 ghost use Rattle.std.specs.Prelude.{◌≡◌, ◌≤◌, ◌<◌, ◌+◌, ◌-◌, ◌^◌, [], length, IfErr, IfOk, None, Some, if◌then◌else◌};
 ghost use Rattle.capture3.specs.Capture.{Two};
-ghost use Rattle.capture3.specs.machinery.Position.{AreEmpty, HasCounts, IsBeforeMark, IsBeforeStream, IsOfContainer, IsOpenBody, IsSoundPosition, KeepsStreams, landed_at, Lands, most_things, MovesFrom, room_of, StoredAt, TakesRoom, TakesSome, unpacking_at, version_of};
+ghost use Rattle.capture3.specs.machinery.Position.{AreEmpty, HasCounts, IsBeforeMark, IsBeforeStream, IsOpenBody, IsSoundPosition, KeepsStreams, landed_at, Lands, most_things, MovesFrom, room_of, StepsFrom, StoredAt, TakesRoom, TakesSome, unpacking_at, version_of};
 ghost use Rattle.capture3.specs.SidedChunks as kept;
 ghost use Rattle.capture3.specs.SidedChunks.{gathered};
 ghost use Rattle.capture3.specs.machinery.ContainerMachine.{begun_at, stream_ended, chunk_counted, in_chunk, connection_marked};
@@ -117,9 +117,7 @@ impl Position {
         requires here { self.spot ≡ Spot.Magic }
         requires some { 0 < length rest.now }
         ensures taken { IfOk result (TakesSome self rest.now) }
-        ensures event { IfOk result (λ taken. IsOfContainer taken.event) }
-        ensures room { IfOk result (TakesRoom self) }
-        ensures stored { IfOk result (KeepsStreams self) }
+        ensures steps { IfOk result (StepsFrom self) }
         ensures machine { (joining : Joining) → MovesFrom self joining rest.now result }
     {
         let from = self.at as usize;
@@ -145,9 +143,7 @@ impl Position {
         requires here { self.spot ≡ Spot.Digit }
         requires some { 0 < length rest.now }
         ensures taken { IfOk result (TakesSome self rest.now) }
-        ensures event { IfOk result (λ taken. IsOfContainer taken.event) }
-        ensures room { IfOk result (TakesRoom self) }
-        ensures stored { IfOk result (KeepsStreams self) }
+        ensures steps { IfOk result (StepsFrom self) }
         ensures machine { (joining : Joining) → MovesFrom self joining rest.now result }
     {
         match rest[0] {
@@ -185,9 +181,7 @@ impl Position {
         requires here { self.spot ≡ Spot.Mark version part }
         requires some { 0 < length rest.now }
         ensures taken { IfOk result (TakesSome self rest.now) }
-        ensures event { IfOk result (λ taken. IsOfContainer taken.event) }
-        ensures room { IfOk result (TakesRoom self) }
-        ensures stored { IfOk result (KeepsStreams self) }
+        ensures steps { IfOk result (StepsFrom self) }
         ensures machine { (joining : Joining) → MovesFrom self joining rest.now result }
     {
         let (count, word) = part.taken(rest);
@@ -208,10 +202,7 @@ impl Position {
         requires sound { IsSoundPosition self }
         requires here { self.spot ≡ Spot.Mark version part }
         ensures count { IfOk result (λ taken. taken.count ≡ count) }
-        ensures sound { IfOk result (λ taken. IsSoundPosition taken.position) }
-        ensures room { IfOk result (TakesRoom self) }
-        ensures stored { IfOk result (KeepsStreams self) }
-        ensures event { IfOk result (λ taken. IsOfContainer taken.event) }
+        ensures steps { IfOk result (StepsFrom self) }
         ensures machine { (streams : kept.Streams) (joining : Joining)
             → StoredAt self.spot self.total streams
             → Lands (connection_marked (version_of version) self.at self.total self.connections
@@ -238,9 +229,7 @@ impl Position {
         requires here { self.spot ≡ Spot.Length side part }
         requires some { 0 < length rest.now }
         ensures taken { IfOk result (TakesSome self rest.now) }
-        ensures event { IfOk result (λ taken. IsOfContainer taken.event) }
-        ensures room { IfOk result (TakesRoom self) }
-        ensures stored { IfOk result (KeepsStreams self) }
+        ensures steps { IfOk result (StepsFrom self) }
         ensures machine { (joining : Joining) → IsOpenBody so_far joining
             → MovesFrom self joining rest.now result }
     {
@@ -263,10 +252,7 @@ impl Position {
         requires sound { IsSoundPosition self }
         requires here { self.spot ≡ Spot.Length side part }
         ensures count { IfOk result (λ taken. taken.count ≡ count) }
-        ensures sound { IfOk result (λ taken. IsSoundPosition taken.position) }
-        ensures room { IfOk result (TakesRoom self) }
-        ensures stored { IfOk result (KeepsStreams self) }
-        ensures event { IfOk result (λ taken. IsOfContainer taken.event) }
+        ensures steps { IfOk result (StepsFrom self) }
         ensures machine { (streams : kept.Streams) (joining : Joining) → IsOpenBody so_far joining
             → Lands
             (Ends (stream_ended self.at self.total self.connections self.records side joining))
@@ -290,10 +276,7 @@ impl Position {
         requires here { self.spot ≡ Spot.Length side part }
         requires some { 0 < len }
         ensures count { IfOk result (λ taken. taken.count ≡ count) }
-        ensures sound { IfOk result (λ taken. IsSoundPosition taken.position) }
-        ensures room { IfOk result (TakesRoom self) }
-        ensures stored { IfOk result (KeepsStreams self) }
-        ensures event { IfOk result (λ taken. IsOfContainer taken.event) }
+        ensures steps { IfOk result (StepsFrom self) }
         ensures machine { (streams : kept.Streams) (joining : Joining)
             → Lands
             (chunk_counted self.at self.total self.connections self.records side joining len)
@@ -405,9 +388,7 @@ impl Position {
         requires here { self.spot ≡ Spot.Mark version part }
         requires few { self.connections < MAX_CONNECTIONS }
         ensures count { result.count ≡ count }
-        ensures sound { IsSoundPosition result.position }
-        ensures room { TakesRoom self result }
-        ensures stored { KeepsStreams self result }
+        ensures steps { StepsFrom self result }
         ensures event { result.event ≡ Some Event.Begin }
         ensures machine { (streams : kept.Streams) (joining : Joining) → AreEmpty streams
             → unpacking_at result.position streams joining ≡ begun_at
@@ -432,10 +413,7 @@ impl Position {
         requires sound { IsSoundPosition self }
         requires here { self.spot ≡ Spot.Length side part }
         ensures count { result.count ≡ count }
-        ensures sound { IsSoundPosition result.position }
-        ensures room { TakesRoom self result }
-        ensures stored { KeepsStreams self result }
-        ensures event { IsOfContainer result.event }
+        ensures steps { StepsFrom self result }
         ensures machine { (streams : kept.Streams)
             → landed_at result.event streams (unpacking_at result.position streams Between) ≡ Stops
             (stream_ended self.at self.total self.connections self.records side Between) }

@@ -2,7 +2,7 @@
 
 ghost use Rattle.std.specs.Prelude.{◌≡◌, ◌≤◌, ◌<◌, ◌+◌, ◌-◌, ◌^◌, [], length, IfOk, None, Some};
 ghost use Rattle.capture3.specs.Capture.{Two};
-ghost use Rattle.capture3.specs.machinery.Position.{HasCounts, IsBeforeMark, IsBeforeSideLength, IsBeforeSides, IsOfContainer, IsSoundPosition, KeepsStreams, Lands, MovesFrom, room_of, StoredAt, TakesRoom, TakesSome, unpacking_at};
+ghost use Rattle.capture3.specs.machinery.Position.{HasCounts, IsBeforeMark, IsBeforeSideLength, IsBeforeSides, IsSoundPosition, KeepsStreams, Lands, MovesFrom, room_of, StepsFrom, StoredAt, TakesRoom, TakesSome, unpacking_at};
 ghost use Rattle.capture3.specs.SidedChunks as kept;
 ghost use Rattle.capture3.specs.SidedChunks.{gathered, size};
 ghost use Rattle.capture3.specs.machinery.ContainerMachine.{in_side_chunk, sides_counted, sides_marked};
@@ -40,9 +40,7 @@ impl Position {
         requires here { self.spot ≡ Spot.Side part }
         requires some { 0 < length rest.now }
         ensures taken { IfOk result (TakesSome self rest.now) }
-        ensures event { IfOk result (λ taken. IsOfContainer taken.event) }
-        ensures room { IfOk result (TakesRoom self) }
-        ensures stored { IfOk result (KeepsStreams self) }
+        ensures steps { IfOk result (StepsFrom self) }
         ensures machine { (joining : Joining) → MovesFrom self joining rest.now result }
     {
         let (count, word) = part.taken(rest);
@@ -57,10 +55,7 @@ impl Position {
         requires sound { IsSoundPosition self }
         requires here { self.spot ≡ Spot.Side part }
         ensures count { IfOk result (λ taken. taken.count ≡ count) }
-        ensures sound { IfOk result (λ taken. IsSoundPosition taken.position) }
-        ensures room { IfOk result (TakesRoom self) }
-        ensures stored { IfOk result (KeepsStreams self) }
-        ensures event { IfOk result (λ taken. IsOfContainer taken.event) }
+        ensures steps { IfOk result (StepsFrom self) }
         ensures machine { (streams : kept.Streams) (joining : Joining)
             → Lands (sides_marked self.at self.total self.connections self.records streams
             joining n) streams joining result }
@@ -85,9 +80,7 @@ impl Position {
         requires here { self.spot ≡ Spot.SideLength side part }
         requires some { 0 < length rest.now }
         ensures taken { IfOk result (TakesSome self rest.now) }
-        ensures event { IfOk result (λ taken. IsOfContainer taken.event) }
-        ensures room { IfOk result (TakesRoom self) }
-        ensures stored { IfOk result (KeepsStreams self) }
+        ensures steps { IfOk result (StepsFrom self) }
         ensures machine { (joining : Joining) → MovesFrom self joining rest.now result }
     {
         let (count, word) = part.taken(rest);
@@ -108,10 +101,7 @@ impl Position {
         requires sound { IsSoundPosition self }
         requires here { self.spot ≡ Spot.SideLength side part }
         ensures count { IfOk result (λ taken. taken.count ≡ count) }
-        ensures sound { IfOk result (λ taken. IsSoundPosition taken.position) }
-        ensures room { IfOk result (TakesRoom self) }
-        ensures stored { IfOk result (KeepsStreams self) }
-        ensures event { IfOk result (λ taken. IsOfContainer taken.event) }
+        ensures steps { IfOk result (StepsFrom self) }
         ensures machine { (streams : kept.Streams) (joining : Joining)
             → Lands (sides_counted self.at self.total self.connections self.records streams side
             joining len) streams joining result }

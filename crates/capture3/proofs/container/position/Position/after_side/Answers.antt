@@ -7,8 +7,3 @@ pub returns-in-0-clause-machine : goal.returns-in-0-clause-machine
 returns-in-0-clause-machine c streams joining =
     let is : c.args.n ≡ 0 = c.in-0.is in
     rw (is, c.streams_gathered.ensures.event, c.streams_gathered.ensures.machine streams joining) refl
-
-pub returns-in-0-clause-stored : goal.returns-in-0-clause-stored
-returns-in-0-clause-stored c streams stored =
-    let few : size streams ≤ c.args.self.total = subst (λ spot. StoredAt spot c.args.self.total streams) c.requires.here stored in
-    rw c.streams_gathered.ensures.event (omega (arith, few, c.streams_gathered.ensures.counts.0), c.streams_gathered.ensures.counts.2, c.streams_gathered.ensures.spot)
