@@ -1,4 +1,3 @@
-pub mod ShapeTailLemmas
 pub mod ProtocolParts
 pub mod ProcedureParts
 pub mod HeadParts

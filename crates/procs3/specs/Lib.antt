@@ -2,4 +2,3 @@
 pub mod Shapes
 pub mod Table
 pub mod Names
-pub mod machinery

@@ -1,5 +1,6 @@
 //! Parts of messages, passed to a visitor as they are read.
 
+pub(crate) mod both;
 pub(crate) mod creation;
 pub(crate) mod directories;
 pub(crate) mod file_system;

@@ -1,97 +1,266 @@
-//! Items with long names, passed to a visitor as they are read: the prover follows a function's
-//! name, and not that many letters (RFC 1813, sections 3.3.7 to 3.3.20).
+//! Single items of arguments and results, passed to a visitor as they are read: what structs are
+//! made of besides the parts in `nfs3_types` (RFC 1813, section 3.3).
+#![tactic(auto, using(xdr3::proofs::Lemmas::Scans::ScanLemmas::scans), unfolding(nfs3_types::specs::Names::names))]
 
-ghost use Rattle.std.specs.Prelude.{IfErr, IfOk, OnOk};
 ghost use Rattle.nfs3_types.specs.Names.{names};
+ghost use Rattle.nfs3_types.specs.Shapes.{no_maximum};
 ghost use Rattle.nfs3_types.specs.Stable.{stable_words};
-ghost use Rattle.xdr3.specs.Scan.{Scans, ScansWord, Stops, StopsWord};
-ghost use Rattle.xdr3.specs.Shape.{boolean, fixed, is_listed, word};
+ghost use Rattle.xdr3.specs.Item.{Text, Var};
+ghost use Rattle.xdr3.specs.Scan.{Scans};
+ghost use Rattle.xdr3.specs.Shape.{boolean, fixed, hyper, listed, opaque, word, write_verf};
 
-use xdr3::{GetError, Input, Reason, Visit, scan_boolean, scan_fixed, scan_listed, scan_word};
+use xdr3::{
+    GetError, Input, Scan, Visit, scan_boolean, scan_fixed, scan_hyper, scan_listed, scan_text,
+    scan_var, scan_word, scan_write_verf,
+};
 
-#[inline]
-#[tactic(auto, using(xdr3::proofs::Lemmas::Scans::ScanLemmas::scans), unfolding(nfs3_types::specs::Names::names))]
-pub(crate) fn scan_createverf<V: Visit>(input: &mut Input, visitor: &mut V) -> Result<(), GetError>
-    ensures ok { OnOk result
-        (Scans V.stands (fixed names.createverf) input.old input.new visitor.old visitor.new) }
-    ensures err { IfErr result (λ error. Stops (fixed names.createverf) input.old error) }
-{
-    scan_fixed("createverf", input, visitor)
+/// Which accesses are asked for, or granted (RFC 1813, section 3.3.4).
+pub(crate) struct Access;
+
+impl Scan for Access {
+    ghost shape = { word names.access };
+
+    #[inline]
+    fn scan<V: Visit>(input: &mut Input, visitor: &mut V) -> Result<(), GetError> {
+        scan_word("access", input, visitor)?;
+        Ok(())
+    }
 }
 
-#[inline]
-#[tactic(auto, using(xdr3::proofs::Lemmas::Scans::ScanLemmas::scans), unfolding(nfs3_types::specs::Names::names))]
-pub(crate) fn scan_cookieverf<V: Visit>(input: &mut Input, visitor: &mut V) -> Result<(), GetError>
-    ensures ok { OnOk result
-        (Scans V.stands (fixed names.cookieverf) input.old input.new visitor.old visitor.new) }
-    ensures err { IfErr result (λ error. Stops (fixed names.cookieverf) input.old error) }
-{
-    scan_fixed("cookieverf", input, visitor)
+/// nfspath3: what a symbolic link contains (RFC 1813, sections 2.5 and 3.3.5).
+pub(crate) struct Path;
+
+impl Scan for Path {
+    ghost shape = { opaque Text names.path no_maximum };
+
+    #[inline]
+    fn scan<V: Visit>(input: &mut Input, visitor: &mut V) -> Result<(), GetError> {
+        scan_text("path", u32::MAX, input, visitor)
+    }
 }
 
-#[inline]
-#[tactic(auto, using(xdr3::proofs::Lemmas::Scans::ScanLemmas::scans), unfolding(nfs3_types::specs::Names::names))]
-pub(crate) fn scan_name_max<V: Visit>(input: &mut Input, visitor: &mut V) -> Result<(), GetError>
-    ensures ok { OnOk result
-        (Scans V.stands (word names.name_max) input.old input.new visitor.old visitor.new) }
-    ensures err { IfErr result (λ error. Stops (word names.name_max) input.old error) }
-{
-    scan_word("name_max", input, visitor)?;
-    Ok(())
+/// offset3: where data is written (RFC 1813, sections 2.5 and 3.3.7).
+pub(crate) struct Offset;
+
+impl Scan for Offset {
+    ghost shape = { hyper names.offset };
+
+    #[inline]
+    fn scan<V: Visit>(input: &mut Input, visitor: &mut V) -> Result<(), GetError> {
+        scan_hyper("offset", input, visitor)
+    }
 }
 
-#[inline]
-#[tactic(auto, using(xdr3::proofs::Lemmas::Scans::ScanLemmas::scans), unfolding(nfs3_types::specs::Names::names))]
-pub(crate) fn scan_chown_restricted<V: Visit>(
-    input: &mut Input,
-    visitor: &mut V,
-) -> Result<(), GetError>
-    ensures ok { OnOk result
-        (Scans V.stands (boolean names.chown_restricted) input.old input.new visitor.old
-        visitor.new) }
-    ensures err { IfErr result (λ error. Stops (boolean names.chown_restricted) input.old error) }
-{
-    scan_boolean("chown_restricted", input, visitor)?;
-    Ok(())
+/// count3: a number of bytes (RFC 1813, section 2.5).
+pub(crate) struct Count;
+
+impl Scan for Count {
+    ghost shape = { word names.count };
+
+    #[inline]
+    fn scan<V: Visit>(input: &mut Input, visitor: &mut V) -> Result<(), GetError> {
+        scan_word("count", input, visitor)?;
+        Ok(())
+    }
 }
 
-#[inline]
-#[tactic(auto, using(xdr3::proofs::Lemmas::Scans::ScanLemmas::scans), unfolding(nfs3_types::specs::Names::names))]
-pub(crate) fn scan_case_insensitive<V: Visit>(
-    input: &mut Input,
-    visitor: &mut V,
-) -> Result<(), GetError>
-    ensures ok { OnOk result
-        (Scans V.stands (boolean names.case_insensitive) input.old input.new visitor.old
-        visitor.new) }
-    ensures err { IfErr result (λ error. Stops (boolean names.case_insensitive) input.old error) }
-{
-    scan_boolean("case_insensitive", input, visitor)?;
-    Ok(())
+/// Whether the end of a file or a directory was reached (RFC 1813, sections 3.3.6 and 3.3.16).
+pub(crate) struct Eof;
+
+impl Scan for Eof {
+    ghost shape = { boolean names.eof };
+
+    #[inline]
+    fn scan<V: Visit>(input: &mut Input, visitor: &mut V) -> Result<(), GetError> {
+        scan_boolean("eof", input, visitor)?;
+        Ok(())
+    }
 }
 
-#[inline]
-#[tactic(auto, using(xdr3::proofs::Lemmas::Scans::ScanLemmas::scans), unfolding(nfs3_types::specs::Names::names))]
-pub(crate) fn scan_case_preserving<V: Visit>(
-    input: &mut Input,
-    visitor: &mut V,
-) -> Result<(), GetError>
-    ensures ok { OnOk result (Scans V.stands
-        (boolean names.case_preserving) input.old input.new visitor.old visitor.new) }
-    ensures err { IfErr result (λ error. Stops (boolean names.case_preserving) input.old error) }
-{
-    scan_boolean("case_preserving", input, visitor)?;
-    Ok(())
+/// The data of a file (RFC 1813, sections 3.3.6 and 3.3.7).
+pub(crate) struct Data;
+
+impl Scan for Data {
+    ghost shape = { opaque Var names.«data» no_maximum };
+
+    #[inline]
+    fn scan<V: Visit>(input: &mut Input, visitor: &mut V) -> Result<(), GetError> {
+        scan_var("data", u32::MAX, input, visitor)
+    }
 }
 
-#[inline]
-#[tactic(auto, unfolding(nfs3_types::specs::Names::names))]
-pub(crate) fn scan_committed<V: Visit>(input: &mut Input, visitor: &mut V) -> Result<u32, GetError>
-    ensures ok { IfOk result
-        (λ n. ScansWord V.stands names.committed
-        (is_listed stable_words) Reason.BadEnum n input.old input.new visitor.old visitor.new) }
-    ensures err { IfErr result
-        (λ error. StopsWord (is_listed stable_words) Reason.BadEnum input.old error) }
-{
-    scan_listed("committed", &[0, 1, 2], input, visitor)
+/// stable_how: how data is to be kept (RFC 1813, section 3.3.7).
+pub(crate) struct StableHow;
+
+impl Scan for StableHow {
+    ghost shape = { listed names.stable stable_words };
+
+    #[inline]
+    fn scan<V: Visit>(input: &mut Input, visitor: &mut V) -> Result<(), GetError> {
+        scan_listed("stable", &[0, 1, 2], input, visitor)?;
+        Ok(())
+    }
+}
+
+/// stable_how: how data was kept (RFC 1813, section 3.3.7).
+pub(crate) struct Committed;
+
+impl Scan for Committed {
+    ghost shape = { listed names.committed stable_words };
+
+    #[inline]
+    fn scan<V: Visit>(input: &mut Input, visitor: &mut V) -> Result<(), GetError> {
+        scan_listed("committed", &[0, 1, 2], input, visitor)?;
+        Ok(())
+    }
+}
+
+/// writeverf3 (RFC 1813, section 3.3.7).
+pub(crate) struct WriteVerf;
+
+impl Scan for WriteVerf {
+    ghost shape = { write_verf names.verf };
+
+    #[inline]
+    fn scan<V: Visit>(input: &mut Input, visitor: &mut V) -> Result<(), GetError> {
+        scan_write_verf("verf", input, visitor)
+    }
+}
+
+/// createverf3 (RFC 1813, section 3.3.8).
+pub(crate) struct CreateVerf;
+
+impl Scan for CreateVerf {
+    ghost shape = { fixed names.createverf };
+
+    #[inline]
+    fn scan<V: Visit>(input: &mut Input, visitor: &mut V) -> Result<(), GetError> {
+        scan_fixed("createverf", input, visitor)
+    }
+}
+
+/// fileid3: the number of a file (RFC 1813, sections 2.5 and 3.3.16).
+pub(crate) struct FileId;
+
+impl Scan for FileId {
+    ghost shape = { hyper names.fileid };
+
+    #[inline]
+    fn scan<V: Visit>(input: &mut Input, visitor: &mut V) -> Result<(), GetError> {
+        scan_hyper("fileid", input, visitor)
+    }
+}
+
+/// filename3 (RFC 1813, sections 2.5 and 3.3.16).
+pub(crate) struct FileName;
+
+impl Scan for FileName {
+    ghost shape = { opaque Text names.name no_maximum };
+
+    #[inline]
+    fn scan<V: Visit>(input: &mut Input, visitor: &mut V) -> Result<(), GetError> {
+        scan_text("name", u32::MAX, input, visitor)
+    }
+}
+
+/// cookie3: a position in a directory (RFC 1813, section 3.3.16).
+pub(crate) struct Cookie;
+
+impl Scan for Cookie {
+    ghost shape = { hyper names.cookie };
+
+    #[inline]
+    fn scan<V: Visit>(input: &mut Input, visitor: &mut V) -> Result<(), GetError> {
+        scan_hyper("cookie", input, visitor)
+    }
+}
+
+/// cookieverf3 (RFC 1813, section 3.3.16).
+pub(crate) struct CookieVerf;
+
+impl Scan for CookieVerf {
+    ghost shape = { fixed names.cookieverf };
+
+    #[inline]
+    fn scan<V: Visit>(input: &mut Input, visitor: &mut V) -> Result<(), GetError> {
+        scan_fixed("cookieverf", input, visitor)
+    }
+}
+
+/// The most links of a file (RFC 1813, section 3.3.20).
+pub(crate) struct LinkMax;
+
+impl Scan for LinkMax {
+    ghost shape = { word names.linkmax };
+
+    #[inline]
+    fn scan<V: Visit>(input: &mut Input, visitor: &mut V) -> Result<(), GetError> {
+        scan_word("linkmax", input, visitor)?;
+        Ok(())
+    }
+}
+
+/// The most bytes of a name (RFC 1813, section 3.3.20).
+pub(crate) struct NameMax;
+
+impl Scan for NameMax {
+    ghost shape = { word names.name_max };
+
+    #[inline]
+    fn scan<V: Visit>(input: &mut Input, visitor: &mut V) -> Result<(), GetError> {
+        scan_word("name_max", input, visitor)?;
+        Ok(())
+    }
+}
+
+/// Whether longer names are refused (RFC 1813, section 3.3.20).
+pub(crate) struct NoTrunc;
+
+impl Scan for NoTrunc {
+    ghost shape = { boolean names.no_trunc };
+
+    #[inline]
+    fn scan<V: Visit>(input: &mut Input, visitor: &mut V) -> Result<(), GetError> {
+        scan_boolean("no_trunc", input, visitor)?;
+        Ok(())
+    }
+}
+
+/// Whether only a privileged user changes owners (RFC 1813, section 3.3.20).
+pub(crate) struct ChownRestricted;
+
+impl Scan for ChownRestricted {
+    ghost shape = { boolean names.chown_restricted };
+
+    #[inline]
+    fn scan<V: Visit>(input: &mut Input, visitor: &mut V) -> Result<(), GetError> {
+        scan_boolean("chown_restricted", input, visitor)?;
+        Ok(())
+    }
+}
+
+/// Whether case is ignored in names (RFC 1813, section 3.3.20).
+pub(crate) struct CaseInsensitive;
+
+impl Scan for CaseInsensitive {
+    ghost shape = { boolean names.case_insensitive };
+
+    #[inline]
+    fn scan<V: Visit>(input: &mut Input, visitor: &mut V) -> Result<(), GetError> {
+        scan_boolean("case_insensitive", input, visitor)?;
+        Ok(())
+    }
+}
+
+/// Whether case is kept in names (RFC 1813, section 3.3.20).
+pub(crate) struct CasePreserving;
+
+impl Scan for CasePreserving {
+    ghost shape = { boolean names.case_preserving };
+
+    #[inline]
+    fn scan<V: Visit>(input: &mut Input, visitor: &mut V) -> Result<(), GetError> {
+        scan_boolean("case_preserving", input, visitor)?;
+        Ok(())
+    }
 }
