@@ -3,3 +3,5 @@ pub mod Limits
 pub mod Messages
 pub mod MessageStartLemmas
 pub mod HeadScanLemmas
+pub mod HeadRunLemmas
+pub mod OwnerLemmas

@@ -1,17 +1,19 @@
 //! Credentials and verifiers, passed to a visitor as they are read (RFC 5531, sections 8.2 and 9,
 //! appendix A).
 
-ghost use Rattle.std.specs.Prelude.{IfErr, IfOk, OnOk};
+ghost use Rattle.std.specs.Prelude.{◌≤◌, IfErr, IfOk, OnOk};
 ghost use Rattle.rpc_head.specs.Shapes as shapes;
 ghost use Rattle.xdr3.specs.Scan.{Scans, ScansWord, Stops, StopsWord};
 ghost use Rattle.rpc_head.specs.Names.{head_names};
+ghost use Rattle.rpc_head.specs.machinery.HeadEnds.{credential_of, group_words, owner};
 ghost use Rattle.xdr3.specs.Item.{Text, Var};
 ghost use Rattle.xdr3.specs.Shape.{is_listed, opaque};
 
-use crate::scans::word::scan_listed_or;
+use crate::scans::word::{first_short, scan_listed_or, word_in};
 use crate::values::credential::{AuthSys, Cred, Parameters, Verf};
 use xdr3::{
-    GetError, Input, Reason, Scan, Visit, scan_counted, scan_sized, scan_text, scan_var, scan_word,
+    GetError, Input, PlainField, Reason, Scan, Stop, Visit, scan_plain, scan_sized, scan_text,
+    scan_var, scan_word,
 };
 
 // The prover follows the name of a function, but not the letters of a long name of an item.
@@ -81,32 +83,53 @@ pub(crate) fn scan_verf_body<V: Visit>(input: &mut Input, visitor: &mut V) -> Re
     scan_var("verf_body", 400, input, visitor)
 }
 
-/// A group of a credential (RFC 5531, appendix A).
-struct Group;
+/// The user, the group and the number of further groups of a caller.
+const OWNER: [PlainField; 3] = [
+    PlainField::Word("uid"),
+    PlainField::Word("gid"),
+    PlainField::Word("gids"),
+];
 
-impl Scan for Group {
-    ghost use Rattle.rpc_head.specs.Names.{head_names};
-    ghost use Rattle.xdr3.specs.Shape.{word};
+/// As many groups as a caller may have.
+const GROUPS: [PlainField; 16] = [PlainField::Word("group"); 16];
 
-    ghost shape = { word head_names.group };
-
-    #[inline]
-    #[tactic(auto, using(xdr3::proofs::Lemmas::Scans::ScanLemmas::scans), unfolding(crate::specs::Names::head_names))]
-    fn scan<V: Visit>(input: &mut Input, visitor: &mut V) -> Result<(), GetError> {
-        scan_word("group", input, visitor)?;
-        Ok(())
+/// Reads a caller's user, group and at most 16 further groups, and visits them in two runs (RFC
+/// 5531, appendix A).
+#[inline(always)]
+#[tactic(auto, unfolding(xdr3::specs::Scan::Stops))]
+fn scan_owner<V: Visit>(input: &mut Input, visitor: &mut V) -> Result<(), GetError>
+    ensures ok { OnOk result
+        (Scans V.stands owner input.old input.new visitor.old visitor.new) }
+    ensures err { IfErr result (λ error. Stops owner input.old error) }
+{
+    let at = input.at();
+    let Some(run) = input.run(12) else {
+        return Err(GetError::Stop(first_short(input)));
+    };
+    let count = word_in(run, 8);
+    if count > 16 {
+        return Err(GetError::Stop(Stop {
+            at: at + 8,
+            reason: Reason::TooLong,
+        }));
     }
+    visitor.plain(&OWNER, run)?;
+    scan_groups(count, input, visitor)
 }
 
-/// Reads at most 16 groups and visits them (RFC 5531, appendix A).
+/// Reads as many groups, and visits them at once.
 #[inline(always)]
-#[tactic(auto, unfolding(crate::specs::Shapes::gids, crate::specs::Names::head_names))]
-fn scan_gids<V: Visit>(input: &mut Input, visitor: &mut V) -> Result<(), GetError>
+fn scan_groups<V: Visit>(
+    count: u32,
+    input: &mut Input,
+    visitor: &mut V,
+) -> Result<(), GetError>
+    requires { count ≤ 16 }
     ensures ok { OnOk result
-        (Scans V.stands shapes.gids input.old input.new visitor.old visitor.new) }
-    ensures err { IfErr result (λ error. Stops shapes.gids input.old error) }
+        (Scans V.stands (group_words count) input.old input.new visitor.old visitor.new) }
+    ensures err { IfErr result (λ error. Stops (group_words count) input.old error) }
 {
-    scan_counted::<Group, V>("gids", 16, input, visitor)
+    scan_plain(&GROUPS[..count as usize], 4 * count, input, visitor)
 }
 
 impl<'a> Scan for Parameters<'a> {
@@ -115,7 +138,7 @@ impl<'a> Scan for Parameters<'a> {
     ghost shape = { parameters };
 
     #[inline(always)]
-    #[tactic(auto, using(xdr3::proofs::Lemmas::Scans::ScanLemmas::scans), unfolding(crate::specs::Shapes::parameters, crate::specs::Names::head_names))]
+    #[tactic(auto, using(xdr3::proofs::Lemmas::Scans::ScanLemmas::scans, crate::proofs::OwnerLemmas::whole_owners), unfolding(crate::specs::Shapes::parameters, crate::specs::Names::head_names))]
     fn scan<V: Visit>(input: &mut Input, visitor: &mut V) -> Result<(), GetError>
         ensures ok { OnOk result
             (Scans V.stands parameters input.old input.new visitor.old visitor.new) }
@@ -123,9 +146,7 @@ impl<'a> Scan for Parameters<'a> {
     {
         scan_word("stamp", input, visitor)?;
         scan_machinename(input, visitor)?;
-        scan_word("uid", input, visitor)?;
-        scan_word("gid", input, visitor)?;
-        scan_gids(input, visitor)
+        scan_owner(input, visitor)
     }
 }
 
@@ -157,11 +178,26 @@ impl<'a> Scan for Cred<'a> {
             (Scans V.stands credential input.old input.new visitor.old visitor.new) }
         ensures err { IfErr result (λ error. Stops credential input.old error) }
     {
-        if scan_cred_flavor(input, visitor)? == 0 {
-            scan_cred_body(input, visitor)
-        } else {
-            AuthSys::scan(input, visitor)
-        }
+        let flavor = scan_cred_flavor(input, visitor)?;
+        scan_credential(flavor, input, visitor)
+    }
+}
+
+/// Reads what follows the flavor of a credential, and visits it.
+#[inline(always)]
+pub(crate) fn scan_credential<V: Visit>(
+    flavor: u32,
+    input: &mut Input,
+    visitor: &mut V,
+) -> Result<(), GetError>
+    ensures ok { OnOk result
+        (Scans V.stands (credential_of flavor) input.old input.new visitor.old visitor.new) }
+    ensures err { IfErr result (λ error. Stops (credential_of flavor) input.old error) }
+{
+    if flavor == 0 {
+        scan_cred_body(input, visitor)
+    } else {
+        AuthSys::scan(input, visitor)
     }
 }
 

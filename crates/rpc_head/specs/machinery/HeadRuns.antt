@@ -1,0 +1,44 @@
+-- Words of heads that are read as one run.
+use Rattle.std.specs.Prelude.{◌≡◌, ℕ, ◌+◌, ◌*◌, ◌/◌, List, [], ◌∷◌, drop, Ok}
+use Rattle.byteorder.specs.Endian.{big_number}
+use Rattle.xdr3.specs.declared.reason.Reason.TheVariants.{BadEnum, Flavor, RpcVersion, Short}
+use Rattle.xdr3.specs.declared.reason.Stop.{Stop}
+use Rattle.xdr3.specs.Item.{Item, Word}
+use Rattle.xdr3.specs.Reading.{word_at}
+use Rattle.xdr3.specs.Shape.{is_any, is_listed}
+use Rattle.xdr3.specs.View.{MovesOn, View}
+use Rattle.xdr3.specs.Visit.{Adds}
+use Rattle.rpc_head.specs.declared.scans.call.Opening.{Opening}
+use Rattle.rpc_head.specs.Names.{head_names}
+use Rattle.rpc_head.specs.Shapes.{credential_flavors, rpc_versions}
+
+-- the stop at the first word that is not whole, of as many bytes of words from a place on
+abbrev pub short_after : ℕ → ℕ → Stop
+short_after at left = record { at = at + left / 4 * 4; reason = Short }
+
+-- what the second to the fifth word of a run say, of those that a call's head begins with
+unfoldable pub opening_in : List ℕ → Opening
+opening_in run =
+    record {
+      id =
+          record {
+            prog = big_number 4 (drop 4 run);
+            vers = big_number 4 (drop 8 run);
+            proc_no = big_number 4 (drop 12 run);
+          };
+      flavor = big_number 4 (drop 16 run);
+    }
+
+-- The words of a call's head up to the credential's flavor stand between two places of one body, and
+-- a visitor was told them.
+pub record ScansOpening {V : Type 0} (stands : V → List Item → Type 0) (opening : Opening) (old new : View) (before after : V) : Type 0 where
+  pub rpcvers : word_at (is_listed rpc_versions) RpcVersion old.body old.at ≡ Ok (2, old.at + 4)
+  pub prog : word_at is_any BadEnum old.body (old.at + 4) ≡ Ok (opening.id.prog, old.at + 8)
+  pub vers : word_at is_any BadEnum old.body (old.at + 8) ≡ Ok (opening.id.vers, old.at + 12)
+  pub proc : word_at is_any BadEnum old.body (old.at + 12) ≡ Ok (opening.id.proc_no, old.at + 16)
+  pub flavor : word_at (is_listed credential_flavors) Flavor old.body (old.at + 16)
+      ≡ Ok (opening.flavor, new.at)
+  pub moves : MovesOn old new
+  pub adds : Adds stands before after (Word head_names.rpcvers 2
+      ∷ Word head_names.prog opening.id.prog ∷ Word head_names.vers opening.id.vers
+      ∷ Word head_names.proc opening.id.proc_no ∷ Word head_names.cred_flavor opening.flavor ∷ [])
