@@ -15,7 +15,7 @@ ghost use Rattle.record_mark.specs.RecordMark.{max_body};
 ghost use Rattle.record_mark.specs.Taking.{IsRunning, IsWhole, body_of, joining_of, released, unbegun};
 
 use crate::container::kept_streams::Streams;
-use crate::container::position::{Event, Position, Spot, Taken, file_fault};
+use crate::container::position::{Event, Position, Spot, Transition, file_fault};
 use crate::fault::{Error, Place, Side};
 use record_mark::{JoinError, Joiner, Step};
 use std::alloc::Global;
@@ -142,7 +142,8 @@ impl Container {
         ensures joiner { IfSome result (λ r. IsWhole self.new.joiner.taking) }
         ensures machine { IfSome result
             (λ r. Arrives (unpacking_in self.old) (take r.0 piece.now)
-            (Some (Event.Record r.1)) self.new.position self.new.joiner.taking self.new.streams.kept) }
+            (Some (Event.Record r.1)) self.new.position self.new.joiner.taking
+            self.new.streams.kept) }
         ensures room { IfSome result
             (λ r. room_of self.new.position self.new.streams.kept + 1
             ≤ room_of self.old.position self.old.streams.kept) }
@@ -200,7 +201,8 @@ impl Container {
             self.new.joiner.taking self.new.streams.kept) }
         ensures fault { IfErr result (ShowsError (unpacking_in self.old) piece.now) }
         ensures room { IfOk result
-            (λ r. room_of self.new.position self.new.streams.kept + cost_of r.1 self.new.streams.kept
+            (λ r. room_of self.new.position self.new.streams.kept
+            + cost_of r.1 self.new.streams.kept
             ≤ room_of self.old.position self.old.streams.kept) }
         ensures stored { IfOk result (λ r. StoredWith r.1 self.new.position self.new.streams.kept) }
         ensures cursor { self.new.cursor ≡ self.old.cursor }
@@ -232,7 +234,7 @@ impl Container {
 
     /// Takes the bytes of `rest` that belong to the part of the capture that is open. The position
     /// stays.
-    fn step(&mut self, rest: &[u8]) -> Result<Taken, Error>
+    fn step(&mut self, rest: &[u8]) -> Result<Transition, Error>
         requires some { 0 < length rest.now }
         requires sound { IsSoundPosition self.old.position }
         requires stored { AreStored self.old.position None self.old.streams.kept }
@@ -270,7 +272,7 @@ impl Container {
 
     /// Version 2: keeps bytes of a chunk. The position stays.
     #[inline(never)]
-    fn gather(&mut self, side: Side, left: u32, rest: &[u8]) -> Result<Taken, Error>
+    fn gather(&mut self, side: Side, left: u32, rest: &[u8]) -> Result<Transition, Error>
         requires some { 0 < length rest.now }
         requires sound { IsSoundPosition self.old.position }
         requires stored { AreStored self.old.position None self.old.streams.kept }
@@ -326,7 +328,8 @@ impl Container {
         requires stored { IsStored self.old }
         requires unbegun { self.old.joiner.taking ≡ unbegun }
         ensures recalled { IfOk result
-            (Recalled cursor self.old.position self.new.position self.old.streams.kept self.new.streams.kept
+            (Recalled cursor self.old.position self.new.position self.old.streams.kept
+            self.new.streams.kept
             self.new.joiner.taking self.new.cursor) }
         ensures joiner { IfOk result (λ event. Leaves (Some event) self.new.joiner.taking) }
         ensures fault { IfErr result (RecallFails cursor self.old.position self.old.streams.kept) }
@@ -410,7 +413,7 @@ impl Container {
     }
 
     /// Takes bytes of a chunk. The position stays.
-    fn join(&mut self, side: Side, left: u32, rest: &[u8]) -> Result<Taken, Error>
+    fn join(&mut self, side: Side, left: u32, rest: &[u8]) -> Result<Transition, Error>
         requires some { 0 < length rest.now }
         requires sound { IsSoundPosition self.old.position }
         requires running { IsRunning self.old.joiner.taking }

@@ -1,7 +1,7 @@
 //! The end of a program: its texts are printed, and its status is returned.
 
 use crate::outcome::{Ended, Report};
-use crate::printed::{OUTSIDE, aside, report};
+use crate::printed::{OUTSIDE, on_standard_error, report};
 use std::alloc::{AllocError, Global};
 use std::io;
 use std::io::Write;
@@ -26,7 +26,7 @@ pub fn print_ended(rt: &HostRuntime, ended: &Ended) -> ExitCode {
 fn reported(alloc: Global, ended: &Ended) -> Result<Report, AllocError> {
     let report = report(alloc, &ended.outcome)?;
     if ended.is_aside {
-        aside(alloc, report)
+        on_standard_error(alloc, report)
     } else {
         Ok(report)
     }

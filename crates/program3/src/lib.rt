@@ -25,7 +25,7 @@ pub use identity::{FileId, if_there, standard_output};
 pub use opening::{OpenError, opened, uncounted, unopened};
 pub use outcome::{Ended, Outcome, Report};
 pub use place::Place;
-pub use printed::{aside, report};
+pub use printed::{on_standard_error, report};
 pub use rewriting::{Rewriting, form_written, named, rewritten};
 pub use system::System;
 pub use writing::{WRITTEN_AT_ONCE, written_out};

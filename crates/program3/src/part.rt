@@ -179,14 +179,14 @@ fn followed(rt: &HostRuntime, name: &str) -> Result<String, OpenError> {
         path = if target.as_str().starts_with('/') {
             target
         } else {
-            beside(rt.alloc(), path.as_str(), target.as_str())?
+            in_folder_of(rt.alloc(), path.as_str(), target.as_str())?
         };
     }
     Err(OpenError::Unopened)
 }
 
 /// The path of another name in the folder of a path.
-fn beside(alloc: Global, path: &str, name: &str) -> Result<String, AllocError> {
+fn in_folder_of(alloc: Global, path: &str, name: &str) -> Result<String, AllocError> {
     match path.rsplit_once('/') {
         Some((folder, _)) => format!(in alloc; "{folder}/{name}"),
         None => String::from_str(alloc, name),
@@ -208,7 +208,7 @@ fn made_beside(rt: &HostRuntime, path: &str, mode: u32) -> Result<(String, File)
         let mut random = [0; 8];
         rt.fill_bytes(&mut random)?;
         let part = part_name(rt.alloc(), random)?;
-        let name = beside(rt.alloc(), path, part.as_str())?;
+        let name = in_folder_of(rt.alloc(), path, part.as_str())?;
         match created(rt, name.as_str(), mode) {
             Ok(file) => return Ok((name, file)),
             Err(error) if error.kind() == ErrorKind::AlreadyExists => {}

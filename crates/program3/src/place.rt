@@ -41,15 +41,15 @@ impl Place {
     {
         let word = String::from_str(rt.alloc(), name)?;
         match destination {
-            Destination::New => beside(rt, word, Part::of_new(rt, name)?),
+            Destination::New => open_part_file(rt, word, Part::of_new(rt, name)?),
             Destination::Replaced(found) if found.permissions().readonly() => {
                 Err(OpenError::Unopened)
             }
-            Destination::Replaced(_) => beside(rt, word, Part::of_replaced(rt, name)?),
+            Destination::Replaced(_) => open_part_file(rt, word, Part::of_replaced(rt, name)?),
             Destination::AsItIs {
                 found,
                 is_standard_output,
-            } => as_it_is(rt, word, found, *is_standard_output),
+            } => open_existing(rt, word, found, *is_standard_output),
         }
     }
 
@@ -104,7 +104,7 @@ impl Place {
     }
 }
 
-fn beside(
+fn open_part_file(
     rt: &HostRuntime,
     name: String,
     made: (Part, File),
@@ -131,7 +131,7 @@ fn beside(
 
 /// Nothing that is there is emptied: a device and a pipe hold nothing, and standard output may have been
 /// written before.
-fn as_it_is(
+fn open_existing(
     rt: &HostRuntime,
     name: String,
     found: &Metadata,

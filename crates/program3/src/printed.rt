@@ -46,7 +46,7 @@ pub fn report(alloc: Global, outcome: &Outcome) -> Result<Report, AllocError>
 /// # Errors
 ///
 /// `AllocError` if memory ran out for the text.
-pub fn aside(alloc: Global, report: Report) -> Result<Report, AllocError>
+pub fn on_standard_error(alloc: Global, report: Report) -> Result<Report, AllocError>
     ensures { IfOk result (Prints report.status [] (report.out.items ++ report.err.items)) }
 {
     let Report { status, out, err } = report;

@@ -3,7 +3,7 @@
 use canon3::{SameError, Summary, Verdict, Which};
 use capture3::{Error, Fault, Place, Side};
 use line3::LineFault;
-use program3::{Ended, Outcome, aside, report};
+use program3::{Ended, Outcome, on_standard_error, report};
 use std::alloc::Global;
 use std::process::Abort;
 use std::test::Fail;
@@ -186,7 +186,7 @@ fn lines_that_are_refused(rt: HostRuntime) -> Result<(), Fail> {
 fn a_report_aside(rt: HostRuntime) -> Result<(), Fail> {
     let ended = Ended::printing(Outcome::Counted(Ok(summary())));
     assert!(rt; !ended.is_aside);
-    let report = aside(rt.alloc(), report(rt.alloc(), &ended.outcome)?)?;
+    let report = on_standard_error(rt.alloc(), report(rt.alloc(), &ended.outcome)?)?;
     assert_eq!(rt; report.status, 0);
     assert!(rt; report.out.is_empty());
     let line = "ok connections=3 calls=103 replies=102 handles=9\n";

@@ -166,13 +166,16 @@ pub data Comes (old new : Container) (bytes : List ℕ) (event : Option Event) :
       → Arrives (unpacking_in old) bytes event new.position new.joiner.taking new.streams.kept
       → Comes old new bytes event
   FirstKept : (mid : Container) (one : Event) → old.cursor ≡ None
-      → Arrives (unpacking_in old) bytes (Some Streams) mid.position mid.joiner.taking mid.streams.kept
+      → Arrives (unpacking_in old) bytes (Some Streams) mid.position mid.joiner.taking
+      mid.streams.kept
       → StoredWith (Some Streams) mid.position mid.streams.kept → event ≡ Some one
-      → Recalled first_cursor mid.position new.position mid.streams.kept new.streams.kept new.joiner.taking
+      → Recalled first_cursor mid.position new.position mid.streams.kept new.streams.kept
+      new.joiner.taking
       new.cursor one → Comes old new bytes event
   NextKept : (cursor : Cursor) (one : Event) → old.cursor ≡ Some cursor → bytes ≡ []
       → event ≡ Some one
-      → Recalled cursor old.position new.position old.streams.kept new.streams.kept new.joiner.taking new.cursor one
+      → Recalled cursor old.position new.position old.streams.kept new.streams.kept
+      new.joiner.taking new.cursor one
       → Comes old new bytes event
 
 -- the fault of what would come, in the same three ways, unless memory ran out
@@ -180,7 +183,8 @@ pub data ComesToFault (old : Container) (bytes : List ℕ) (error : Error) : Typ
   InFile : old.cursor ≡ None → ShowsError (unpacking_in old) bytes error
       → ComesToFault old bytes error
   InFirstKept : (mid : Container) (n : ℕ) → old.cursor ≡ None
-      → Arrives (unpacking_in old) (take n bytes) (Some Streams) mid.position mid.joiner.taking mid.streams.kept
+      → Arrives (unpacking_in old) (take n bytes) (Some Streams) mid.position
+      mid.joiner.taking mid.streams.kept
       → RecallFails first_cursor mid.position mid.streams.kept error → ComesToFault old bytes error
   InNextKept : (cursor : Cursor) → old.cursor ≡ Some cursor
       → RecallFails cursor old.position old.streams.kept error → ComesToFault old bytes error

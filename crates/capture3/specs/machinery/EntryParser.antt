@@ -63,7 +63,8 @@ StandsOrRecalls (Some cursor) position taking streams table bytes entries =
 -- the same where the record that became whole last, if one did, is let go
 abbrev pub HasCome : Container → List NumberedCall → List ℕ → List Entry → Type 0
 HasCome c table bytes entries =
-    StandsOrRecalls c.cursor c.position (released c.joiner.taking) c.streams.kept table bytes entries
+    StandsOrRecalls c.cursor c.position (released c.joiner.taking) c.streams.kept table bytes
+    entries
 
 -- what is whole with the last byte
 abbrev pub met : Event → Position → Taking → Streams → Unpacked
@@ -156,7 +157,8 @@ abbrev pub GoesTo : {V : Type 0} → (V → List Item → Type 0) → (was now :
     → Container → List NumberedCall → List ℕ → List Entry → Type 0
 GoesTo stands was now None container table bytes entries = HasCome container table bytes entries
 GoesTo stands was now (Some kind) container table bytes entries =
-    (entry : Entry) × IsHeld kind container.joiner.taking entry × Adds stands was now (items_of entry)
+    (entry : Entry) × IsHeld kind container.joiner.taking entry
+    × Adds stands was now (items_of entry)
     × HasCome container table bytes (entries ++ entry ∷ [])
 
 -- one of the bytes shows the fault, and these entries are all that they reach, unless memory ran

@@ -20,7 +20,7 @@ use Rattle.capture3.specs.SidedChunksMachine as mixing
 use Rattle.capture3.specs.SidedChunks as sided
 use Rattle.capture3.specs.SidedChunks.{size}
 use Rattle.capture3.specs.declared.container.position.Position.{Position}
-use Rattle.capture3.specs.declared.container.position.Taken.{Taken}
+use Rattle.capture3.specs.declared.container.position.Transition.{Transition}
 use Rattle.capture3.specs.declared.container.position.Spot.{Spot}
 use Rattle.record_mark.specs.declared.word_part.WordPart.{WordPart}
 use Rattle.record_mark.specs.WordPart.{bytes_so_far}
@@ -109,7 +109,7 @@ landed_at (Some Streams) streams u = Stops (HasStreams streams u)
 landed_at (Some event) streams u = Stops (Has event [] u)
 
 -- What a whole word leads the machine to: there, or to the fault. The open record stays.
-abbrev pub Lands : Next Unpacking Unpacked → sided.Streams → Joining → Result Taken Error → Type 0
+abbrev pub Lands : Next Unpacking Unpacked → sided.Streams → Joining → Result Transition Error → Type 0
 Lands next streams joining (Ok taken) =
     landed next ≡ landed_at taken.event streams (unpacking_at taken.position streams joining)
 Lands next streams joining (Err (Refused fault)) = next ≡ Ends (Refuses fault)
@@ -117,7 +117,7 @@ Lands next streams joining (Err _) = ⊥
 
 -- The bytes taken lead the machine there, or some of the bytes lead it to the fault. The open
 -- record stays.
-abbrev pub Moves : Unpacking → List ℕ → sided.Streams → Joining → Result Taken Error → Type 0
+abbrev pub Moves : Unpacking → List ℕ → sided.Streams → Joining → Result Transition Error → Type 0
 Moves from bytes streams joining (Ok taken) =
     after unpack_next (Runs from) (take taken.count bytes)
     ≡ landed_at taken.event streams (unpacking_at taken.position streams joining)
@@ -187,7 +187,7 @@ cost_of (Some Streams) streams = 2 + size streams
 cost_of (Some event) streams = 1
 
 -- some bytes of these were taken
-pub record TakesSome (before : Position) (bytes : List ℕ) (taken : Taken) : Type 0 where
+pub record TakesSome (before : Position) (bytes : List ℕ) (taken : Transition) : Type 0 where
   pub some : 0 < taken.count
   pub within : taken.count ≤ length bytes
   pub sound : IsSoundPosition taken.position
@@ -214,24 +214,24 @@ StoredWith _ position streams = StoredAt position.spot position.total streams
 -- ---- what bytes that are taken come to, whatever streams are kept here
 
 -- what became whole took its room
-abbrev pub TakesRoom : Position → Taken → Type 0
+abbrev pub TakesRoom : Position → Transition → Type 0
 TakesRoom before taken = (streams : sided.Streams) → StoredAt before.spot before.total streams
     → room_of taken.position streams + cost_of taken.event streams ≤ room_of before streams
 
 -- the streams belong to where the bytes end
-abbrev pub KeepsStreams : Position → Taken → Type 0
+abbrev pub KeepsStreams : Position → Transition → Type 0
 KeepsStreams before taken = (streams : sided.Streams) → StoredAt before.spot before.total streams
     → StoredWith taken.event taken.position streams
 
 -- a step of the container, with which no record becomes whole
-pub record StepsFrom (before : Position) (taken : Taken) : Type 0 where
+pub record StepsFrom (before : Position) (taken : Transition) : Type 0 where
   pub sound : IsSoundPosition taken.position
   pub event : IsOfContainer taken.event
   pub room : TakesRoom before taken
   pub stored : KeepsStreams before taken
 
 -- the machine goes there, or to the fault
-abbrev pub MovesFrom : Position → Joining → List ℕ → Result Taken Error → Type 0
+abbrev pub MovesFrom : Position → Joining → List ℕ → Result Transition Error → Type 0
 MovesFrom before joining bytes result = (streams : sided.Streams)
     → StoredAt before.spot before.total streams
     → Moves (unpacking_at before streams joining) bytes streams joining result

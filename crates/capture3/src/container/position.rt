@@ -88,7 +88,7 @@ pub(crate) struct Position {
 
 /// How many bytes were taken, the position after them, and what is whole with the last of them.
 #[derive(Clone, Copy)]
-pub(crate) struct Taken {
+pub(crate) struct Transition {
     pub(crate) count: usize,
     pub(crate) position: Position,
     pub(crate) event: Option<Event>,
@@ -112,7 +112,7 @@ impl Position {
 
     /// Takes bytes of the magic.
     #[inline(never)]
-    pub(crate) fn take_magic(self, rest: &[u8]) -> Result<Taken, Error>
+    pub(crate) fn take_magic(self, rest: &[u8]) -> Result<Transition, Error>
         requires sound { IsSoundPosition self }
         requires here { self.spot ≡ Spot.Magic }
         requires some { 0 < length rest.now }
@@ -133,12 +133,12 @@ impl Position {
             Spot::Magic
         };
         let at = self.at + count as u64;
-        Ok(self.moved(count, at, spot))
+        Ok(self.advanced(count, at, spot))
     }
 
     /// Takes the magic's last byte.
     #[inline(never)]
-    pub(crate) fn take_digit(self, rest: &[u8]) -> Result<Taken, Error>
+    pub(crate) fn take_digit(self, rest: &[u8]) -> Result<Transition, Error>
         requires sound { IsSoundPosition self }
         requires here { self.spot ≡ Spot.Digit }
         requires some { 0 < length rest.now }
@@ -153,7 +153,7 @@ impl Position {
         }
     }
 
-    fn of_version(self, version: Version) -> Taken
+    fn of_version(self, version: Version) -> Transition
         requires { self.at < 2 ^ 60 }
         ensures some { (result.count ≡ 1) × (result.event ≡ None) }
         ensures at { result.position.at ≡ self.at + 1 }
@@ -163,7 +163,7 @@ impl Position {
             → unpacking_at result.position streams joining ≡ spec.before_mark
             (version_of version) (self.at + 1) self.total self.connections self.records joining }
     {
-        Taken {
+        Transition {
             count: 1,
             position: self.before_mark(self.at + 1, version),
             event: None,
@@ -176,7 +176,7 @@ impl Position {
         version: Version,
         part: WordPart,
         rest: &[u8],
-    ) -> Result<Taken, Error>
+    ) -> Result<Transition, Error>
         requires sound { IsSoundPosition self }
         requires here { self.spot ≡ Spot.Mark version part }
         requires some { 0 < length rest.now }
@@ -186,7 +186,7 @@ impl Position {
     {
         let (count, word) = part.taken(rest);
         match word {
-            Word::Part(part) => Ok(self.moved(count, self.at, Spot::Mark(version, part))),
+            Word::Part(part) => Ok(self.advanced(count, self.at, Spot::Mark(version, part))),
             Word::Whole(n) => self.after_mark(version, part, n, count),
         }
     }
@@ -198,7 +198,7 @@ impl Position {
         part: WordPart,
         n: u32,
         count: usize,
-    ) -> Result<Taken, Error>
+    ) -> Result<Transition, Error>
         requires sound { IsSoundPosition self }
         requires here { self.spot ≡ Spot.Mark version part }
         ensures count { IfOk result (λ taken. taken.count ≡ count) }
@@ -209,8 +209,8 @@ impl Position {
             self.records joining n) streams joining result }
     {
         match n {
-            0 => Ok(self.moved(count, self.at + 4, Spot::Ended(version))),
-            1 if self.connections < MAX_CONNECTIONS => Ok(self.begun(version, part, count)),
+            0 => Ok(self.advanced(count, self.at + 4, Spot::Ended(version))),
+            1 if self.connections < MAX_CONNECTIONS => Ok(self.after_begin(version, part, count)),
             1 => Err(file_fault(self.at, Reason::TooManyConnections)),
             _ => Err(file_fault(self.at, Reason::BadMark)),
         }
@@ -224,7 +224,7 @@ impl Position {
         part: WordPart,
         so_far: Option<u32>,
         rest: &[u8],
-    ) -> Result<Taken, Error>
+    ) -> Result<Transition, Error>
         requires sound { IsSoundPosition self }
         requires here { self.spot ≡ Spot.Length side part }
         requires some { 0 < length rest.now }
@@ -235,7 +235,7 @@ impl Position {
     {
         let (count, word) = part.taken(rest);
         match word {
-            Word::Part(part) => Ok(self.moved(count, self.at, Spot::Length(side, part))),
+            Word::Part(part) => Ok(self.advanced(count, self.at, Spot::Length(side, part))),
             Word::Whole(0) => self.after_stream(side, part, so_far, count),
             Word::Whole(len) => self.after_length(side, part, len, count),
         }
@@ -248,7 +248,7 @@ impl Position {
         part: WordPart,
         so_far: Option<u32>,
         count: usize,
-    ) -> Result<Taken, Error>
+    ) -> Result<Transition, Error>
         requires sound { IsSoundPosition self }
         requires here { self.spot ≡ Spot.Length side part }
         ensures count { IfOk result (λ taken. taken.count ≡ count) }
@@ -271,7 +271,7 @@ impl Position {
         part: WordPart,
         len: u32,
         count: usize,
-    ) -> Result<Taken, Error>
+    ) -> Result<Transition, Error>
         requires sound { IsSoundPosition self }
         requires here { self.spot ≡ Spot.Length side part }
         requires some { 0 < len }
@@ -286,7 +286,7 @@ impl Position {
     }
 
     /// Takes this many bytes of a chunk. With the last of them a record may be whole.
-    pub(crate) fn take_chunk(self, side: Side, left: u32, count: u32, is_record: bool) -> Taken
+    pub(crate) fn take_chunk(self, side: Side, left: u32, count: u32, is_record: bool) -> Transition
         requires sound { IsSoundPosition self }
         requires here { self.spot ≡ Spot.Chunk side left }
         requires some { 0 < count }
@@ -307,17 +307,17 @@ impl Position {
         } else {
             Spot::Chunk(side, left)
         };
-        let moved = self.moved(count as usize, self.at, spot);
+        let advanced = self.advanced(count as usize, self.at, spot);
         if !is_record {
-            return moved;
+            return advanced;
         }
-        Taken {
+        Transition {
             position: Position {
                 records: self.records + 1,
-                ..moved.position
+                ..advanced.position
             },
             event: Some(Event::Record(side)),
-            ..moved
+            ..advanced
         }
     }
 
@@ -368,14 +368,14 @@ impl Position {
     }
 
     /// Returns the position after this many bytes, with this part open. Nothing is whole.
-    pub(crate) fn moved(self, count: usize, at: u64, spot: Spot) -> Taken
+    pub(crate) fn advanced(self, count: usize, at: u64, spot: Spot) -> Transition
         ensures { result ≡ record {
           count = count;
           position = record self { at = at; spot = spot };
           event = None;
         } }
     {
-        Taken {
+        Transition {
             count,
             position: Position { at, spot, ..self },
             event: None,
@@ -383,7 +383,7 @@ impl Position {
     }
 
     /// Returns the position after a connection's word 1.
-    fn begun(self, version: Version, part: WordPart, count: usize) -> Taken
+    fn after_begin(self, version: Version, part: WordPart, count: usize) -> Transition
         requires sound { IsSoundPosition self }
         requires here { self.spot ≡ Spot.Mark version part }
         requires few { self.connections < MAX_CONNECTIONS }
@@ -398,7 +398,7 @@ impl Position {
             Version::One => self.before_stream(Side::Client),
             Version::Two => self.before_sides(),
         };
-        Taken {
+        Transition {
             count,
             position: Position {
                 connections: self.connections + 1,
@@ -409,7 +409,7 @@ impl Position {
     }
 
     /// Returns the position after a stream's word 0, if no record is open.
-    fn stream_closed(self, side: Side, part: WordPart, count: usize) -> Taken
+    fn stream_closed(self, side: Side, part: WordPart, count: usize) -> Transition
         requires sound { IsSoundPosition self }
         requires here { self.spot ≡ Spot.Length side part }
         ensures count { result.count ≡ count }
@@ -419,13 +419,13 @@ impl Position {
             (stream_ended self.at self.total self.connections self.records side Between) }
     {
         match side {
-            Side::Client => Taken {
+            Side::Client => Transition {
                 count,
                 position: self.before_stream(Side::Server),
                 event: Some(Event::Turn),
             },
             // Only in version 1 a stream has a word 0.
-            Side::Server => Taken {
+            Side::Server => Transition {
                 count,
                 position: self.before_mark(self.at + 4, Version::One),
                 event: Some(Event::Close),
@@ -470,7 +470,7 @@ impl Position {
     /// Returns the position after the length word of a chunk, which is open if the limit leaves
     /// room for it.
     #[inline(always)]
-    pub(crate) fn chunk_opened(self, count: usize, len: u32, chunk: Spot) -> Result<Taken, Error>
+    pub(crate) fn chunk_opened(self, count: usize, len: u32, chunk: Spot) -> Result<Transition, Error>
         requires at { self.at < 2 ^ 60 }
         requires small { self.total ≤ MAX_BYTES }
         ensures fits { IfOk result (λ taken. self.total + len ≤ MAX_BYTES) }
@@ -486,7 +486,7 @@ impl Position {
         if len > MAX_BYTES - self.total {
             return Err(file_fault(self.at, Reason::TooManyBytes));
         }
-        Ok(Taken {
+        Ok(Transition {
             count,
             position: Position {
                 at: self.at + 4 + u64::from(len),

@@ -9,7 +9,7 @@ ghost use Rattle.capture3.specs.machinery.ContainerMachine.{in_side_chunk, sides
 ghost use Rattle.capture3.specs.machinery.ContainerMachine as spec;
 ghost use Rattle.record_mark.specs.Joining.{Joining};
 
-use crate::container::position::{Event, Position, Spot, Taken, Version, file_fault};
+use crate::container::position::{Event, Position, Spot, Transition, Version, file_fault};
 use crate::fault::{Error, Side};
 use record_mark::{Word, WordPart};
 use xdr3::Reason;
@@ -35,7 +35,7 @@ impl Position {
 
     /// Version 2: takes bytes of a side word.
     #[inline(never)]
-    pub(crate) fn take_side(self, part: WordPart, rest: &[u8]) -> Result<Taken, Error>
+    pub(crate) fn take_side(self, part: WordPart, rest: &[u8]) -> Result<Transition, Error>
         requires sound { IsSoundPosition self }
         requires here { self.spot ≡ Spot.Side part }
         requires some { 0 < length rest.now }
@@ -45,13 +45,13 @@ impl Position {
     {
         let (count, word) = part.taken(rest);
         match word {
-            Word::Part(part) => Ok(self.moved(count, self.at, Spot::Side(part))),
+            Word::Part(part) => Ok(self.advanced(count, self.at, Spot::Side(part))),
             Word::Whole(n) => self.after_side(part, n, count),
         }
     }
 
     /// Returns the position after a side word, which is a chunk's or the one after the streams.
-    fn after_side(self, part: WordPart, n: u32, count: usize) -> Result<Taken, Error>
+    fn after_side(self, part: WordPart, n: u32, count: usize) -> Result<Transition, Error>
         requires sound { IsSoundPosition self }
         requires here { self.spot ≡ Spot.Side part }
         ensures count { IfOk result (λ taken. taken.count ≡ count) }
@@ -75,7 +75,7 @@ impl Position {
         side: Side,
         part: WordPart,
         rest: &[u8],
-    ) -> Result<Taken, Error>
+    ) -> Result<Transition, Error>
         requires sound { IsSoundPosition self }
         requires here { self.spot ≡ Spot.SideLength side part }
         requires some { 0 < length rest.now }
@@ -85,7 +85,7 @@ impl Position {
     {
         let (count, word) = part.taken(rest);
         match word {
-            Word::Part(part) => Ok(self.moved(count, self.at, Spot::SideLength(side, part))),
+            Word::Part(part) => Ok(self.advanced(count, self.at, Spot::SideLength(side, part))),
             Word::Whole(len) => self.after_side_length(side, part, len, count),
         }
     }
@@ -97,7 +97,7 @@ impl Position {
         part: WordPart,
         len: u32,
         count: usize,
-    ) -> Result<Taken, Error>
+    ) -> Result<Transition, Error>
         requires sound { IsSoundPosition self }
         requires here { self.spot ≡ Spot.SideLength side part }
         ensures count { IfOk result (λ taken. taken.count ≡ count) }
@@ -113,7 +113,7 @@ impl Position {
     }
 
     /// Version 2: takes this many bytes of a chunk. They are kept, so none of them ends a record.
-    pub(crate) fn take_side_chunk(self, side: Side, left: u32, count: u32) -> Taken
+    pub(crate) fn take_side_chunk(self, side: Side, left: u32, count: u32) -> Transition
         requires sound { IsSoundPosition self }
         requires here { self.spot ≡ Spot.SideChunk side left }
         requires within { count ≤ left }
@@ -135,11 +135,11 @@ impl Position {
         } else {
             Spot::SideChunk(side, left)
         };
-        self.moved(count as usize, self.at, spot)
+        self.advanced(count as usize, self.at, spot)
     }
 
     /// Returns the position after the side word before a chunk.
-    fn side_named(self, side: Side, count: usize) -> Taken
+    fn side_named(self, side: Side, count: usize) -> Transition
         requires { self.at < 2 ^ 60 }
         ensures count { result.count ≡ count }
         ensures event { result.event ≡ None }
@@ -150,7 +150,7 @@ impl Position {
             → unpacking_at result.position streams joining ≡ spec.before_side_length
             (self.at + 4) self.total self.connections self.records streams side joining }
     {
-        Taken {
+        Transition {
             count,
             position: Position {
                 at: self.at + 4,
@@ -163,7 +163,7 @@ impl Position {
 
     /// Returns the position after the side word 0. The next connection's word comes next in the
     /// file.
-    fn streams_gathered(self, count: usize) -> Taken
+    fn streams_gathered(self, count: usize) -> Transition
         requires { self.at < 2 ^ 60 }
         ensures event { result.event ≡ Some Event.Streams }
         ensures count { result.count ≡ count }
@@ -175,7 +175,7 @@ impl Position {
             self.total self.connections 0 joining }
     {
         let next = self.with_records(0);
-        Taken {
+        Transition {
             count,
             position: next.before_mark(self.at + 4, Version::Two),
             event: Some(Event::Streams),

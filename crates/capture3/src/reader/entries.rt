@@ -148,7 +148,7 @@ impl<'r, R: Source, S: BuildHasher + Drop> Entries<'r, R, S> {
         ensures same_reference { loan_of self.new ≡ loan_of self.old }
     {
         match self.stage {
-            Stage::Reading => self.read_on(visitor),
+            Stage::Reading => self.next_entry(visitor),
             Stage::Over => Ok(None),
             Stage::Failed(error) => Err(error),
         }
@@ -169,7 +169,7 @@ impl<'r, R: Source, S: BuildHasher + Drop> Entries<'r, R, S> {
     }
 
     /// Reads the next entry of a capture whose end was not returned.
-    fn read_on<V: Visit>(&mut self, visitor: &mut V) -> Result<Option<Kind>, Error>
+    fn next_entry<V: Visit>(&mut self, visitor: &mut V) -> Result<Option<Kind>, Error>
         requires reading { self.old.stage ≡ Stage.Reading }
         ensures turns { (given : List ℕ) (handed : List spec.Entry)
             → StandsFor R.told self.old given handed

@@ -17,7 +17,7 @@ use Rattle.capture3.specs.SidedChunks.{Streams, size, with_more}
 use Rattle.capture3.proofs.Lemmas.Container.ContainerMachineLemmas.{side_chunk_kept}
 use Rattle.capture3.specs.declared.container.position.Position.{Position}
 use Rattle.capture3.specs.declared.container.position.Spot.TheVariants.{Chunk, SideChunk}
-use Rattle.capture3.specs.declared.container.position.Taken.{Taken}
+use Rattle.capture3.specs.declared.container.position.Transition.{Transition}
 use Rattle.capture3.specs.machinery.ContainerMachine.{Unpacking, Has, in_chunk, in_side_chunk, in_record, record_joined, unpack_next}
 use Rattle.capture3.specs.machinery.Position.{AreEmpty, IsBeforeMark, unpacking_at, cost_of, IsOfContainer, StepsFrom, Moves, ShowsFault, StoredAt, StoredWith, version_of}
 use Rattle.capture3.specs.machinery.Container.{AreStored, unpacking_of, Arrives, ShowsError, Leaves}
@@ -42,12 +42,12 @@ moved_to from bytes taking streams count position (Some Turn) h moves = moves
 moved_to from bytes taking streams count position (Some Close) h moves = moves
 moved_to from bytes taking streams count position (Some Gathered) h moves = moves
 
-pub moved_arrives : (from : Unpacking) (bytes : List ℕ) (before : Position) (taking : Taking) (streams : Streams) (r : Result Taken Error) → IfOk r (StepsFrom before) → Moves from bytes streams (joining_of taking) r
+pub moved_arrives : (from : Unpacking) (bytes : List ℕ) (before : Position) (taking : Taking) (streams : Streams) (r : Result Transition Error) → IfOk r (StepsFrom before) → Moves from bytes streams (joining_of taking) r
     → IfOk r (λ t. Arrives from (take t.count bytes) t.event t.position taking streams)
 moved_arrives from bytes before taking streams (Ok t) h moves = moved_to from bytes taking streams t.count t.position t.event h.event moves
 moved_arrives from bytes before taking streams (Err e) h moves = tt
 
-pub moved_fails : (from : Unpacking) (bytes : List ℕ) (streams : Streams) (joining : Joining) (r : Result Taken Error) → Moves from bytes streams joining r → IfErr r (ShowsError from bytes)
+pub moved_fails : (from : Unpacking) (bytes : List ℕ) (streams : Streams) (joining : Joining) (r : Result Transition Error) → Moves from bytes streams joining r → IfErr r (ShowsError from bytes)
 moved_fails from bytes streams joining (Ok t) moves = tt
 moved_fails from bytes streams joining (Err (errors.Refused fault)) moves = moves
 moved_fails from bytes streams joining (Err errors.Read) moves = moves

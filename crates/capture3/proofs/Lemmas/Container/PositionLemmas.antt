@@ -11,7 +11,7 @@ use Rattle.capture3.specs.declared.fault.Error.TheVariants.{Refused}
 use Rattle.capture3.specs.declared.fault.Error.TheVariants as errors
 use Rattle.capture3.specs.declared.fault.Side.{Side}
 use Rattle.capture3.specs.declared.container.position.Event.TheVariants.{Begin}
-use Rattle.capture3.specs.declared.container.position.Taken.{Taken}
+use Rattle.capture3.specs.declared.container.position.Transition.{Transition}
 use Rattle.capture3.specs.declared.container.position.Position.{Position}
 use Rattle.capture3.specs.declared.container.position.Spot.{Spot}
 use Rattle.capture3.specs.declared.container.position.Spot.TheVariants.{Magic, Digit, Mark, Length, Side as SideSpot, SideLength}
@@ -85,7 +85,7 @@ side_length_whole p streams joining side part bytes count n is word =
     ∙ side_length_ends p.at p.total p.connections p.records streams side joining (bytes_so_far part) (take count bytes) n (short_part part) word
 
 -- what a whole word leads to, the bytes taken lead to
-pub lands_moves : (from : Unpacking) (bytes : List ℕ) (streams : Streams) (joining : Joining) (count : ℕ) (next : Next Unpacking Unpacked) (r : Result Taken Error) → count ≤ length bytes
+pub lands_moves : (from : Unpacking) (bytes : List ℕ) (streams : Streams) (joining : Joining) (count : ℕ) (next : Next Unpacking Unpacked) (r : Result Transition Error) → count ≤ length bytes
     → after unpack_next (Runs from) (take count bytes) ≡ landed next → IfOk r (λ t. t.count ≡ count) → Lands next streams joining r → Moves from bytes streams joining r
 lands_moves from bytes streams joining count next (Ok t) fits led same lands = ap (λ (n : ℕ). after unpack_next (Runs from) (take n bytes)) same ∙ led ∙ lands
 lands_moves from bytes streams joining count next (Err (Refused fault)) fits led same lands = (count, fits, led ∙ ap landed lands)

@@ -10,4 +10,4 @@ returns-in-1-clause-machine c streams joining stored =
     let is : c.args.n ≡ 1 = c.in-1.is in
     rw is
     (ap landed (marked_one (version_of c.args.version) c.args.self.at c.args.self.total c.args.self.connections c.args.self.records joining c.if-self-lt-MAX_CONNECTIONS.true)
-    ∙ rw (c.begun.ensures.event, c.begun.ensures.machine streams joining empty) refl)
+    ∙ rw (c.after_begin.ensures.event, c.after_begin.ensures.machine streams joining empty) refl)

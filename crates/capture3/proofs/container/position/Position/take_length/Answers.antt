@@ -7,7 +7,7 @@ use Rattle.capture3.proofs.container.position.Position.take_length.Goals as goal
 
 pub returns-in-Part-clause-machine : goal.returns-in-Part-clause-machine
 returns-in-Part-clause-machine c joining body streams stored =
-    rw c.moved.ensures (length_part c.args.self streams joining c.args.side c.args.part c.in-Part.part c.args.rest.now _ c.requires.here (rw c.in-Part.is at c.taken-count.ensures.word))
+    rw c.advanced.ensures (length_part c.args.self streams joining c.args.side c.args.part c.in-Part.part c.args.rest.now _ c.requires.here (rw c.in-Part.is at c.taken-count.ensures.word))
 
 pub returns-in-Whole-eq0-clause-machine : goal.returns-in-Whole-eq0-clause-machine
 returns-in-Whole-eq0-clause-machine c joining body streams stored =

@@ -5,7 +5,7 @@ use Rattle.capture3.proofs.container.position.Position.take_side_length.Goals as
 
 pub returns-in-Part-clause-machine : goal.returns-in-Part-clause-machine
 returns-in-Part-clause-machine c joining streams stored =
-    rw c.moved.ensures (side_length_part c.args.self streams joining c.args.side c.args.part c.in-Part.part c.args.rest.now _ c.requires.here (rw c.in-Part.is at c.taken-count.ensures.word))
+    rw c.advanced.ensures (side_length_part c.args.self streams joining c.args.side c.args.part c.in-Part.part c.args.rest.now _ c.requires.here (rw c.in-Part.is at c.taken-count.ensures.word))
 
 pub returns-in-Whole-clause-machine : goal.returns-in-Whole-clause-machine
 returns-in-Whole-clause-machine c joining streams stored =

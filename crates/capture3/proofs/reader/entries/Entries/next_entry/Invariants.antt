@@ -5,7 +5,7 @@ use Rattle.capture3.specs.machinery.EntriesHistory.{entries_left, HasRead, Stand
 use Rattle.capture3.specs.Entry.{Entry}
 use Rattle.capture3.specs.Capture.{Two}
 use Rattle.capture3.specs.Laws.{most_bytes}
-use Rattle.capture3.proofs.reader.entries.Entries.read_on.Given as goal
+use Rattle.capture3.proofs.reader.entries.Entries.next_entry.Given as goal
 
 abbrev pub invariant-loop-self : goal.invariant-loop-self
 invariant-loop-self g l = record {

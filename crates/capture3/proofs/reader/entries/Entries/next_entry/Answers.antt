@@ -1,7 +1,7 @@
 use Rattle.std.proofs.Common.{arith, ◌∙◌, ap, subst, Err, Ok, Some}
 use Rattle.capture3.specs.machinery.EntriesHistory.{Turns}
 use Rattle.capture3.proofs.Lemmas.Reader.EntriesLemmas.{read_more, too_long, turned_more}
-use Rattle.capture3.proofs.reader.entries.Entries.read_on.Goals as goal
+use Rattle.capture3.proofs.reader.entries.Entries.next_entry.Goals as goal
 
 pub returns-in-Err-clause-turns : goal.returns-in-Err-clause-turns
 returns-in-Err-clause-turns g c given handed s =
