@@ -1,5 +1,5 @@
 -- Words of heads that are read as one run.
-use Rattle.std.proofs.Common.{inl, inr, ◌≡◌, ℕ, ◌+◌, ◌-◌, ◌*◌, ◌/◌, ◌<◌, ◌≤◌, ◌==◌, Bool, true, false, cond, ltb, List, [], ◌∷◌, ◌++◌, length, take, drop, Ok, Err, refl, sym, ap, subst, ◌∙◌, arith}
+use Rattle.std.proofs.Common.{inl, inr, ◌≡◌, ℕ, ◌+◌, ◌-◌, ◌*◌, ◌/◌, ◌<◌, ◌≤◌, Bool, true, false, cond, ltb, List, [], ◌∷◌, ◌++◌, length, take, drop, Ok, Err, refl, sym, ap, subst, ◌∙◌, arith}
 use Rattle.std.proofs.lemmas.Bool.{cases_lt, ne_eqb, ltb-false, lt-ltb, le-ltb}
 use Rattle.std.proofs.lemmas.List.{drop-drop, drop-take}
 use Rattle.byteorder.specs.Endian.{big_number}
@@ -10,7 +10,7 @@ use Rattle.xdr3.specs.declared.reason.Reason.{Reason}
 use Rattle.xdr3.specs.declared.reason.Reason.TheVariants.{BadEnum, Flavor, RpcVersion, Short}
 use Rattle.xdr3.specs.declared.reason.Stop.{Stop}
 use Rattle.xdr3.specs.Item.{Item, Word}
-use Rattle.xdr3.specs.Reading.{◌>>=◌, number_at, reading, refused, run_at, word_at}
+use Rattle.xdr3.specs.Reading.{number_at, reading, refused, run_at, word_at}
 use Rattle.xdr3.specs.Scan.{Scans, Stops}
 use Rattle.xdr3.specs.Shape.{Shape, ◌then◌, choose, is_any, is_listed, nothing, word}
 use Rattle.xdr3.specs.View.{MovesOn, View}
@@ -68,19 +68,19 @@ after_version_short body at left is few =
     elim (cases_lt left 4) [
       | inl lt ↦ one_short head_names.prog is_any BadEnum (λ n. nothing) (word head_names.vers then word head_names.proc then last) body at (at + left / 4 * 4) (omega (arith, is, lt)) (omega (arith, lt))
       | inr le ↦ later_stop head_names.prog (word head_names.vers then word head_names.proc then last) body at (record { at = at + left / 4 * 4; reason = Short }) (omega (arith, is, le)) (
-        elim (cases_lt left 8) [
-          | inl lt ↦ one_short head_names.vers is_any BadEnum (λ n. nothing) (word head_names.proc then last) body (at + 4) (at + left / 4 * 4) (omega (arith, is, lt)) (omega (arith, le, lt))
-          | inr le8 ↦ later_stop head_names.vers (word head_names.proc then last) body (at + 4) (record { at = at + left / 4 * 4; reason = Short }) (omega (arith, is, le8)) (
-            elim (cases_lt left 12) [
-              | inl lt ↦ one_short head_names.proc is_any BadEnum (λ n. nothing) last body (at + 4 + 4) (at + left / 4 * 4) (omega (arith, is, lt)) (omega (arith, le8, lt))
-              | inr le12 ↦ later_stop head_names.proc last body (at + 4 + 4) (record { at = at + left / 4 * 4; reason = Short }) (omega (arith, is, le12))
-                  (one_short head_names.cred_flavor (is_listed credential_flavors) Flavor (λ flavor. credential_of flavor) verifier body (at + 4 + 4 + 4) (at + left / 4 * 4) (omega (arith, is, few)) (omega (arith, le12, few)))
-            ])
-        ])
+          elim (cases_lt left 8) [
+            | inl lt ↦ one_short head_names.vers is_any BadEnum (λ n. nothing) (word head_names.proc then last) body (at + 4) (at + left / 4 * 4) (omega (arith, is, lt)) (omega (arith, le, lt))
+            | inr le8 ↦ later_stop head_names.vers (word head_names.proc then last) body (at + 4) (record { at = at + left / 4 * 4; reason = Short }) (omega (arith, is, le8)) (
+                elim (cases_lt left 12) [
+                  | inl lt ↦ one_short head_names.proc is_any BadEnum (λ n. nothing) last body (at + 4 + 4) (at + left / 4 * 4) (omega (arith, is, lt)) (omega (arith, le8, lt))
+                  | inr le12 ↦ later_stop head_names.proc last body (at + 4 + 4) (record { at = at + left / 4 * 4; reason = Short }) (omega (arith, is, le12))
+                      (one_short head_names.cred_flavor (is_listed credential_flavors) Flavor (λ flavor. credential_of flavor) verifier body (at + 4 + 4 + 4) (at + left / 4 * 4) (omega (arith, is, few)) (omega (arith, le12, few)))
+                ])
+          ])
     ]
 
 -- a word has four bytes
-word_ends : (accepted : ℕ → Bool) (other : Reason) (body : List ℕ) (n at to : ℕ) → word_at accepted other body at ≡ Ok (n, to) → at + 4 ≡ to
+pub word_ends : (accepted : ℕ → Bool) (other : Reason) (body : List ℕ) (n at to : ℕ) → word_at accepted other body at ≡ Ok (n, to) → at + 4 ≡ to
 word_ends accepted other body n at to e =
     let b = bind_ok (number_at 4 body at) (λ x. cond (accepted x.0) (Ok x) (refused at other)) (n, to) e in
     let taken = accept_ok (accepted b.0.0) (record { at = at; reason = other }) b.0 (n, to) b.2 in
@@ -106,13 +106,13 @@ version_is n is = rw is refl
 version_is_not : (n : ℕ) → (n ≡ 2 → ⊥) → is_listed rpc_versions n ≡ false
 version_is_not n other = rw (ne_eqb 2 n (λ is. other (sym is))) refl
 
-flavor_is : (n : ℕ) → n ≤ 1 → is_listed credential_flavors n ≡ true
+pub flavor_is : (n : ℕ) → n ≤ 1 → is_listed credential_flavors n ≡ true
 flavor_is n few = elim (cases_lt n 1) [
   | inl lt ↦ let is : n ≡ 0 = omega (arith, lt) in rw is refl
   | inr le ↦ let is : n ≡ 1 = omega (arith, le, few) in rw is refl
 ]
 
-flavor_is_not : (n : ℕ) → 1 < n → is_listed credential_flavors n ≡ false
+pub flavor_is_not : (n : ℕ) → 1 < n → is_listed credential_flavors n ≡ false
 flavor_is_not n more = rw (ne_eqb 0 n (λ is. absurd (omega (arith, is, more))), ne_eqb 1 n (λ is. absurd (omega (arith, is, more)))) refl
 
 pub version_refused : (v v1 : View) (run : List ℕ) → run_at 20 v.body v.at ≡ Ok (run, v1.at) → (big_number 4 (drop 0 run) ≡ 2 → ⊥) → Stops call_head v (errors.Stop (record { at = v.at; reason = RpcVersion }))

@@ -1,15 +1,13 @@
 -- The user and the groups of a caller, which are read as runs.
 use Rattle.std.specs.Prelude.{IfErr, OnOk}
-use Rattle.std.proofs.Common.{inl, inr, ◌≡◌, ℕ, zero, suc, ◌+◌, ◌-◌, ◌*◌, ◌/◌, ◌<◌, ◌≤◌, Bool, true, false, cond, ltb, List, [], ◌∷◌, ◌++◌, length, take, drop, replicate, Result, Ok, Err, refl, sym, ap, subst, ◌∙◌, arith}
+use Rattle.std.proofs.Common.{inl, inr, ◌≡◌, ℕ, zero, suc, ◌+◌, ◌-◌, ◌*◌, ◌/◌, ◌<◌, ◌≤◌, true, false, List, [], ◌∷◌, ◌++◌, length, take, drop, replicate, Result, Ok, Err, refl, sym, ap, subst, ◌∙◌, arith}
 use Rattle.std.proofs.lemmas.Bool.{cases_lt, le-leb, lt-leb, lt-ltb}
 use Rattle.std.proofs.lemmas.List.{drop-drop, take-replicate}
 use Rattle.byteorder.specs.Endian.{big_number}
 use Rattle.xdr3.specs.declared.plain.PlainField.{PlainField}
-use Rattle.xdr3.specs.declared.plain.PlainField.TheVariants as fields
 use Rattle.xdr3.specs.declared.reason.GetError.{GetError}
 use Rattle.xdr3.specs.declared.reason.GetError.TheVariants as errors
 use Rattle.xdr3.specs.declared.reason.Reason.TheVariants.{BadEnum, Short, TooLong}
-use Rattle.xdr3.specs.declared.reason.Stop.{Stop}
 use Rattle.xdr3.specs.Item.{Item, Word}
 use Rattle.xdr3.specs.Plain.{run_shape, run_size, shape_of, width}
 use Rattle.xdr3.specs.Reading.{Outcome, ◌>>=◌, number_at, reading, run_at, times_at, word_at}
@@ -94,14 +92,14 @@ unfolding owner gids
 owner_short v few within =
     let left = length v.body - v.at in
     stops_at owner v (short_after v.at (length v.body - v.at)) (
-      elim (cases_lt (length v.body - v.at) 4) [
-        | inl lt ↦ one_short head_names.uid is_any BadEnum (λ n. nothing) (word head_names.gid then gids) v.body v.at (v.at + (length v.body - v.at) / 4 * 4) (omega (arith, lt, within)) (omega (arith, lt))
-        | inr le ↦ later_stop head_names.uid (word head_names.gid then gids) v.body v.at (short_after v.at (length v.body - v.at)) (omega (arith, le, within)) (
+    elim (cases_lt (length v.body - v.at) 4) [
+      | inl lt ↦ one_short head_names.uid is_any BadEnum (λ n. nothing) (word head_names.gid then gids) v.body v.at (v.at + (length v.body - v.at) / 4 * 4) (omega (arith, lt, within)) (omega (arith, lt))
+      | inr le ↦ later_stop head_names.uid (word head_names.gid then gids) v.body v.at (short_after v.at (length v.body - v.at)) (omega (arith, le, within)) (
           elim (cases_lt (length v.body - v.at) 8) [
             | inl lt ↦ one_short head_names.gid is_any BadEnum (λ n. nothing) gids v.body (v.at + 4) (v.at + (length v.body - v.at) / 4 * 4) (omega (arith, lt, within)) (omega (arith, le, lt))
             | inr le8 ↦ later_stop head_names.gid gids v.body (v.at + 4) (short_after v.at (length v.body - v.at)) (omega (arith, le8, within)) (gids_short v.body (v.at + 4 + 4) (v.at + (length v.body - v.at) / 4 * 4) (omega (arith, few, within)) (omega (arith, few, within, le8)))
           ])
-      ])
+    ])
 
 pub owner_scans : {V : Type 0} (stands : V → List Item → Type 0) (run : List ℕ) (v0 v1 v2 : View) (s0 s1 s2 : V) → run_at 12 v0.body v0.at ≡ Ok (run, v1.at) → MovesOn v0 v1 → big_number 4 (drop 8 run) ≤ 16
     → Adds stands s0 s1 (Word head_names.uid (big_number 4 run) ∷ Word head_names.gid (big_number 4 (drop 4 run)) ∷ Word head_names.gids (big_number 4 (drop 4 (drop 4 run))) ∷ []) → Scans stands (group_words (big_number 4 (drop 8 run))) v1 v2 s1 s2 → Scans stands owner v0 v2 s0 s2

@@ -3,11 +3,11 @@ use Rattle.std.specs.Prelude.{◌≡◌, ℕ, zero, suc, ◌==◌, if◌then◌e
 use Rattle.xdr3.specs.Layout.{word_in}
 use Rattle.xdr3.specs.Item.{Item, Var}
 use Rattle.xdr3.specs.Reading.{reading}
-use Rattle.xdr3.specs.Shape.{Shape, ◌then◌, nothing, opaque, word}
+use Rattle.xdr3.specs.Shape.{Shape, ◌then◌, listed, nothing, opaque, word}
 use Rattle.xdr3.specs.View.{MovesOn, View}
 use Rattle.xdr3.specs.Visit.{Adds}
 use Rattle.rpc_head.specs.Names.{head_names}
-use Rattle.rpc_head.specs.Shapes.{accept, auth_sys, gids}
+use Rattle.rpc_head.specs.Shapes.{accept, auth_stats, auth_sys, gids, versions}
 
 -- what follows the flavor of a credential
 abbrev pub credential_of : ℕ → Shape
@@ -17,6 +17,11 @@ credential_of flavor =
 -- the end of the parameters of AUTH_SYS: the caller's user and groups
 unfoldable pub owner : Shape
 owner = word head_names.uid then word head_names.gid then gids
+
+-- what follows a reject_stat
+abbrev pub denied_for : ℕ → Shape
+denied_for stat =
+    if stat == 0 then versions else listed head_names.auth_stat auth_stats
 
 -- so many groups
 abbrev pub group_words : ℕ → Shape

@@ -119,11 +119,7 @@ fn scan_owner<V: Visit>(input: &mut Input, visitor: &mut V) -> Result<(), GetErr
 
 /// Reads as many groups, and visits them at once.
 #[inline(always)]
-fn scan_groups<V: Visit>(
-    count: u32,
-    input: &mut Input,
-    visitor: &mut V,
-) -> Result<(), GetError>
+fn scan_groups<V: Visit>(count: u32, input: &mut Input, visitor: &mut V) -> Result<(), GetError>
     requires { count ≤ 16 }
     ensures ok { OnOk result
         (Scans V.stands (group_words count) input.old input.new visitor.old visitor.new) }

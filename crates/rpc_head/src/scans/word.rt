@@ -49,3 +49,10 @@ pub(crate) fn first_short(input: &Input) -> Stop
         reason: Reason::Short,
     }
 }
+
+/// Returns the error of a stop.
+pub(crate) fn stop(at: u32, reason: Reason) -> GetError
+    ensures { result ≡ GetError.Stop (record { at = at; reason = reason }) }
+{
+    GetError::Stop(Stop { at, reason })
+}

@@ -1,11 +1,8 @@
 use Rattle.std.specs.Prelude.{IfErr, OnOk}
-use Rattle.std.proofs.Common.{◌≤◌, ◌<◌, ◌-◌, ℕ, length, subst, sym, ap, refl}
+use Rattle.std.proofs.Common.{◌≤◌, ◌<◌, ℕ, subst}
 use Rattle.xdr3.specs.declared.reason.GetError.{GetError}
-use Rattle.xdr3.specs.declared.reason.GetError.TheVariants as errors
 use Rattle.xdr3.specs.Scan.{Scans, Stops}
-use Rattle.xdr3.specs.View.{View}
-use Rattle.rpc_head.specs.machinery.HeadEnds.{group_words, owner}
-use Rattle.rpc_head.specs.machinery.HeadRuns.{short_after}
+use Rattle.rpc_head.specs.machinery.HeadEnds.{group_words}
 use Rattle.rpc_head.specs.Names.{head_names}
 use Rattle.rpc_head.proofs.OwnerLemmas.{count_refused, owner_scanned, owner_short, owner_stopped}
 use Rattle.rpc_head.proofs.scans.credential.scan_owner.Goals as goal
