@@ -32,9 +32,10 @@ opening_in run =
       flavor = big_number 4 (drop 16 run);
     }
 
--- The words of a call's head up to the credential's flavor stand between two places of one body, and
--- a visitor was told them.
-pub record ScansOpening {V : Type 0} (stands : V → List Item → Type 0) (opening : Opening) (old new : View) (before after : V) : Type 0 where
+-- The words of a call's head up to the credential's flavor stand between two places of one body,
+-- and a visitor was told them.
+pub record ScansOpening {V : Type 0} (stands : V → List Item → Type 0) (opening : Opening)
+    (old new : View) (before after : V) : Type 0 where
   pub rpcvers : word_at (is_listed rpc_versions) RpcVersion old.body old.at ≡ Ok (2, old.at + 4)
   pub prog : word_at is_any BadEnum old.body (old.at + 4) ≡ Ok (opening.id.prog, old.at + 8)
   pub vers : word_at is_any BadEnum old.body (old.at + 8) ≡ Ok (opening.id.vers, old.at + 12)
@@ -46,9 +47,11 @@ pub record ScansOpening {V : Type 0} (stands : V → List Item → Type 0) (open
       ∷ Word head_names.prog opening.id.prog ∷ Word head_names.vers opening.id.vers
       ∷ Word head_names.proc opening.id.proc_no ∷ Word head_names.cred_flavor opening.flavor ∷ [])
 
--- The first two words of a reply's head stand between two places of one body, and a visitor was told
--- them.
-pub record BeginsReply {V : Type 0} (stands : V → List Item → Type 0) (stat : ℕ) (accepted : ℕ → Bool) (other : Reason) (name : List ℕ) (second : ℕ) (old new : View) (before after : V) : Type 0 where
+-- The first two words of a reply's head stand between two places of one body, and a visitor was
+-- told them.
+pub record BeginsReply {V : Type 0} (stands : V → List Item → Type 0) (stat : ℕ)
+    (accepted : ℕ → Bool) (other : Reason) (name : List ℕ) (second : ℕ) (old new : View)
+    (before after : V) : Type 0 where
   pub reply_stat : word_at (is_listed reply_stats) BadEnum old.body old.at ≡ Ok (stat, old.at + 4)
   pub next : word_at accepted other old.body (old.at + 4) ≡ Ok (second, new.at)
   pub moves : MovesOn old new
