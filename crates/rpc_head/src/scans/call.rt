@@ -8,7 +8,7 @@ ghost use Rattle.xdr3.specs.Reading.{reading};
 ghost use Rattle.xdr3.specs.Scan.{Stops};
 
 use crate::scans::credential::scan_credential;
-use crate::scans::word::{first_short, word_in};
+use crate::scans::word::{first_short, stop, word_in};
 use crate::values::call::ProcId;
 use crate::values::credential::Verf;
 use crate::values::word::listed_or;
@@ -64,16 +64,10 @@ fn scan_opening<V: Visit>(input: &mut Input, visitor: &mut V) -> Result<Opening,
     };
     let opening = opening_in(run);
     if word_in(run, 0) != 2 {
-        return Err(GetError::Stop(Stop {
-            at,
-            reason: Reason::RpcVersion,
-        }));
+        return Err(stop(at, Reason::RpcVersion));
     }
     if opening.flavor > 1 {
-        return Err(GetError::Stop(Stop {
-            at: at + 16,
-            reason: Reason::Flavor,
-        }));
+        return Err(stop(at + 16, Reason::Flavor));
     }
     visitor.plain(&OPENING, run)?;
     Ok(opening)

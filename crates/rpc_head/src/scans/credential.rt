@@ -9,11 +9,11 @@ ghost use Rattle.rpc_head.specs.machinery.HeadEnds.{credential_of, group_words, 
 ghost use Rattle.xdr3.specs.Item.{Text, Var};
 ghost use Rattle.xdr3.specs.Shape.{is_listed, opaque};
 
-use crate::scans::word::{first_short, scan_listed_or, word_in};
+use crate::scans::word::{first_short, scan_listed_or, stop, word_in};
 use crate::values::credential::{AuthSys, Cred, Parameters, Verf};
 use xdr3::{
-    GetError, Input, PlainField, Reason, Scan, Stop, Visit, scan_plain, scan_sized, scan_text,
-    scan_var, scan_word,
+    GetError, Input, PlainField, Reason, Scan, Visit, scan_plain, scan_sized, scan_text, scan_var,
+    scan_word,
 };
 
 // The prover follows the name of a function, but not the letters of a long name of an item.
@@ -57,10 +57,7 @@ fn scan_machinename<V: Visit>(input: &mut Input, visitor: &mut V) -> Result<(), 
 
 #[inline(always)]
 #[tactic(auto, unfolding(crate::specs::Names::head_names))]
-pub(crate) fn scan_verf_flavor<V: Visit>(
-    input: &mut Input,
-    visitor: &mut V,
-) -> Result<u32, GetError>
+fn scan_verf_flavor<V: Visit>(input: &mut Input, visitor: &mut V) -> Result<u32, GetError>
     ensures ok { IfOk result
         (λ n. ScansWord V.stands head_names.verf_flavor
         (is_listed shapes.verifier_flavors) Reason.Flavor n input.old input.new visitor.old
@@ -108,10 +105,7 @@ fn scan_owner<V: Visit>(input: &mut Input, visitor: &mut V) -> Result<(), GetErr
     };
     let count = word_in(run, 8);
     if count > 16 {
-        return Err(GetError::Stop(Stop {
-            at: at + 8,
-            reason: Reason::TooLong,
-        }));
+        return Err(stop(at + 8, Reason::TooLong));
     }
     visitor.plain(&OWNER, run)?;
     scan_groups(count, input, visitor)

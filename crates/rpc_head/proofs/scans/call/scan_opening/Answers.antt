@@ -9,11 +9,11 @@ opening_in-opening-requires g c = run_size_is 20 c.args.input.now.body c.in-Some
 
 pub returns-then-word_in-ne2-clause-err : goal.returns-then-word_in-ne2-clause-err
 returns-then-word_in-ne2-clause-err g c =
-    rw c.at-at.ensures.place (version_refused c.args.input.now c.run.new.self c.in-Some.run'.now c.in-Some.ensures.read (λ is. c.if-word_in-ne2.true (c.word_in.ensures ∙ is)))
+    rw (c.stop.ensures, c.at-at.ensures.place) (version_refused c.args.input.now c.run.new.self c.in-Some.run'.now c.in-Some.ensures.read (λ is. c.if-word_in-ne2.true (c.word_in.ensures ∙ is)))
 
 pub returns-then-opening-gt1-clause-err : goal.returns-then-opening-gt1-clause-err
 returns-then-opening-gt1-clause-err g c =
-    rw c.at-at.ensures.place (flavor_refused c.args.input.now c.run.new.self c.in-Some.run'.now c.in-Some.ensures.read (sym c.word_in.ensures ∙ c.if-word_in-ne2.false) (subst (λ (o : Opening). 1 < o.flavor) c.opening_in-opening.ensures c.if-opening-gt1.true))
+    rw (c.stop-then-opening-gt1.ensures, c.at-at.ensures.place) (flavor_refused c.args.input.now c.run.new.self c.in-Some.run'.now c.in-Some.ensures.read (sym c.word_in.ensures ∙ c.if-word_in-ne2.false) (subst (λ (o : Opening). 1 < o.flavor) c.opening_in-opening.ensures c.if-opening-gt1.true))
 
 pub returns-clause-ok : goal.returns-clause-ok
 unfolding head_names

@@ -13,7 +13,7 @@ returns-in_default-clause-err g c =
 
 pub returns-then-count-gt16-clause-err : goal.returns-then-count-gt16-clause-err
 returns-then-count-gt16-clause-err g c =
-    rw c.at-at.ensures.place (count_refused c.args.input.now c.run.new.self c.in-Some.run'.now c.in-Some.ensures.read (subst (λ (n : ℕ). 16 < n) c.word_in-count.ensures c.if-count-gt16.true))
+    rw (c.stop.ensures, c.at-at.ensures.place) (count_refused c.args.input.now c.run.new.self c.in-Some.run'.now c.in-Some.ensures.read (subst (λ (n : ℕ). 16 < n) c.word_in-count.ensures c.if-count-gt16.true))
 
 pub returns-clause-ok : goal.returns-clause-ok
 unfolding head_names
