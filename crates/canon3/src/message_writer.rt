@@ -145,6 +145,7 @@ impl<S: BuildHasher + Drop> MessageWriter<S> {
     }
 
     /// Takes the first field, which may be the xid, and then the others at once.
+    #[inline(never)]
     fn write_first(&mut self, fields: &[PlainField], bytes: &[u8]) -> Result<(), AllocError>
         requires size { length bytes.now ≡ run_size fields.now }
         requires begins { self.old.stage ≡ Stage.Begins }
@@ -228,6 +229,8 @@ impl<S: BuildHasher + Drop> Visit for MessageWriter<S> {
         self.writer.rest(name, bytes)
     }
 
+    // Inlined, so that runs of a constant size are copied by a few moves.
+    #[inline(always)]
     fn plain(&mut self, fields: &[PlainField], bytes: &[u8]) -> Result<(), AllocError> {
         match self.stage {
             Stage::Begins => {
