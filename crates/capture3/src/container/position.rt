@@ -470,7 +470,12 @@ impl Position {
     /// Returns the position after the length word of a chunk, which is open if the limit leaves
     /// room for it.
     #[inline(always)]
-    pub(crate) fn chunk_opened(self, count: usize, len: u32, chunk: Spot) -> Result<Transition, Error>
+    pub(crate) fn chunk_opened(
+        self,
+        count: usize,
+        len: u32,
+        chunk: Spot,
+    ) -> Result<Transition, Error>
         requires at { self.at < 2 ^ 60 }
         requires small { self.total ≤ MAX_BYTES }
         ensures fits { IfOk result (λ taken. self.total + len ≤ MAX_BYTES) }
