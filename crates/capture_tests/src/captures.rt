@@ -1,5 +1,6 @@
 //! Readers of captures, and what they hand out, lend and keep.
 
+use crate::asserts::{assert_holds, assert_same, ok};
 use crate::sample::NULL;
 use capture3::{
     DeviceFailed, Entries, Entry, EntryRef, Error, Fault, FromRead, Kind, MemSource, Place, Silent,
@@ -10,7 +11,6 @@ use std::alloc::Global;
 use std::hash::{BuildHasherDefault, FoldHasher};
 use std::io::{self, ErrorKind, Read};
 use std::process::Abort;
-use std::test::Fail;
 use xdr3::{Reason, Writer};
 
 const NULL_PROCEDURE: ProcId = ProcId {
@@ -20,7 +20,7 @@ const NULL_PROCEDURE: ProcId = ProcId {
 };
 
 /// A hasher without a key: the answers do not depend on it.
-pub(crate) fn hasher() -> BuildHasherDefault<FoldHasher> {
+fn hasher() -> BuildHasherDefault<FoldHasher> {
     BuildHasherDefault::default()
 }
 
@@ -47,19 +47,18 @@ pub(crate) fn name_of(kind: Kind) -> &'static str {
 }
 
 #[test]
-fn a_call_and_its_reply(rt: HostRuntime) -> Result<(), Fail> {
-    let entries = parse(rt.alloc(), &NULL)?;
+fn a_call_and_its_reply(rt: HostRuntime) {
+    let entries = ok(&rt, parse(rt.alloc(), &NULL));
     let names = ["begin", "call", "turn", "reply", "close", "end"];
-    assert_eq!(rt; entries.len(), names.len());
+    assert_same!(rt; entries.len(), names.len());
     for (entry, wanted) in entries.iter().zip(names.iter()) {
-        assert_eq!(rt; name(entry), *wanted);
+        assert_same!(rt; name(entry), *wanted);
         match entry {
-            Entry::Call(kept) => assert!(rt; kept.id == NULL_PROCEDURE),
-            Entry::Reply(kept) => assert!(rt; kept.id == NULL_PROCEDURE),
+            Entry::Call(kept) => assert_holds!(rt; kept.id == NULL_PROCEDURE),
+            Entry::Reply(kept) => assert_holds!(rt; kept.id == NULL_PROCEDURE),
             _ => {}
         }
     }
-    Ok(())
 }
 
 #[test]
@@ -72,7 +71,7 @@ fn a_shorter_prefix_is_cut(rt: HostRuntime) {
                     place: Place::File { at: size as u64 },
                     reason: Reason::CaptureCut,
                 });
-                assert_eq!(rt; error, cut, "of {size} bytes");
+                assert_same!(rt; error, cut);
             }
         }
     }
@@ -82,7 +81,7 @@ fn a_shorter_prefix_is_cut(rt: HostRuntime) {
 fn read_all<S: Source>(rt: &impl Abort, source: &mut S, answers: &[Result<usize, DeviceFailed>]) {
     let mut buf = [0; 16];
     for answer in answers {
-        assert_eq!(rt; source.read_some(&mut buf), *answer);
+        assert_same!(rt; source.read_some(&mut buf), *answer);
     }
 }
 
@@ -131,28 +130,37 @@ pub(crate) fn file_fault(at: usize, reason: Reason) -> Error {
     })
 }
 
+/// A reader of the source, through a block as it is advised.
+pub(crate) fn reader<'r, R: Source>(
+    rt: &impl Abort,
+    alloc: Global,
+    source: &'r mut R,
+) -> Entries<'r, R, BuildHasherDefault<FoldHasher>> {
+    let block = new_block(alloc).expect(rt, "no memory");
+    Entries::through(alloc, hasher(), source, block)
+}
+
 /// The names of the entries up to the end or to an error. Each is answered again.
 pub(crate) fn read_names<S: Source>(
     rt: &impl Abort,
     alloc: Global,
     source: &mut S,
-) -> Result<(Vec<&'static str>, Option<Error>), Fail> {
-    let block = new_block(alloc)?;
-    let mut entries = Entries::through(alloc, hasher(), source, block);
+) -> (Vec<&'static str>, Option<Error>) {
+    let mut entries = reader(rt, alloc, source);
     let mut names = Vec::new(alloc);
     for _ in 0..10 {
         match entries.next(&mut Silent) {
-            Ok(Some(kind)) => names.push(name_of(kind))?,
+            Ok(Some(kind)) => ok(&rt, names.push(name_of(kind))),
             Ok(None) => {
-                assert!(rt; matches!(entries.next(&mut Silent), Ok(None)));
-                return Ok((names, None));
+                assert_holds!(rt; matches!(entries.next(&mut Silent), Ok(None)));
+                return (names, None);
             }
             Err(error) => {
                 match entries.next(&mut Silent) {
                     Ok(_) => panic!(rt; "goes on after {error:?}"),
-                    Err(again) => assert_eq!(rt; again, error),
+                    Err(again) => assert_same!(rt; again, error),
                 }
-                return Ok((names, Some(error)));
+                return (names, Some(error));
             }
         }
     }
@@ -162,174 +170,160 @@ pub(crate) fn read_names<S: Source>(
 /// The names are those of the entries that so many bytes of the capture reach, without its end.
 fn assert_names_within(rt: &impl Abort, names: &[&'static str], size: usize) {
     let count = NEEDED.iter().filter(|needed| **needed <= size).count();
-    assert_eq!(rt; names.len(), count, "within {size} bytes");
+    assert_same!(rt; (size, names.len()), (size, count));
     for (got, wanted) in names.iter().zip(NAMES.iter()) {
-        assert_eq!(rt; *got, *wanted, "within {size} bytes");
+        assert_same!(rt; (size, *got), (size, *wanted));
     }
 }
 
 #[test]
-fn entries_in_blocks(rt: HostRuntime) -> Result<(), Fail> {
+fn entries_in_blocks(rt: HostRuntime) {
     for block in [1, 2, 3, 7, 60, 104, 65_536] {
-        let (names, error) = read_names(&rt, rt.alloc(), &mut MemSource::new(&NULL, block, 0))?;
-        assert_eq!(rt; names.as_slice(), NAMES.as_slice(), "in blocks of {block}");
-        assert_eq!(rt; error, None);
+        let (names, error) = read_names(&rt, rt.alloc(), &mut MemSource::new(&NULL, block, 0));
+        assert_same!(rt; (block, names.as_slice()), (block, NAMES.as_slice()));
+        assert_same!(rt; error, None);
     }
-    let (names, error) = read_names(&rt, rt.alloc(), &mut FromRead::new(NULL.as_slice()))?;
-    assert_eq!(rt; names.as_slice(), NAMES.as_slice());
-    assert_eq!(rt; error, None);
-    Ok(())
+    let (names, error) = read_names(&rt, rt.alloc(), &mut FromRead::new(NULL.as_slice()));
+    assert_same!(rt; names.as_slice(), NAMES.as_slice());
+    assert_same!(rt; error, None);
 }
 
 /// A message that is told to a visitor that writes is its body again.
-pub(crate) fn message_is_told(
-    rt: &impl Abort,
-    alloc: Global,
-    lent: EntryRef<'_>,
-) -> Result<(), Fail> {
+pub(crate) fn message_is_told(rt: &impl Abort, alloc: Global, lent: EntryRef<'_>) {
     let mut told = Writer::new(alloc);
     match lent {
         EntryRef::Call(call) => {
-            assert_eq!(rt; call.xid(), 0xdead_beef);
-            call.scan(&mut told)?;
-            assert!(rt; told.bytes() == call.body);
+            assert_same!(rt; call.xid(), 0xdead_beef);
+            ok(rt, call.scan(&mut told));
+            assert_holds!(rt; told.bytes() == call.body);
         }
         EntryRef::Reply(reply) => {
-            assert_eq!(rt; reply.xid(), 0xdead_beef);
-            reply.scan(&mut told)?;
-            assert!(rt; told.bytes() == reply.body);
+            assert_same!(rt; reply.xid(), 0xdead_beef);
+            ok(rt, reply.scan(&mut told));
+            assert_holds!(rt; told.bytes() == reply.body);
         }
         EntryRef::Begin | EntryRef::Turn | EntryRef::Close | EntryRef::End => {}
     }
-    Ok(())
 }
 
 #[test]
-fn kept_messages_are_told(rt: HostRuntime) -> Result<(), Fail> {
-    for entry in parse(rt.alloc(), &NULL)?.iter() {
+fn kept_messages_are_told(rt: HostRuntime) {
+    for entry in ok(&rt, parse(rt.alloc(), &NULL)).iter() {
         match entry {
-            Entry::Call(kept) => message_is_told(&rt, rt.alloc(), EntryRef::Call(kept.lend()))?,
-            Entry::Reply(kept) => message_is_told(&rt, rt.alloc(), EntryRef::Reply(kept.lend()))?,
+            Entry::Call(kept) => message_is_told(&rt, rt.alloc(), EntryRef::Call(kept.lend())),
+            Entry::Reply(kept) => message_is_told(&rt, rt.alloc(), EntryRef::Reply(kept.lend())),
             Entry::Begin | Entry::Turn | Entry::Close | Entry::End => {}
         }
     }
-    Ok(())
 }
 
 /// None is lent before the first entry and after an error, here of the read of byte 70.
 #[test]
-fn lent_messages_are_told(rt: HostRuntime) -> Result<(), Fail> {
+fn lent_messages_are_told(rt: HostRuntime) {
     let mut source = MemSource::new(&NULL, 10, 8);
-    let mut entries = Entries::through(rt.alloc(), hasher(), &mut source, new_block(rt.alloc())?);
-    assert!(rt; entries.entry().is_none());
+    let mut entries = reader(&rt, rt.alloc(), &mut source);
+    assert_holds!(rt; entries.entry().is_none());
     for wanted in ["begin", "call", "turn"] {
-        entries.next(&mut Silent)?;
+        ok(&rt, entries.next(&mut Silent));
         let Some(lent) = entries.entry() else {
             panic!(rt; "none is lent")
         };
-        assert_eq!(rt; name(&lent.keep(rt.alloc())?), wanted);
-        message_is_told(&rt, rt.alloc(), lent)?;
+        assert_same!(rt; name(&ok(&rt, lent.keep(rt.alloc()))), wanted);
+        message_is_told(&rt, rt.alloc(), lent);
     }
-    assert!(rt; entries.next(&mut Silent).is_err());
-    assert!(rt; entries.entry().is_none());
-    Ok(())
+    assert_holds!(rt; entries.next(&mut Silent).is_err());
+    assert_holds!(rt; entries.entry().is_none());
 }
 
 /// A visitor that writes what it is told writes the call's body, bytes 20 to 59, and the reply's, bytes 72
 /// to 95, and between them nothing.
 #[test]
-fn messages_are_told_one_by_one(rt: HostRuntime) -> Result<(), Fail> {
+fn messages_are_told_one_by_one(rt: HostRuntime) {
     let mut source = MemSource::new(&NULL, 5, 0);
-    let mut entries = Entries::through(rt.alloc(), hasher(), &mut source, new_block(rt.alloc())?);
+    let mut entries = reader(&rt, rt.alloc(), &mut source);
     for wanted in NAMES {
         let mut told = Writer::new(rt.alloc());
-        let Some(kind) = entries.next(&mut told)? else {
+        let Some(kind) = ok(&rt, entries.next(&mut told)) else {
             panic!(rt; "too few entries")
         };
-        assert_eq!(rt; name_of(kind), wanted);
+        assert_same!(rt; name_of(kind), wanted);
         match kind {
             Kind::Call(id) => {
-                assert!(rt; id == NULL_PROCEDURE);
-                assert!(rt; told.bytes() == &NULL[20..60]);
+                assert_holds!(rt; id == NULL_PROCEDURE);
+                assert_holds!(rt; told.bytes() == &NULL[20..60]);
             }
             Kind::Reply(id) => {
-                assert!(rt; id == NULL_PROCEDURE);
-                assert!(rt; told.bytes() == &NULL[72..96]);
+                assert_holds!(rt; id == NULL_PROCEDURE);
+                assert_holds!(rt; told.bytes() == &NULL[72..96]);
             }
-            _ => assert!(rt; told.bytes().is_empty()),
+            _ => assert_holds!(rt; told.bytes().is_empty()),
         }
     }
-    Ok(())
 }
 
 #[test]
-fn a_read_fails_at_each_call(rt: HostRuntime) -> Result<(), Fail> {
+fn a_read_fails_at_each_call(rt: HostRuntime) {
     for fail in 1..15usize {
         let mut source = MemSource::new(&NULL, 8, fail as u64);
-        let (names, error) = read_names(&rt, rt.alloc(), &mut source)?;
+        let (names, error) = read_names(&rt, rt.alloc(), &mut source);
         let given = 8 * (fail - 1);
         assert_names_within(&rt, &names, given);
-        assert_eq!(rt; error, Some(Error::Read));
+        assert_same!(rt; error, Some(Error::Read));
     }
-    Ok(())
 }
 
 #[test]
-fn entries_of_a_shorter_prefix(rt: HostRuntime) -> Result<(), Fail> {
+fn entries_of_a_shorter_prefix(rt: HostRuntime) {
     for size in 0..NULL.len() {
-        let (names, error) = read_names(&rt, rt.alloc(), &mut MemSource::new(&NULL[..size], 5, 0))?;
+        let (names, error) = read_names(&rt, rt.alloc(), &mut MemSource::new(&NULL[..size], 5, 0));
         assert_names_within(&rt, &names, size);
-        assert_eq!(rt; error, Some(file_fault(size, Reason::CaptureCut)));
+        assert_same!(rt; error, Some(file_fault(size, Reason::CaptureCut)));
     }
-    Ok(())
 }
 
 #[test]
-fn a_byte_after_the_end(rt: HostRuntime) -> Result<(), Fail> {
-    let mut bytes = Vec::from_slice(rt.alloc(), &NULL)?;
-    bytes.push(0)?;
+fn a_byte_after_the_end(rt: HostRuntime) {
+    let mut bytes = ok(&rt, Vec::from_slice(rt.alloc(), &NULL));
+    ok(&rt, bytes.push(0));
     for block in [1, 104, 105] {
-        let (names, error) = read_names(&rt, rt.alloc(), &mut MemSource::new(&bytes, block, 0))?;
-        assert_eq!(rt; names.as_slice(), &NAMES[..5]);
-        assert_eq!(rt; error, Some(file_fault(104, Reason::AfterEnd)));
+        let (names, error) = read_names(&rt, rt.alloc(), &mut MemSource::new(&bytes, block, 0));
+        assert_same!(rt; names.as_slice(), &NAMES[..5]);
+        assert_same!(rt; error, Some(file_fault(104, Reason::AfterEnd)));
     }
-    Ok(())
 }
 
 /// A connection of 20,000 calls of NULL, each with an xid of its own.
 #[test]
-fn calls_with_many_xids(rt: HostRuntime) -> Result<(), Fail> {
-    let mut file = Vec::from_slice(rt.alloc(), &NULL[..12])?;
+fn calls_with_many_xids(rt: HostRuntime) {
+    let mut file = ok(&rt, Vec::from_slice(rt.alloc(), &NULL[..12]));
     for xid in 0..20_000_u32 {
         // the lengths of the chunk and of the fragment, the xid, and the rest of the call
-        file.extend_from_slice(&NULL[12..20])?;
-        file.extend_from_slice(&xid.to_be_bytes())?;
-        file.extend_from_slice(&NULL[24..60])?;
+        ok(&rt, file.extend_from_slice(&NULL[12..20]));
+        ok(&rt, file.extend_from_slice(&xid.to_be_bytes()));
+        ok(&rt, file.extend_from_slice(&NULL[24..60]));
     }
     // no replies, and no more connections
-    file.extend_from_slice(&[0; 12])?;
+    ok(&rt, file.extend_from_slice(&[0; 12]));
     let mut source = MemSource::new(&file, 65_536, 0);
-    let mut entries = Entries::through(rt.alloc(), hasher(), &mut source, new_block(rt.alloc())?);
+    let mut entries = reader(&rt, rt.alloc(), &mut source);
     let mut calls = 0_u32;
     for _ in 0..20_004 {
-        if let Some(Kind::Call(_)) = entries.next(&mut Silent)? {
+        if let Some(Kind::Call(_)) = ok(&rt, entries.next(&mut Silent)) {
             calls = calls.saturating_add(1);
         }
     }
-    assert_eq!(rt; calls, 20_000);
-    assert!(rt; matches!(entries.next(&mut Silent), Ok(None)));
-    Ok(())
+    assert_same!(rt; calls, 20_000);
+    assert_holds!(rt; matches!(entries.next(&mut Silent), Ok(None)));
 }
 
 #[test]
-fn magic_and_words(rt: HostRuntime) -> Result<(), Fail> {
-    assert_eq!(rt;
+fn magic_and_words(rt: HostRuntime) {
+    assert_same!(rt;
         pack_header(),
         [0x4e, 0x46, 0x53, 0x33, 0x43, 0x41, 0x50, 0x31]
     );
-    assert_eq!(rt; pack_chunk(0), [0, 0, 0, 0]);
-    assert_eq!(rt; pack_chunk(1), [0, 0, 0, 1]);
-    assert_eq!(rt; pack_chunk(0x0102_0304), [1, 2, 3, 4]);
-    assert_eq!(rt; pack_chunk(0xffff_ffff), [0xff, 0xff, 0xff, 0xff]);
-    Ok(())
+    assert_same!(rt; pack_chunk(0), [0, 0, 0, 0]);
+    assert_same!(rt; pack_chunk(1), [0, 0, 0, 1]);
+    assert_same!(rt; pack_chunk(0x0102_0304), [1, 2, 3, 4]);
+    assert_same!(rt; pack_chunk(0xffff_ffff), [0xff, 0xff, 0xff, 0xff]);
 }

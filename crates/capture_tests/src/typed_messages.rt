@@ -3,12 +3,12 @@
 
 ghost use Rattle.std.specs.Prelude.{◌≤◌, length};
 
+use crate::asserts::{assert_holds, assert_same, ok};
 use crate::sample::NULL;
 use capture3::{Entry, pack_chunk, pack_header, parse};
 use nfs3_types::Res;
 use rpc_head::ProcId;
 use std::alloc::{AllocError, Global};
-use std::test::Fail;
 use typed3::{Args, Results, read_call, read_reply};
 use xdr3::{GetError, Input, Reason, Stop, Walk, Writer};
 
@@ -55,48 +55,45 @@ fn results(alloc: Global, id: ProcId, body: &[u8]) -> Result<Results<'_>, GetErr
 }
 
 #[test]
-fn arguments_are_read(rt: HostRuntime) -> Result<(), Fail> {
+fn arguments_are_read(rt: HostRuntime) {
     let alloc = rt.alloc();
     let Ok(Args::Write(write)) = arguments(alloc, nfs(7), &WRITE) else {
-        return Err("no WRITE".into());
+        panic!(rt; "no WRITE")
     };
-    assert_eq!(rt; (write.offset, write.count), (9, 2));
-    assert_eq!(rt; write.content, b"hi".as_slice());
+    assert_same!(rt; (write.offset, write.count), (9, 2));
+    assert_same!(rt; write.content, b"hi".as_slice());
     let Ok(Args::Raw(raw)) = arguments(alloc, nfs(22), &WRITE) else {
-        return Err("not raw".into());
+        panic!(rt; "not raw")
     };
-    assert_eq!(rt; raw, WRITE.as_slice());
-    Ok(())
+    assert_same!(rt; raw, WRITE.as_slice());
 }
 
 #[test]
-fn results_are_read(rt: HostRuntime) -> Result<(), Fail> {
+fn results_are_read(rt: HostRuntime) {
     let Ok(Results::ReadDirPlus(Res::Done(told))) = results(rt.alloc(), nfs(17), &READDIRPLUS)
     else {
-        return Err("no READDIRPLUS".into());
+        panic!(rt; "no READDIRPLUS")
     };
-    assert!(rt; told.eof && told.entries.len() == 1);
+    assert_holds!(rt; told.eof && told.entries.len() == 1);
     let entry = &told.entries[0];
-    assert_eq!(rt; (entry.fileid, entry.cookie), (7, 3));
-    assert_eq!(rt; entry.name, b"a".as_slice());
-    assert!(rt;
+    assert_same!(rt; (entry.fileid, entry.cookie), (7, 3));
+    assert_same!(rt; entry.name, b"a".as_slice());
+    assert_holds!(rt;
         entry
             .handle
             .handle
             .is_some_and(|h| h.as_slice() == [0xaa].as_slice())
     );
-    Ok(())
 }
 
 #[test]
-fn values_are_written_again(rt: HostRuntime) -> Result<(), Fail> {
+fn values_are_written_again(rt: HostRuntime) {
     let alloc = rt.alloc();
     let mut writer = Writer::new(alloc);
     let mut input = Input::new(&WRITE);
-    let args = Args::get(alloc, nfs(7), &mut input).map_err(|_| "refused")?;
-    args.walk(&mut writer)?;
-    assert_eq!(rt; writer.bytes(), WRITE.as_slice());
-    Ok(())
+    let args = Args::get(alloc, nfs(7), &mut input).expect(&rt, "refused");
+    ok(&rt, args.walk(&mut writer));
+    assert_same!(rt; writer.bytes(), WRITE.as_slice());
 }
 
 #[test]
@@ -105,39 +102,38 @@ fn where_values_are_refused(rt: HostRuntime) {
         at: 28,
         reason: Reason::Short,
     };
-    assert!(rt;
+    assert_holds!(rt;
         matches!(arguments(rt.alloc(), nfs(7), &WRITE[..30]), Err(GetError::Stop(stop)) if stop == short)
     );
     let status = Stop {
         at: 0,
         reason: Reason::BadEnum,
     };
-    assert!(rt;
+    assert_holds!(rt;
         matches!(results(rt.alloc(), nfs(1), &[0, 0, 0, 3]), Err(GetError::Stop(stop)) if stop == status)
     );
 }
 
 #[test]
-fn kept_messages_are_read(rt: HostRuntime) -> Result<(), Fail> {
+fn kept_messages_are_read(rt: HostRuntime) {
     let alloc = rt.alloc();
-    let entries = parse(alloc, &NULL)?;
+    let entries = ok(&rt, parse(alloc, &NULL));
     for entry in &entries {
         match entry {
             Entry::Call(kept) => {
-                let call = read_call(alloc, kept.lend())?;
-                assert_eq!(rt; call.xid, 0xdead_beef);
-                assert!(rt; call.head.id == nfs(0));
-                assert!(rt; matches!(call.args, Args::Null));
+                let call = ok(&rt, read_call(alloc, kept.lend()));
+                assert_same!(rt; call.xid, 0xdead_beef);
+                assert_holds!(rt; call.head.id == nfs(0));
+                assert_holds!(rt; matches!(call.args, Args::Null));
             }
             Entry::Reply(kept) => {
-                let reply = read_reply(alloc, kept.lend())?;
-                assert_eq!(rt; reply.xid, 0xdead_beef);
-                assert!(rt; matches!(&reply.results, Some(Results::Null)));
+                let reply = ok(&rt, read_reply(alloc, kept.lend()));
+                assert_same!(rt; reply.xid, 0xdead_beef);
+                assert_holds!(rt; matches!(&reply.results, Some(Results::Null)));
             }
             _ => {}
         }
     }
-    Ok(())
 }
 
 /// The arguments of a READDIRPLUS of the handle aa, from its beginning.
@@ -180,7 +176,7 @@ fn push_record(file: &mut Vec<u8>, body: &[u8]) -> Result<(), AllocError> {
 }
 
 /// A capture of one connection.
-fn capture(alloc: Global, calls: &[Vec<u8>], replies: &[Vec<u8>]) -> Result<Vec<u8>, AllocError> {
+fn capture(alloc: Global, calls: &[&[u8]], replies: &[&[u8]]) -> Result<Vec<u8>, AllocError> {
     let mut file = Vec::from_slice(alloc, &pack_header())?;
     file.extend_from_slice(&pack_chunk(1))?;
     for body in calls {
@@ -195,54 +191,59 @@ fn capture(alloc: Global, calls: &[Vec<u8>], replies: &[Vec<u8>]) -> Result<Vec<
 }
 
 #[test]
-fn a_kept_reply_is_read_as_its_results(rt: HostRuntime) -> Result<(), Fail> {
+fn a_kept_reply_is_read_as_its_results(rt: HostRuntime) {
     let alloc = rt.alloc();
-    let calls = vec![in alloc; call(alloc, 17, &READDIRPLUS_ARGS)?]?;
-    let replies = vec![in alloc; reply(alloc, &READDIRPLUS)?]?;
-    let entries = parse(alloc, &capture(alloc, &calls, &replies)?)?;
+    let calls = ok(&rt, call(alloc, 17, &READDIRPLUS_ARGS));
+    let replies = ok(&rt, reply(alloc, &READDIRPLUS));
+    let entries = ok(
+        &rt,
+        parse(
+            alloc,
+            &ok(
+                &rt,
+                capture(alloc, &[calls.as_slice()], &[replies.as_slice()]),
+            ),
+        ),
+    );
     let Some(Entry::Reply(kept)) = entries.get(3) else {
-        return Err("no reply".into());
+        panic!(rt; "no reply")
     };
-    let read = read_reply(alloc, kept.lend())?;
-    let direct = results(alloc, nfs(17), &READDIRPLUS).map_err(|_| "refused")?;
+    let read = ok(&rt, read_reply(alloc, kept.lend()));
+    let direct = ok(&rt, results(alloc, nfs(17), &READDIRPLUS));
     let (Some(Results::ReadDirPlus(Res::Done(read))), Results::ReadDirPlus(Res::Done(direct))) = (
         &read.results,
         &direct,
     ) else {
-        return Err("no READDIRPLUS".into());
+        panic!(rt; "no READDIRPLUS")
     };
-    assert_eq!(rt;
+    assert_same!(rt;
         (read.eof, read.cookieverf),
         (direct.eof, direct.cookieverf)
     );
-    assert!(rt; read.entries.len() == 1 && direct.entries.len() == 1);
+    assert_holds!(rt; read.entries.len() == 1 && direct.entries.len() == 1);
     let one = &read.entries[0];
     let other = &direct.entries[0];
-    assert_eq!(rt; (one.fileid, one.cookie), (other.fileid, other.cookie));
-    assert_eq!(rt; one.name, other.name);
-    assert!(rt; one.handle.handle == other.handle.handle);
-    Ok(())
+    assert_same!(rt; (one.fileid, one.cookie), (other.fileid, other.cookie));
+    assert_same!(rt; one.name, other.name);
+    assert_holds!(rt; one.handle.handle == other.handle.handle);
 }
 
 #[test]
-fn two_calls_of_one_xid_are_read_alike(rt: HostRuntime) -> Result<(), Fail> {
+fn two_calls_of_one_xid_are_read_alike(rt: HostRuntime) {
     let alloc = rt.alloc();
-    let calls = vec![in alloc;
-        call(alloc, 3, &LOOKUP_ARGS)?,
-        call(alloc, 3, &LOOKUP_ARGS)?,
-    ]?;
-    let entries = parse(alloc, &capture(alloc, &calls, &[])?)?;
+    let body = ok(&rt, call(alloc, 3, &LOOKUP_ARGS));
+    let calls = [body.as_slice(), body.as_slice()];
+    let entries = ok(&rt, parse(alloc, &ok(&rt, capture(alloc, &calls, &[]))));
     let (Some(Entry::Call(first)), Some(Entry::Call(second))) = (entries.get(1), entries.get(2))
     else {
-        return Err("no calls".into());
+        panic!(rt; "no calls")
     };
-    let first = read_call(alloc, first.lend())?;
-    let second = read_call(alloc, second.lend())?;
-    assert_eq!(rt; (first.xid, second.xid), (9, 9));
+    let first = ok(&rt, read_call(alloc, first.lend()));
+    let second = ok(&rt, read_call(alloc, second.lend()));
+    assert_same!(rt; (first.xid, second.xid), (9, 9));
     let (Args::Lookup(one), Args::Lookup(other)) = (&first.args, &second.args) else {
-        return Err("no LOOKUP".into());
+        panic!(rt; "no LOOKUP")
     };
-    assert!(rt; one.dir == other.dir);
-    assert_eq!(rt; one.name, other.name);
-    Ok(())
+    assert_holds!(rt; one.dir == other.dir);
+    assert_same!(rt; one.name, other.name);
 }

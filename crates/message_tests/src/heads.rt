@@ -3,12 +3,12 @@
 ghost use Rattle.std.specs.Prelude.{◌≤◌, IfOk, length};
 ghost use Rattle.xdr3.specs.Visit.{AreWithinLimit, body_limit};
 
+use crate::asserts::{assert_holds, assert_same, ok};
 use rpc_head::{
     Accept, CallHead, Cred, Deny, ProcId, ReplyHead, Start, Verf, scan_call_head, scan_reply_head,
     start,
 };
 use std::alloc::{AllocError, Global};
-use std::test::Fail;
 use xdr3::{GetError, Input, Walk, Writer, Xdr};
 
 /// The words' bytes, the first `len` of them.
@@ -61,55 +61,53 @@ fn sys_call(alloc: Global, length: u32, name: u32, rest: &[u32]) -> Result<Vec<u
 }
 
 #[test]
-fn starts(rt: HostRuntime) -> Result<(), Fail> {
+fn starts(rt: HostRuntime) {
     let alloc = rt.alloc();
     for (mtype, is_reply) in [(0, false), (1, true)] {
-        let body = spelled(alloc, &[0xdead_beef, mtype], 8)?;
-        assert!(rt; body.len() == 8);
+        let body = ok(&rt, spelled(alloc, &[0xdead_beef, mtype], 8));
+        assert_holds!(rt; body.len() == 8);
         let mut input = Input::new(body.as_slice());
-        assert_eq!(rt;
+        assert_same!(rt;
             start(&mut input),
             Ok(Start {
                 xid: 0xdead_beef,
                 is_reply
             })
         );
-        assert_eq!(rt; input.left(), 0);
+        assert_same!(rt; input.left(), 0);
     }
-    Ok(())
 }
 
 #[test]
-fn credentials_that_are_read(rt: HostRuntime) -> Result<(), Fail> {
+fn credentials_that_are_read(rt: HostRuntime) {
     let alloc = rt.alloc();
     let groups: [u32; 16] = [1, 2, 3, 4, 5, 6, 7, 8, 9, 10, 11, 12, 13, 14, 15, u32::MAX];
     for count in [0, 1, 16] {
-        let mut body = sys_call(alloc, 28 + 4 * count, 6, &[count])?;
+        let mut body = ok(&rt, sys_call(alloc, 28 + 4 * count, 6, &[count]));
         for group in &groups[..count as usize] {
-            body.extend_from_slice(&group.to_be_bytes())?;
+            ok(&rt, body.extend_from_slice(&group.to_be_bytes()));
         }
-        body.extend_from_slice(&[0; 8])?;
-        assert!(rt; 8 <= body.len() && body.len() <= 132);
-        let head: CallHead = value_in(alloc, &body[8..]).map_err(|_| "refused")?;
-        assert_eq!(rt;
+        ok(&rt, body.extend_from_slice(&[0; 8]));
+        assert_holds!(rt; 8 <= body.len() && body.len() <= 132);
+        let head: CallHead = ok(&rt, value_in(alloc, &body[8..]));
+        assert_same!(rt;
             (head.id.prog, head.id.vers, head.id.proc_no),
             (100003, 3, 0)
         );
-        assert!(rt; head.verf.body.is_empty());
+        assert_holds!(rt; head.verf.body.is_empty());
         match head.cred {
             Cred::Sys(sys) => {
-                assert_eq!(rt; (sys.stamp, sys.uid, sys.gid), (1, 0, 0));
-                assert_eq!(rt; sys.machinename, b"client".as_slice());
-                assert_eq!(rt; sys.gids.as_slice(), &groups[..count as usize]);
+                assert_same!(rt; (sys.stamp, sys.uid, sys.gid), (1, 0, 0));
+                assert_same!(rt; sys.machinename, b"client".as_slice());
+                assert_same!(rt; sys.gids.as_slice(), &groups[..count as usize]);
             }
-            Cred::Plain(_) => assert!(rt; false),
+            Cred::Plain(_) => panic!(rt; "another credential"),
         }
     }
-    Ok(())
 }
 
 #[test]
-fn replies_that_are_read(rt: HostRuntime) -> Result<(), Fail> {
+fn replies_that_are_read(rt: HostRuntime) {
     let alloc = rt.alloc();
     let rows: [(&[u32], Option<Accept>, Option<Deny>); 9] = [
         (&[0, 0, 0, 0], Some(Accept::Success), None),
@@ -131,45 +129,43 @@ fn replies_that_are_read(rt: HostRuntime) -> Result<(), Fail> {
         (&[1, 1, 14], None, Some(Deny::AuthError(14))),
     ];
     for (words, accept, deny) in rows {
-        let body = spelled(alloc, words, 24)?;
-        assert!(rt; body.len() <= 24);
-        let head: ReplyHead = value_in(alloc, &body).map_err(|_| "refused")?;
+        let body = ok(&rt, spelled(alloc, words, 24));
+        assert_holds!(rt; body.len() <= 24);
+        let head: ReplyHead = value_in(alloc, &body).expect(&rt, "refused");
         match head {
             ReplyHead::Accepted(Verf { body }, read) => {
-                assert!(rt; body.is_empty());
-                assert_eq!(rt; Some(read), accept);
+                assert_holds!(rt; body.is_empty());
+                assert_same!(rt; Some(read), accept);
             }
-            ReplyHead::Denied(read) => assert_eq!(rt; Some(read), deny),
+            ReplyHead::Denied(read) => assert_same!(rt; Some(read), deny),
         }
         let mut writer = Writer::new(alloc);
-        head.walk(&mut writer)?;
-        assert_eq!(rt; writer.bytes(), body.as_slice());
+        ok(&rt, head.walk(&mut writer));
+        assert_same!(rt; writer.bytes(), body.as_slice());
     }
-    Ok(())
 }
 
 /// A head that a visitor is told is written as it stands in the body, and names its procedure.
 #[test]
-fn a_calls_head_is_told(rt: HostRuntime) -> Result<(), Fail> {
-    let call = sys_call(rt.alloc(), 28, 6, &[0, 0, 0])?;
-    assert!(rt; call.len() <= 68);
+fn a_calls_head_is_told(rt: HostRuntime) {
+    let call = ok(&rt, sys_call(rt.alloc(), 28, 6, &[0, 0, 0]));
+    assert_holds!(rt; call.len() == 68);
     let mut input = Input::new(&call);
-    start(&mut input)?;
+    ok(&rt, start(&mut input));
     let mut writer = Writer::new(rt.alloc());
     let id = ProcId {
         prog: 100_003,
         vers: 3,
         proc_no: 0,
     };
-    assert_eq!(rt; scan_call_head(&mut input, &mut writer), Ok(id));
-    assert_eq!(rt; input.left(), 0);
-    assert_eq!(rt; writer.bytes(), &call[8..]);
-    Ok(())
+    assert_same!(rt; scan_call_head(&mut input, &mut writer), Ok(id));
+    assert_same!(rt; input.left(), 0);
+    assert_same!(rt; writer.bytes(), &call[8..]);
 }
 
 /// Results follow an accepted success alone: other words of a head are written again too.
 #[test]
-fn replies_heads_are_told(rt: HostRuntime) -> Result<(), Fail> {
+fn replies_heads_are_told(rt: HostRuntime) {
     // the words from the reply_stat on, and whether results follow
     let rows: [(&[u32], bool); 5] = [
         (&[0, 0, 0, 0], true),
@@ -179,13 +175,12 @@ fn replies_heads_are_told(rt: HostRuntime) -> Result<(), Fail> {
         (&[1, 1, 14], false),
     ];
     for (words, follow) in rows {
-        let body = spelled(rt.alloc(), words, 24)?;
-        assert!(rt; body.len() <= 24);
+        let body = ok(&rt, spelled(rt.alloc(), words, 24));
+        assert_holds!(rt; body.len() <= 24);
         let mut input = Input::new(&body);
         let mut writer = Writer::new(rt.alloc());
-        assert_eq!(rt; scan_reply_head(&mut input, &mut writer), Ok(follow));
-        assert_eq!(rt; input.left(), 0);
-        assert_eq!(rt; writer.bytes(), body.as_slice());
+        assert_same!(rt; scan_reply_head(&mut input, &mut writer), Ok(follow));
+        assert_same!(rt; input.left(), 0);
+        assert_same!(rt; writer.bytes(), body.as_slice());
     }
-    Ok(())
 }

@@ -4,8 +4,8 @@ ghost use Rattle.std.specs.Prelude.{◌∷◌, [], codes};
 ghost use Rattle.xdr3.specs.Item.{Hyper, Opaque, Text, Word};
 ghost use Rattle.xdr3.specs.Shape.{both, hyper, opaque, word};
 
+use crate::asserts::{assert_holds, assert_same, ok};
 use std::alloc::{AllocError, Global};
-use std::test::Fail;
 use xdr3::{
     Field, GetError, Input, PlainField, Reason, Stop, Visit, Walk, Writer, Xdr, get_counted,
     get_linked, get_optional, get_sized, read, scan_plain, walk_counted, walk_fields, walk_linked,
@@ -65,42 +65,41 @@ impl<'a> Walk for Entry<'a> {
 }
 
 #[test]
-fn items_of_a_body(rt: HostRuntime) -> Result<(), Fail> {
+fn items_of_a_body(rt: HostRuntime) {
     let body = [
         0, 0, 0, 7, 0, 0, 0, 0, 0, 0, 0, 9, 0, 0, 0, 1, 0, 0, 0, 2, 0, 0, 0, 3, 1, 2, 3, 4, 5, 6,
         7, 8, 0, 0, 0, 5, 97, 98, 99, 100, 101, 255, 255, 255, 0, 0, 0, 6, 170,
     ];
     let mut input = Input::new(&body);
-    assert_eq!(rt; input.left(), 49);
-    assert_eq!(rt; input.word(), Ok(7));
-    assert_eq!(rt; input.hyper(), Ok(9));
-    assert_eq!(rt; input.boolean(), Ok(true));
-    assert_eq!(rt; input.listed(&[1, 2]), Ok(2));
-    assert_eq!(rt; input.at_most(3), Ok(3));
-    assert_eq!(rt; input.fixed8(), Ok([1, 2, 3, 4, 5, 6, 7, 8]));
-    assert_eq!(rt; input.at(), 32);
-    assert_eq!(rt; input.var(5)?, [97, 98, 99, 100, 101].as_slice());
-    let mut window = input.window(4)?;
-    assert_eq!(rt; window.at(), 44);
-    assert_eq!(rt; window.word(), Ok(6));
-    assert_eq!(rt; window.end(), Ok(()));
-    assert_eq!(rt;
+    assert_same!(rt; input.left(), 49);
+    assert_same!(rt; input.word(), Ok(7));
+    assert_same!(rt; input.hyper(), Ok(9));
+    assert_same!(rt; input.boolean(), Ok(true));
+    assert_same!(rt; input.listed(&[1, 2]), Ok(2));
+    assert_same!(rt; input.at_most(3), Ok(3));
+    assert_same!(rt; input.fixed8(), Ok([1, 2, 3, 4, 5, 6, 7, 8]));
+    assert_same!(rt; input.at(), 32);
+    assert_same!(rt; ok(&rt, input.var(5)), [97, 98, 99, 100, 101].as_slice());
+    let mut window = ok(&rt, input.window(4));
+    assert_same!(rt; window.at(), 44);
+    assert_same!(rt; window.word(), Ok(6));
+    assert_same!(rt; window.end(), Ok(()));
+    assert_same!(rt;
         window.word(),
         Err(Stop {
             at: 48,
             reason: Reason::Short
         })
     );
-    assert_eq!(rt;
+    assert_same!(rt;
         input.end(),
         Err(Stop {
             at: 48,
             reason: Reason::Trailing
         })
     );
-    assert_eq!(rt; input.rest(), [170].as_slice());
-    assert_eq!(rt; input.end(), Ok(()));
-    Ok(())
+    assert_same!(rt; input.rest(), [170].as_slice());
+    assert_same!(rt; input.end(), Ok(()));
 }
 
 #[test]
@@ -111,54 +110,54 @@ fn faults_of_a_word(rt: HostRuntime) {
         ([].as_slice(), Reason::Short),
     ] {
         let mut input = Input::new(body);
-        assert_eq!(rt; input.boolean(), Err(Stop { at: 0, reason }));
-        assert_eq!(rt; input.at(), 0);
+        assert_same!(rt; input.boolean(), Err(Stop { at: 0, reason }));
+        assert_same!(rt; input.at(), 0);
     }
     let mut input = Input::new(&[0, 0, 0, 5, 1, 2, 3, 4, 5, 0, 0]);
-    assert_eq!(rt;
+    assert_same!(rt;
         input.listed(&[3, 4]),
         Err(Stop {
             at: 0,
             reason: Reason::BadEnum
         })
     );
-    assert_eq!(rt;
+    assert_same!(rt;
         input.at_most(4),
         Err(Stop {
             at: 0,
             reason: Reason::TooLong
         })
     );
-    assert_eq!(rt;
+    assert_same!(rt;
         input.var(4).err(),
         Some(Stop {
             at: 0,
             reason: Reason::TooLong
         })
     );
-    assert_eq!(rt;
+    assert_same!(rt;
         input.var(5).err(),
         Some(Stop {
             at: 4,
             reason: Reason::Short
         })
     );
-    assert_eq!(rt; input.at(), 0);
+    assert_same!(rt; input.at(), 0);
 }
 
 #[test]
 fn numbers_and_names_of_reasons(rt: HostRuntime) {
-    assert_eq!(rt; Reason::BadMagic.number(), 1);
-    assert_eq!(rt; Reason::Short.number(), 9);
-    assert_eq!(rt; Reason::XidConflict.number(), 19);
-    assert_eq!(rt; Reason::BadMagic.name(), "BadMagic");
-    assert_eq!(rt; Reason::RecordTooLong.name(), "RecordTooLong");
-    assert_eq!(rt; Reason::XidConflict.name(), "XidConflict");
+    assert_same!(rt; Reason::BadMagic.number(), 1);
+    assert_same!(rt; Reason::Short.number(), 9);
+    assert_same!(rt; Reason::XidConflict.number(), 19);
+    assert_same!(rt; Reason::BadMagic.name(), "BadMagic");
+    assert_same!(rt; Reason::RecordTooLong.name(), "RecordTooLong");
+    assert_same!(rt; Reason::XidConflict.name(), "XidConflict");
 }
 
 #[test]
 #[tactic(auto, unfolding(xdr3::specs::Visit::AreWithinLimit))]
-fn spelling_of_each_item(rt: HostRuntime) -> Result<(), Fail> {
+fn spelling_of_each_item(rt: HostRuntime) {
     let mut writer = Writer::new(rt.alloc());
     let all = [
         Field::Word("prog", 100_003),
@@ -171,41 +170,39 @@ fn spelling_of_each_item(rt: HostRuntime) -> Result<(), Fail> {
         Field::Var("verf_body", &[]),
         Field::Rest("rest", &[9]),
     ];
-    walk_fields(&all, &mut writer)?;
+    ok(&rt, walk_fields(&all, &mut writer));
     let expected = [
         0, 1, 0x86, 0xa3, 0, 0, 0, 0, 0, 0, 0x10, 0, 1, 2, 3, 4, 5, 6, 7, 8, 8, 7, 6, 5, 4, 3, 2,
         1, 0, 0, 0, 3, 1, 2, 3, 0, 0, 0, 0, 6, 99, 108, 105, 101, 110, 116, 0, 0, 0, 0, 0, 1, 0xaa,
         0, 0, 0, 0, 0, 0, 0, 9,
     ];
-    assert_eq!(rt; writer.bytes(), expected.as_slice());
+    assert_same!(rt; writer.bytes(), expected.as_slice());
     writer.clear();
-    assert!(rt; writer.bytes().is_empty());
-    Ok(())
+    assert_holds!(rt; writer.bytes().is_empty());
 }
 
 #[test]
-fn lists_that_are_read(rt: HostRuntime) -> Result<(), Fail> {
+fn lists_that_are_read(rt: HostRuntime) {
     let body = [
         0, 0, 0, 1, 0, 0, 0, 0, 0, 0, 0, 1, 0, 0, 0, 1, 46, 255, 255, 255, 0, 0, 0, 1, 0, 0, 0, 0,
         0, 0, 0, 2, 0, 0, 0, 2, 46, 46, 1, 2, 0, 0, 0, 0, 0, 0, 0, 2, 0, 0, 0, 8, 0, 0, 0, 9,
     ];
     let mut input = Input::new(&body);
-    let entries: Vec<Entry> = get_linked(rt.alloc(), &mut input)?;
-    assert_eq!(rt; input.at(), 44);
-    assert_eq!(rt; entries.len(), 2);
-    assert_eq!(rt; entries[1].name, [46, 46].as_slice());
-    let groups: Vec<Group> = get_counted(rt.alloc(), &mut input, 2)?;
-    assert_eq!(rt;
+    let entries: Vec<Entry> = ok(&rt, get_linked(rt.alloc(), &mut input));
+    assert_same!(rt; input.at(), 44);
+    assert_holds!(rt; entries.len() == 2);
+    assert_same!(rt; entries[1].name, [46, 46].as_slice());
+    let groups: Vec<Group> = ok(&rt, get_counted(rt.alloc(), &mut input, 2));
+    assert_same!(rt;
         groups.as_slice(),
         [Group { number: 8 }, Group { number: 9 }].as_slice()
     );
-    assert_eq!(rt; input.left(), 0);
-    Ok(())
+    assert_same!(rt; input.left(), 0);
 }
 
 #[test]
 #[tactic(auto, unfolding(xdr3::specs::Visit::AreWithinLimit))]
-fn spelling_of_lists(rt: HostRuntime) -> Result<(), Fail> {
+fn spelling_of_lists(rt: HostRuntime) {
     let mut writer = Writer::new(rt.alloc());
     let entries = [
         Entry {
@@ -217,31 +214,35 @@ fn spelling_of_lists(rt: HostRuntime) -> Result<(), Fail> {
             name: b"..",
         },
     ];
-    walk_linked("entry", &entries, &mut writer)?;
-    walk_counted("gids", &[Group { number: 8 }], &mut writer)?;
-    walk_optional("gid", &Some(Group { number: 5 }), &mut writer)?;
+    ok(&rt, walk_linked("entry", &entries, &mut writer));
+    ok(
+        &rt,
+        walk_counted("gids", &[Group { number: 8 }], &mut writer),
+    );
+    ok(
+        &rt,
+        walk_optional("gid", &Some(Group { number: 5 }), &mut writer),
+    );
     let expected = [
         0, 0, 0, 1, 0, 0, 0, 0, 0, 0, 0, 1, 0, 0, 0, 1, 46, 0, 0, 0, 0, 0, 0, 1, 0, 0, 0, 0, 0, 0,
         0, 2, 0, 0, 0, 2, 46, 46, 0, 0, 0, 0, 0, 0, 0, 0, 0, 1, 0, 0, 0, 8, 0, 0, 0, 1, 0, 0, 0, 5,
     ];
-    assert_eq!(rt; writer.bytes(), expected.as_slice());
-    Ok(())
+    assert_same!(rt; writer.bytes(), expected.as_slice());
 }
 
 #[test]
-fn values_after_a_word(rt: HostRuntime) -> Result<(), Fail> {
+fn values_after_a_word(rt: HostRuntime) {
     let mut input = Input::new(&[
         0, 0, 0, 0, 0, 0, 0, 1, 0, 0, 0, 5, 0, 0, 0, 4, 0, 0, 0, 6, 0, 0, 0, 7,
     ]);
-    let missing: Option<Group> = get_optional(rt.alloc(), &mut input)?;
-    assert_eq!(rt; missing, None);
-    let found: Option<Group> = get_optional(rt.alloc(), &mut input)?;
-    assert_eq!(rt; found, Some(Group { number: 5 }));
-    let sized: Group = get_sized(rt.alloc(), &mut input)?;
-    assert_eq!(rt; sized.number, 6);
-    let last: Group = read(rt.alloc(), &mut input)?;
-    assert_eq!(rt; last.number, 7);
-    Ok(())
+    let missing: Option<Group> = ok(&rt, get_optional(rt.alloc(), &mut input));
+    assert_same!(rt; missing, None);
+    let found: Option<Group> = ok(&rt, get_optional(rt.alloc(), &mut input));
+    assert_same!(rt; found, Some(Group { number: 5 }));
+    let sized: Group = ok(&rt, get_sized(rt.alloc(), &mut input));
+    assert_same!(rt; sized.number, 6);
+    let last: Group = ok(&rt, read(rt.alloc(), &mut input));
+    assert_same!(rt; last.number, 7);
 }
 
 #[test]
@@ -254,11 +255,8 @@ fn faults_of_a_told_length(rt: HostRuntime) {
         let body = [0, 0, 0, len, 0, 0, 0, 5, 0, 0, 0, 6];
         let mut input = Input::new(&body);
         let refused: Result<Group, GetError> = get_sized(rt.alloc(), &mut input);
-        assert_eq!(rt;
-            refused,
-            Err(GetError::Stop(Stop { at, reason })),
-            "at {len}"
-        );
+        let wanted = Err(GetError::Stop(Stop { at, reason }));
+        assert_same!(rt; (len, refused), (len, wanted));
     }
 }
 
@@ -319,34 +317,32 @@ const PLAIN: [PlainField; 3] = [
 ];
 
 #[test]
-fn plain_fields_told_at_once(rt: HostRuntime) -> Result<(), Fail> {
+fn plain_fields_told_at_once(rt: HostRuntime) {
     let body = [0, 0, 0, 7, 0, 0, 0, 0, 0, 0, 1, 0, 0, 0, 0, 9, 170];
     let mut input = Input::new(&body);
     let mut writer = Writer::new(rt.alloc());
-    scan_plain(&PLAIN, 16, &mut input, &mut writer)?;
-    assert_eq!(rt; input.at(), 16);
-    assert_eq!(rt; writer.bytes(), &body[..16]);
-    assert_eq!(rt; input.run(1), Some([170].as_slice()));
-    assert_eq!(rt; input.run(1), None);
-    assert_eq!(rt; input.run(0), Some([].as_slice()));
-    Ok(())
+    ok(&rt, scan_plain(&PLAIN, 16, &mut input, &mut writer));
+    assert_same!(rt; input.at(), 16);
+    assert_same!(rt; writer.bytes(), &body[..16]);
+    assert_same!(rt; input.run(1), Some([170].as_slice()));
+    assert_same!(rt; input.run(1), None);
+    assert_same!(rt; input.run(0), Some([].as_slice()));
 }
 
 #[test]
-fn plain_fields_told_one_by_one(rt: HostRuntime) -> Result<(), Fail> {
+fn plain_fields_told_one_by_one(rt: HostRuntime) {
     let body = [0, 0, 0, 7, 0, 0, 0, 0, 0, 0, 1, 0, 0, 0, 0, 9];
     let mut last = Last {
         words: 0,
         hypers: 0,
         number: 0,
     };
-    last.plain(&PLAIN[..2], &body[..12])?;
-    assert_eq!(rt; last.number, 256);
-    last.plain(&PLAIN, &body)?;
-    assert_eq!(rt; last.number, 9);
-    assert_eq!(rt; last.words, 3);
-    assert_eq!(rt; last.hypers, 2);
-    Ok(())
+    ok(&rt, last.plain(&PLAIN[..2], &body[..12]));
+    assert_same!(rt; last.number, 256);
+    ok(&rt, last.plain(&PLAIN, &body));
+    assert_same!(rt; last.number, 9);
+    assert_same!(rt; last.words, 3);
+    assert_same!(rt; last.hypers, 2);
 }
 
 #[test]
@@ -359,15 +355,11 @@ fn plain_fields_cut_short(rt: HostRuntime) {
     };
     for (len, at) in [(15, 12), (11, 4), (4, 4), (3, 0)] {
         let mut input = Input::new(&body[..len]);
-        assert_eq!(rt;
-            scan_plain(&PLAIN, 16, &mut input, &mut last),
-            Err(GetError::Stop(Stop {
-                at,
-                reason: Reason::Short
-            })),
-            "at {len}"
-        );
-        assert_eq!(rt; input.at(), 0);
+        let refused = scan_plain(&PLAIN, 16, &mut input, &mut last);
+        let reason = Reason::Short;
+        let wanted = Err(GetError::Stop(Stop { at, reason }));
+        assert_same!(rt; (len, refused), (len, wanted));
+        assert_same!(rt; input.at(), 0);
     }
-    assert_eq!(rt; last.words, 0);
+    assert_same!(rt; last.words, 0);
 }

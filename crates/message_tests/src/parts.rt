@@ -3,11 +3,11 @@
 ghost use Rattle.std.specs.Prelude.{◌≤◌, length};
 ghost use Rattle.xdr3.specs.Visit.{body_limit};
 
+use crate::asserts::{assert_holds, assert_same, ok, some};
 use nfs3_types::mount3::MountOk;
 use nfs3_types::{Fattr, FileKind, Handle, PostOpAttr, PostOpFh, Sattr, Time, TimeHow, Void, Wcc};
 use std::alloc::{AllocError, Global};
 use std::process::Abort;
-use std::test::Fail;
 use xdr3::{GetError, Input, Reason, Stop, Walk, Writer, Xdr, read};
 
 /// The attributes of a directory of 4,096 bytes.
@@ -55,11 +55,11 @@ fn fault_in<'a, T: Xdr<'a> + Drop>(alloc: Global, body: &'a [u8]) -> Option<Stop
 }
 
 #[test]
-fn attributes_are_read(rt: HostRuntime) -> Result<(), Fail> {
+fn attributes_are_read(rt: HostRuntime) {
     let alloc = rt.alloc();
-    let body = spelled(alloc, &DIRECTORY)?;
-    assert!(rt; body.len() == 84);
-    let attributes: Fattr = value_in(alloc, &body).map_err(|_| "refused")?;
+    let body = ok(&rt, spelled(alloc, &DIRECTORY));
+    assert_holds!(rt; body.len() == 84);
+    let attributes: Fattr = ok(&rt, value_in(alloc, &body));
     let expected = Fattr {
         kind: FileKind::Dir,
         mode: 0o755,
@@ -76,21 +76,17 @@ fn attributes_are_read(rt: HostRuntime) -> Result<(), Fail> {
         mtime: Time { sec: 2, nsec: 80 },
         ctime: Time { sec: 3, nsec: 90 },
     };
-    assert_eq!(rt; attributes, expected);
-    let writer = rewritten::<Fattr>(alloc, &body).map_err(|_| "refused")?;
-    assert_eq!(rt; writer.bytes(), body.as_slice());
+    assert_same!(rt; attributes, expected);
+    let writer = ok(&rt, rewritten::<Fattr>(alloc, &body));
+    assert_same!(rt; writer.bytes(), body.as_slice());
     for (kind, accepted) in [(0, false), (1, true), (7, true), (8, false)] {
         let mut words = DIRECTORY;
         words[0] = kind;
-        let body = spelled(alloc, &words)?;
-        assert!(rt; body.len() == 84);
-        assert_eq!(rt;
-            fault_in::<Fattr>(alloc, &body).is_none(),
-            accepted,
-            "type {kind}"
-        );
+        let body = ok(&rt, spelled(alloc, &words));
+        assert_holds!(rt; body.len() == 84);
+        let is_accepted = fault_in::<Fattr>(alloc, &body).is_none();
+        assert_same!(rt; (kind, is_accepted), (kind, accepted));
     }
-    Ok(())
 }
 
 /// Nothing is set.
@@ -104,20 +100,19 @@ const NOTHING_SET: Sattr = Sattr {
 };
 
 /// Each row's words are these attributes, and are written again as they were.
-fn settable_are_read(rt: &impl Abort, alloc: Global, rows: &[(&[u32], Sattr)]) -> Result<(), Fail> {
+fn settable_are_read(rt: &impl Abort, alloc: Global, rows: &[(&[u32], Sattr)]) {
     for (words, expected) in rows {
-        let body = spelled(alloc, words)?;
-        assert!(rt; body.len() <= 32);
-        let read: Sattr = value_in(alloc, &body).map_err(|_| "refused")?;
-        assert_eq!(rt; read, *expected);
-        let writer = rewritten::<Sattr>(alloc, &body).map_err(|_| "refused")?;
-        assert_eq!(rt; writer.bytes(), body.as_slice());
+        let body = ok(rt, spelled(alloc, words));
+        assert_holds!(rt; body.len() <= 32);
+        let read: Sattr = ok(rt, value_in(alloc, &body));
+        assert_same!(rt; read, *expected);
+        let writer = ok(rt, rewritten::<Sattr>(alloc, &body));
+        assert_same!(rt; writer.bytes(), body.as_slice());
     }
-    Ok(())
 }
 
 #[test]
-fn settable_numbers_are_read(rt: HostRuntime) -> Result<(), Fail> {
+fn settable_numbers_are_read(rt: HostRuntime) {
     let mode = Sattr {
         mode: Some(0o777),
         ..NOTHING_SET
@@ -141,59 +136,55 @@ fn settable_numbers_are_read(rt: HostRuntime) -> Result<(), Fail> {
         (&[0, 0, 1, 6, 0, 0, 0], gid),
         (&[0, 0, 0, 1, 1, 0, 0, 0], size),
     ];
-    settable_are_read(&rt, rt.alloc(), &rows)
+    settable_are_read(&rt, rt.alloc(), &rows);
 }
 
 #[test]
-fn handles_are_written_with_zero_padding(rt: HostRuntime) -> Result<(), Fail> {
+fn handles_are_written_with_zero_padding(rt: HostRuntime) {
     let alloc = rt.alloc();
-    let body = spelled(alloc, &[1, 2, 0xabcd_ffff])?;
-    let zero = spelled(alloc, &[1, 2, 0xabcd_0000])?;
-    assert!(rt; body.len() == 12);
-    let told: PostOpFh = value_in(alloc, &body).map_err(|_| "refused")?;
-    assert_eq!(rt; told.handle, Handle::new(&[0xab, 0xcd]));
-    let writer = rewritten::<PostOpFh>(alloc, &body).map_err(|_| "refused")?;
-    assert_eq!(rt; writer.bytes(), zero.as_slice());
-    Ok(())
+    let body = ok(&rt, spelled(alloc, &[1, 2, 0xabcd_ffff]));
+    let zero = ok(&rt, spelled(alloc, &[1, 2, 0xabcd_0000]));
+    assert_holds!(rt; body.len() == 12);
+    let told: PostOpFh = ok(&rt, value_in(alloc, &body));
+    assert_same!(rt; told.handle, Handle::new(&[0xab, 0xcd]));
+    let writer = ok(&rt, rewritten::<PostOpFh>(alloc, &body));
+    assert_same!(rt; writer.bytes(), zero.as_slice());
 }
 
 #[test]
-fn told_parts_are_refused(rt: HostRuntime) -> Result<(), Fail> {
+fn told_parts_are_refused(rt: HostRuntime) {
     let alloc = rt.alloc();
-    let body = spelled(alloc, &[0, 2])?;
-    assert!(rt; body.len() == 8);
+    let body = ok(&rt, spelled(alloc, &[0, 2]));
+    assert_holds!(rt; body.len() == 8);
     let stop = |at, reason| Some(Stop { at, reason });
-    assert_eq!(rt;
+    assert_same!(rt;
         fault_in::<PostOpAttr>(alloc, &body[4..]),
         stop(0, Reason::BadBool)
     );
-    assert_eq!(rt; fault_in::<Wcc>(alloc, &body), stop(4, Reason::BadBool));
-    assert_eq!(rt;
+    assert_same!(rt; fault_in::<Wcc>(alloc, &body), stop(4, Reason::BadBool));
+    assert_same!(rt;
         fault_in::<Void>(alloc, &body[..1]),
         stop(0, Reason::Trailing)
     );
-    Ok(())
 }
 
 #[test]
-fn handles_are_their_bytes(rt: HostRuntime) -> Result<(), Fail> {
+fn handles_are_their_bytes(rt: HostRuntime) {
     let alloc = rt.alloc();
     let bytes = [7; 65];
-    assert!(rt; Handle::new(&bytes).is_none());
-    let longest = Handle::new(&bytes[..64]).ok_or("over 64 bytes")?;
-    assert_eq!(rt; longest.as_slice(), &bytes[..64]);
-    let empty = Handle::new(&[]).ok_or("over 64 bytes")?;
-    assert!(rt; empty.is_public() && !longest.is_public());
-    let one = Handle::new(&[1]).ok_or("over 64 bytes")?;
-    let zero_after = Handle::new(&[1, 0]).ok_or("over 64 bytes")?;
-    assert!(rt; empty < one && one < zero_after && zero_after < longest);
-    assert!(rt; one == one && one != zero_after);
-
-    Ok(())
+    assert_holds!(rt; Handle::new(&bytes).is_none());
+    let longest = some(&rt, Handle::new(&bytes[..64]));
+    assert_same!(rt; longest.as_slice(), &bytes[..64]);
+    let empty = some(&rt, Handle::new(&[]));
+    assert_holds!(rt; empty.is_public() && !longest.is_public());
+    let one = some(&rt, Handle::new(&[1]));
+    let zero_after = some(&rt, Handle::new(&[1, 0]));
+    assert_holds!(rt; empty < one && one < zero_after && zero_after < longest);
+    assert_holds!(rt; one == one && one != zero_after);
 }
 
 #[test]
-fn handles_are_read(rt: HostRuntime) -> Result<(), Fail> {
+fn handles_are_read(rt: HostRuntime) {
     let alloc = rt.alloc();
     let stop = |at, reason| Some(Stop { at, reason });
     // the length word, how many bytes are there, where and why the handle is refused
@@ -204,32 +195,30 @@ fn handles_are_read(rt: HostRuntime) -> Result<(), Fail> {
         (4, 3, 0, Reason::Short),
     ];
     for (length, len, at, reason) in rows {
-        let mut body = spelled(alloc, &[length])?;
-        body.extend_from_slice(&[7; 65])?;
+        let mut body = ok(&rt, spelled(alloc, &[length]));
+        ok(&rt, body.extend_from_slice(&[7; 65]));
         body.truncate(len);
-        assert!(rt; body.len() <= 69);
-        assert_eq!(rt; fault_in::<Handle>(alloc, &body), stop(at, reason));
+        assert_holds!(rt; body.len() <= 69);
+        assert_same!(rt; fault_in::<Handle>(alloc, &body), stop(at, reason));
     }
-    let mut body = spelled(alloc, &[64])?;
-    body.extend_from_slice(&[7; 64])?;
-    assert!(rt; body.len() == 68);
-    let read: Handle = value_in(alloc, &body).map_err(|_| "refused")?;
-    assert_eq!(rt; read.as_slice(), [7; 64].as_slice());
-    Ok(())
+    let mut body = ok(&rt, spelled(alloc, &[64]));
+    ok(&rt, body.extend_from_slice(&[7; 64]));
+    assert_holds!(rt; body.len() == 68);
+    let read: Handle = ok(&rt, value_in(alloc, &body));
+    assert_same!(rt; read.as_slice(), [7; 64].as_slice());
 }
 
 #[test]
-fn a_mount_is_read(rt: HostRuntime) -> Result<(), Fail> {
+fn a_mount_is_read(rt: HostRuntime) {
     let alloc = rt.alloc();
-    let body = spelled(alloc, &[8, 0x0102_0304, 0x0506_0708, 2, 1, 0])?;
-    assert!(rt; body.len() == 24);
-    let mount: MountOk = value_in(alloc, &body).map_err(|_| "refused")?;
-    assert_eq!(rt;
+    let body = ok(&rt, spelled(alloc, &[8, 0x0102_0304, 0x0506_0708, 2, 1, 0]));
+    assert_holds!(rt; body.len() == 24);
+    let mount: MountOk = ok(&rt, value_in(alloc, &body));
+    assert_same!(rt;
         mount.handle.as_slice(),
         [1, 2, 3, 4, 5, 6, 7, 8].as_slice()
     );
-    assert_eq!(rt; mount.flavors.iter().map(|f| f.number).eq([1, 0]), true);
-    let writer = rewritten::<MountOk>(alloc, &body).map_err(|_| "refused")?;
-    assert_eq!(rt; writer.bytes(), body.as_slice());
-    Ok(())
+    assert_same!(rt; mount.flavors.iter().map(|f| f.number).eq([1, 0]), true);
+    let writer = ok(&rt, rewritten::<MountOk>(alloc, &body));
+    assert_same!(rt; writer.bytes(), body.as_slice());
 }

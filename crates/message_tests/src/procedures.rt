@@ -3,10 +3,10 @@
 
 ghost use Rattle.std.specs.Prelude.{◌≤◌, length};
 
+use crate::asserts::{assert_same, ok};
 use procs3::{proc_name, scan_arguments, scan_results};
 use rpc_head::ProcId;
 use std::alloc::Global;
-use std::test::Fail;
 use xdr3::{GetError, Input, Reason, Stop, Writer};
 
 /// The arguments of a WRITE of the bytes hi to the handle aa, from offset 9 on.
@@ -68,16 +68,15 @@ fn fault(answer: &Result<Writer, GetError>) -> Option<Stop> {
 }
 
 #[test]
-fn what_is_told(rt: HostRuntime) -> Result<(), Fail> {
+fn what_is_told(rt: HostRuntime) {
     let alloc = rt.alloc();
-    let write = told_arguments(alloc, nfs(7), &WRITE).map_err(|_| "refused")?;
-    assert_eq!(rt; write.bytes(), WRITE.as_slice());
-    let readdir = told_results(alloc, nfs(16), &READDIR).map_err(|_| "refused")?;
-    assert_eq!(rt; readdir.bytes(), READDIR.as_slice());
+    let write = ok(&rt, told_arguments(alloc, nfs(7), &WRITE));
+    assert_same!(rt; write.bytes(), WRITE.as_slice());
+    let readdir = ok(&rt, told_results(alloc, nfs(16), &READDIR));
+    assert_same!(rt; readdir.bytes(), READDIR.as_slice());
     // Of any other procedure all bytes that are left are taken.
-    let raw = told_arguments(alloc, nfs(22), &WRITE).map_err(|_| "refused")?;
-    assert_eq!(rt; raw.bytes(), WRITE.as_slice());
-    Ok(())
+    let raw = ok(&rt, told_arguments(alloc, nfs(22), &WRITE));
+    assert_same!(rt; raw.bytes(), WRITE.as_slice());
 }
 
 #[test]
@@ -87,7 +86,7 @@ fn what_is_refused(rt: HostRuntime) {
         at: 28,
         reason: Reason::Short,
     };
-    assert_eq!(rt;
+    assert_same!(rt;
         fault(&told_arguments(alloc, nfs(7), &WRITE[..30])),
         Some(short)
     );
@@ -95,7 +94,7 @@ fn what_is_refused(rt: HostRuntime) {
         at: 8,
         reason: Reason::Trailing,
     };
-    assert_eq!(rt;
+    assert_same!(rt;
         fault(&told_arguments(alloc, nfs(1), &WRITE)),
         Some(trailing)
     );
@@ -103,7 +102,7 @@ fn what_is_refused(rt: HostRuntime) {
         at: 0,
         reason: Reason::BadEnum,
     };
-    assert_eq!(rt;
+    assert_same!(rt;
         fault(&told_results(alloc, mount(1), &[0, 0, 0, 70])),
         Some(status)
     );
@@ -111,8 +110,8 @@ fn what_is_refused(rt: HostRuntime) {
 
 #[test]
 fn names_of_procedures(rt: HostRuntime) {
-    assert_eq!(rt; proc_name(nfs(17)), Some("NFSPROC3_READDIRPLUS"));
-    assert_eq!(rt; proc_name(nfs(22)), None);
-    assert_eq!(rt; proc_name(mount(5)), Some("MOUNTPROC3_EXPORT"));
-    assert_eq!(rt; proc_name(mount(6)), None);
+    assert_same!(rt; proc_name(nfs(17)), Some("NFSPROC3_READDIRPLUS"));
+    assert_same!(rt; proc_name(nfs(22)), None);
+    assert_same!(rt; proc_name(mount(5)), Some("MOUNTPROC3_EXPORT"));
+    assert_same!(rt; proc_name(mount(6)), None);
 }

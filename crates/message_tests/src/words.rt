@@ -1,8 +1,8 @@
 //! Tables of words.
 
+use crate::asserts::{assert_same, ok};
 use std::hash::{BuildHasherDefault, FoldHasher};
 use std::process::Abort;
-use std::test::Fail;
 use word_table::WordTable;
 
 // A word in no order.
@@ -11,21 +11,22 @@ fn word(index: u32) -> u32 {
 }
 
 #[test]
-fn words_keep_their_first_values(rt: HostRuntime) -> Result<(), Fail> {
+fn words_keep_their_first_values(rt: HostRuntime) {
     let hasher: BuildHasherDefault<FoldHasher> = BuildHasherDefault::new();
     let mut table = WordTable::new(rt.alloc(), hasher);
-    assert_eq!(rt; table.get(0), None);
+    assert_same!(rt; table.get(0), None);
     for index in 0..1000 {
-        assert_eq!(rt; table.admit(word(index), index + 1)?, None, "{index}");
+        let earlier = ok(&rt, table.admit(word(index), index + 1));
+        assert_same!(rt; (index, earlier), (index, None));
     }
     for index in 0..1000 {
-        assert_eq!(rt; table.get(word(index)), Some(index + 1), "{index}");
-        assert_eq!(rt; table.admit(word(index), 7)?, Some(index + 1), "{index}");
+        assert_same!(rt; (index, table.get(word(index))), (index, Some(index + 1)));
+        let earlier = ok(&rt, table.admit(word(index), 7));
+        assert_same!(rt; (index, earlier), (index, Some(index + 1)));
     }
-    assert_eq!(rt; table.get(word(1000)), None);
+    assert_same!(rt; table.get(word(1000)), None);
     table.clear();
-    assert_eq!(rt; table.get(word(3)), None);
-    assert_eq!(rt; table.admit(word(3), 9)?, None);
-    assert_eq!(rt; table.get(word(3)), Some(9));
-    Ok(())
+    assert_same!(rt; table.get(word(3)), None);
+    assert_same!(rt; ok(&rt, table.admit(word(3), 9)), None);
+    assert_same!(rt; table.get(word(3)), Some(9));
 }
