@@ -109,7 +109,8 @@ landed_at (Some Streams) streams u = Stops (HasStreams streams u)
 landed_at (Some event) streams u = Stops (Has event [] u)
 
 -- What a whole word leads the machine to: there, or to the fault. The open record stays.
-abbrev pub Lands : Next Unpacking Unpacked → sided.Streams → Joining → Result Transition Error → Type 0
+abbrev pub Lands : Next Unpacking Unpacked → sided.Streams → Joining → Result Transition Error
+    → Type 0
 Lands next streams joining (Ok taken) =
     landed next ≡ landed_at taken.event streams (unpacking_at taken.position streams joining)
 Lands next streams joining (Err (Refused fault)) = next ≡ Ends (Refuses fault)
@@ -117,7 +118,8 @@ Lands next streams joining (Err _) = ⊥
 
 -- The bytes taken lead the machine there, or some of the bytes lead it to the fault. The open
 -- record stays.
-abbrev pub Moves : Unpacking → List ℕ → sided.Streams → Joining → Result Transition Error → Type 0
+abbrev pub Moves : Unpacking → List ℕ → sided.Streams → Joining → Result Transition Error
+    → Type 0
 Moves from bytes streams joining (Ok taken) =
     after unpack_next (Runs from) (take taken.count bytes)
     ≡ landed_at taken.event streams (unpacking_at taken.position streams joining)

@@ -56,7 +56,8 @@ impl<C: CallTable + Drop> EntryParser<C> {
     ) -> Result<(usize, Option<Kind>), Error>
         requires sound { IsSoundPosition self.old.container.position }
         requires stored { IsStored self.old.container }
-        requires ready { IsReady self.old.container.cursor (released self.old.container.joiner.taking) }
+        requires ready { IsReady self.old.container.cursor
+            (released self.old.container.joiner.taking) }
         ensures within { IfOk result (λ r. r.0 ≤ length piece.now) }
         ensures some { IfOk result (λ r. 0 < length piece.now → r.1 ≡ None → 0 < r.0) }
         ensures more { IfOk result (λ r. r.1 ≡ None → r.0 ≡ length piece.now) }
