@@ -23,16 +23,16 @@ import make  # noqa: E402
 
 # The most instructions, in millions.
 LIMITS = {
-    'check small': 8.1,
-    'canon small': 13.6,
-    'show small': 28.1,
-    'same small': 25.6,
+    'check small': 8.0,
+    'canon small': 12.1,
+    'show small': 27.6,
+    'same small': 22.7,
     'check mixed': 5.5,
-    'canon mixed': 14.5,
-    'show mixed': 21.9,
-    'same mixed': 22.0,
+    'canon mixed': 14.3,
+    'show mixed': 21.8,
+    'same mixed': 21.7,
     'pack small': 0.39,
-    'nfs3mask small': 21.2,
+    'nfs3mask small': 19.8,
     'nfs3mask mixed': 17.8,
 }
 MIXES = {'small': (make.SMALL, 1), 'mixed': (make.MIXED, 4)}
