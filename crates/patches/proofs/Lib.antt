@@ -1,0 +1,2 @@
+-- Lemmas of patched bodies.
+pub mod PatchesLemmas

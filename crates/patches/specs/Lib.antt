@@ -1,0 +1,2 @@
+-- Replacements in a body of bytes.
+pub mod Patches

@@ -1,0 +1,142 @@
+//! Replacements in a body of bytes, noted before the body is at hand.
+
+ghost use Rattle.std.specs.Prelude.{◌≡◌, ◌≤◌, ◌<◌, ◌+◌, ◌-◌, ◌*◌, ◌^◌, ◌++◌, ℕ, List, [], IfOk, IsTrue, OnErr, OnOk, drop, length, min, take, vec_len};
+ghost use Rattle.patches.specs.Patches.{patched, replacement, Makes};
+
+use crate::part::{MOST, Part, after, front, is_alike, put_part};
+use std::alloc::{AllocError, Global};
+use std::marker::Model;
+use xdr3::room::{make_room, put_bytes};
+
+/// Which bytes of a body stay and which are replaced. They are noted from the body's front to its
+/// end, before the body is at hand.
+#[derive(Drop)]
+pub struct Patches {
+    parts: Vec<Part>,
+    // How many bytes stay after the last part.
+    kept: usize,
+}
+
+impl Model for Patches {
+    ghost use Rattle.patches.specs.Patches.{Noted};
+
+    ghost Value = { Noted };
+
+    ghost view = { λ p. record { parts = p.parts.items; kept = p.kept } };
+}
+
+impl Patches {
+    /// Returns the patches of a body of no bytes. It allocates nothing yet.
+    pub fn new(alloc: Global) -> Patches
+        ensures { Makes result [] [] }
+    {
+        Patches {
+            parts: Vec::new(alloc),
+            kept: 0,
+        }
+    }
+
+    /// Begins another body, and keeps the memory.
+    pub fn clear(&mut self)
+        ensures { Makes self.new [] [] }
+    {
+        self.parts.clear();
+        self.kept = 0;
+    }
+
+    /// Notes that the next `count` bytes stay. What is noted of a body of 2^64 bytes or more means
+    /// nothing.
+    #[inline(always)]
+    pub fn keep(&mut self, count: usize)
+        ensures { (body more form : List ℕ) → Makes self.old body form → length more ≡ count
+            → length (body ++ more) < 2 ^ 64 → Makes self.new (body ++ more) (form ++ more) }
+    {
+        self.kept = self.kept.saturating_add(count);
+    }
+
+    /// Notes that the next `skipped` bytes are replaced by the first `len` of these.
+    ///
+    /// # Errors
+    ///
+    /// `AllocError` if an allocation fails. Nothing is noted then.
+    #[inline(always)]
+    pub fn replace(&mut self, skipped: usize, bytes: &[u8; 8], len: usize) -> Result<(), AllocError>
+        ensures ok { (body gone form : List ℕ) → Makes self.old body form
+            → length gone ≡ skipped
+            → OnOk result (Makes self.new (body ++ gone) (form ++ take len bytes.now)) }
+        ensures err { OnErr result (self.new ≡ self.old) }
+    {
+        self.parts.push(Part {
+            keeps: self.kept,
+            skips: skipped,
+            len,
+            bytes: *bytes,
+        })?;
+        self.kept = 0;
+        Ok(())
+    }
+
+    /// Writes the patched body into a buffer at `at`, and returns the position after it. The buffer
+    /// is made longer if it is too short; what follows that position means nothing.
+    ///
+    /// # Errors
+    ///
+    /// `AllocError` if an allocation fails.
+    pub fn write(&self, body: &[u8], room: &mut Vec<u8>, at: usize) -> Result<usize, AllocError>
+        requires { at ≤ vec_len room.old }
+        ensures within { IfOk result (λ end. end ≤ vec_len room.new) }
+        ensures written { IfOk result (λ end. take end room.new.items
+            ≡ take at room.old.items ++ patched self.now body.now) }
+        ensures kept { take at room.new.items ≡ take at room.old.items }
+    {
+        make_room(room, at, most_bytes(body.len(), self.parts.len()))?;
+        Ok(self.put(body, room, at))
+    }
+
+    /// Writes the patched body at `at`, and returns the position after it.
+    fn put(&self, body: &[u8], room: &mut [u8], at: usize) -> usize
+        requires { at + (length body.now + 8 * length self.now.parts) ≤ length room.old }
+        ensures within { result ≤ length room.new }
+        ensures written { take result room.new ≡ take at room.old ++ patched self.now body.now }
+        ensures kept { take at room.new ≡ take at room.old }
+        ensures len { length room.new ≡ length room.old }
+    {
+        let mut end = at;
+        let mut rest = body;
+        for part in &self.parts {
+            end = put_part(room, end, rest, part);
+            rest = after(rest, part);
+        }
+        put_bytes(room, end, front(rest, self.kept))
+    }
+
+    /// Returns `true` only if both patched bodies have the same bytes. It compares what lies in the
+    /// bodies, and builds nothing. It returns `false` for equal ones too if they are not noted in
+    /// the same parts.
+    pub fn are_alike(&self, body: &[u8], other: &Patches, other_body: &[u8]) -> bool
+        ensures { IsTrue result → patched self.now body.now ≡ patched other.now other_body.now }
+    {
+        if self.parts.len() != other.parts.len() {
+            return false;
+        }
+        let mut rest = body;
+        let mut other_rest = other_body;
+        for i in 0..self.parts.len() {
+            let part = self.parts[i];
+            let other_part = other.parts[i];
+            if !is_alike(rest, &part, other_rest, &other_part) {
+                return false;
+            }
+            rest = after(rest, &part);
+            other_rest = after(other_rest, &other_part);
+        }
+        front(rest, self.kept) == front(other_rest, other.kept)
+    }
+}
+
+/// Returns how many bytes a patched body has at most.
+fn most_bytes(body: usize, parts: usize) -> usize
+    ensures { result ≡ min (body + 8 * parts) (2 ^ 64 - 1) }
+{
+    body.saturating_add(parts.saturating_mul(MOST))
+}
