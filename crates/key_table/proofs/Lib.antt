@@ -1,0 +1,2 @@
+-- Lemmas of tables of keys.
+pub mod FindingLemmas

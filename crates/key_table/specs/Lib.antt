@@ -1,0 +1,3 @@
+-- Distinct keys in the order of their first appearance.
+pub mod Keys
+pub mod machinery
