@@ -1,13 +1,15 @@
 //! Numbers, sinks and canonical forms.
 
+use crate::asserts::{assert_same, ok};
 use crate::samples::{commits, hashers};
 use canon3::{MemSink, Numbers, Sink, Summary, ToWrite, canon, write_all};
 use capture3::{DeviceFailed, Error, Fault, MemSource, Place};
+use std::alloc::AllocError;
 use std::hash::{BuildHasherDefault, FoldHasher, Hash};
-use std::test::Fail;
+use std::process::Abort;
 use xdr3::Reason;
 
-fn numbers_of<K: Copy + Eq + Hash>(rt: &HostRuntime, keys: [K; 4]) -> Result<[u32; 5], Fail> {
+fn numbers_of<K: Copy + Eq + Hash>(rt: &HostRuntime, keys: [K; 4]) -> Result<[u32; 5], AllocError> {
     let mut numbers = Numbers::new(rt.alloc(), BuildHasherDefault::<FoldHasher>::default());
     let [a, b, c, d] = keys;
     Ok([
@@ -20,68 +22,61 @@ fn numbers_of<K: Copy + Eq + Hash>(rt: &HostRuntime, keys: [K; 4]) -> Result<[u3
 }
 
 #[test]
-fn numbers_of_words(rt: HostRuntime) -> Result<(), Fail> {
-    assert_eq!(rt; numbers_of(&rt, [5u32, 6, 5, 7])?, [1, 2, 1, 3, 3]);
-    Ok(())
+fn numbers_of_words(rt: HostRuntime) {
+    assert_same!(rt; ok(&rt, numbers_of(&rt, [5u32, 6, 5, 7])), [1, 2, 1, 3, 3]);
 }
 
 #[test]
-fn numbers_of_verifiers(rt: HostRuntime) -> Result<(), Fail> {
+fn numbers_of_verifiers(rt: HostRuntime) {
     let (u, v) = ([1u8, 2, 3, 4, 5, 6, 7, 8], [0u8; 8]);
-    assert_eq!(rt; numbers_of(&rt, [u, v, u, v])?, [1, 2, 1, 2, 2]);
-    Ok(())
+    assert_same!(rt; ok(&rt, numbers_of(&rt, [u, v, u, v])), [1, 2, 1, 2, 2]);
 }
 
 #[test]
-fn numbers_begin_anew(rt: HostRuntime) -> Result<(), Fail> {
+fn numbers_begin_anew(rt: HostRuntime) {
     let mut numbers = Numbers::new(rt.alloc(), BuildHasherDefault::<FoldHasher>::default());
-    assert_eq!(rt; numbers.number_of(9u32), Ok(1));
-    assert_eq!(rt; numbers.number_of(4), Ok(2));
+    assert_same!(rt; numbers.number_of(9u32), Ok(1));
+    assert_same!(rt; numbers.number_of(4), Ok(2));
     numbers.clear();
-    assert_eq!(rt; numbers.len(), 0);
-    assert_eq!(rt; numbers.number_of(4), Ok(1));
-    Ok(())
+    assert_same!(rt; numbers.len(), 0);
+    assert_same!(rt; numbers.number_of(4), Ok(1));
 }
 
 #[test]
-fn a_sink_in_memory_fails_without_room(rt: HostRuntime) -> Result<(), Fail> {
-    let mut sink = MemSink::new(rt.alloc(), 3, 2, 0)?;
-    assert_eq!(rt; sink.write_some(b"abc"), Ok(2));
-    assert_eq!(rt; sink.write_some(b"cde"), Ok(1));
-    assert_eq!(rt; sink.write_some(b"de"), Err(DeviceFailed));
-    assert_eq!(rt; sink.bytes(), b"abc".as_slice());
-    assert_eq!(rt; sink.flush_all(), Ok(()));
-    assert_eq!(rt; sink.flushed(), b"abc".as_slice());
-    Ok(())
+fn a_sink_in_memory_fails_without_room(rt: HostRuntime) {
+    let mut sink = ok(&rt, MemSink::new(rt.alloc(), 3, 2, 0));
+    assert_same!(rt; sink.write_some(b"abc"), Ok(2));
+    assert_same!(rt; sink.write_some(b"cde"), Ok(1));
+    assert_same!(rt; sink.write_some(b"de"), Err(DeviceFailed));
+    assert_same!(rt; sink.bytes(), b"abc".as_slice());
+    assert_same!(rt; sink.flush_all(), Ok(()));
+    assert_same!(rt; sink.flushed(), b"abc".as_slice());
 }
 
 #[test]
-fn a_sink_in_memory_fails_once(rt: HostRuntime) -> Result<(), Fail> {
-    let mut sink = MemSink::new(rt.alloc(), 9, 9, 2)?;
-    assert_eq!(rt; sink.write_some(b"abc"), Ok(3));
-    assert_eq!(rt; sink.flush_all(), Err(DeviceFailed));
-    assert_eq!(rt; sink.write_some(b"de"), Ok(2));
-    assert_eq!(rt; sink.bytes(), b"abcde".as_slice());
-    assert_eq!(rt; sink.flushed(), b"".as_slice());
-    Ok(())
+fn a_sink_in_memory_fails_once(rt: HostRuntime) {
+    let mut sink = ok(&rt, MemSink::new(rt.alloc(), 9, 9, 2));
+    assert_same!(rt; sink.write_some(b"abc"), Ok(3));
+    assert_same!(rt; sink.flush_all(), Err(DeviceFailed));
+    assert_same!(rt; sink.write_some(b"de"), Ok(2));
+    assert_same!(rt; sink.bytes(), b"abcde".as_slice());
+    assert_same!(rt; sink.flushed(), b"".as_slice());
 }
 
 #[test]
-fn a_sink_over_a_writer(rt: HostRuntime) -> Result<(), Fail> {
+fn a_sink_over_a_writer(rt: HostRuntime) {
     let mut sink = ToWrite::new(Vec::new(rt.alloc()));
-    assert_eq!(rt; sink.write_some(b"abc"), Ok(3));
-    assert_eq!(rt; sink.flush_all(), Ok(()));
-    assert_eq!(rt; sink.inner().as_slice(), b"abc".as_slice());
-    Ok(())
+    assert_same!(rt; sink.write_some(b"abc"), Ok(3));
+    assert_same!(rt; sink.flush_all(), Ok(()));
+    assert_same!(rt; sink.inner().as_slice(), b"abc".as_slice());
 }
 
 #[test]
-fn all_bytes_in_pieces(rt: HostRuntime) -> Result<(), Fail> {
-    let mut sink = MemSink::new(rt.alloc(), 7, 3, 0)?;
-    assert_eq!(rt; write_all(&mut sink, b"abcde"), Ok(()));
-    assert_eq!(rt; write_all(&mut sink, b"fgh"), Err(DeviceFailed));
-    assert_eq!(rt; sink.bytes(), b"abcdefg".as_slice());
-    Ok(())
+fn all_bytes_in_pieces(rt: HostRuntime) {
+    let mut sink = ok(&rt, MemSink::new(rt.alloc(), 7, 3, 0));
+    assert_same!(rt; write_all(&mut sink, b"abcde"), Ok(()));
+    assert_same!(rt; write_all(&mut sink, b"fgh"), Err(DeviceFailed));
+    assert_same!(rt; sink.bytes(), b"abcdefg".as_slice());
 }
 
 // In blocks of 7 bytes, where the read with this number fails.
@@ -100,65 +95,60 @@ fn canon_of(
 }
 
 #[test]
-fn a_capture_in_its_canonical_form(rt: HostRuntime) -> Result<(), Fail> {
-    let (bytes, numbered) = commits(rt.alloc())?;
-    let mut sink = MemSink::new(rt.alloc(), 999, 9, 0)?;
+fn a_capture_in_its_canonical_form(rt: HostRuntime) {
+    let (bytes, numbered) = ok(&rt, commits(rt.alloc()));
+    let mut sink = ok(&rt, MemSink::new(rt.alloc(), 999, 9, 0));
     let summary = Summary {
         connections: 1,
         calls: 1,
         replies: 1,
         handles: 1,
     };
-    assert_eq!(rt; canon_of(&rt, &bytes, 0, &mut sink), Ok(summary));
-    assert_eq!(rt; sink.bytes(), numbered.as_slice());
-    assert_eq!(rt; sink.flushed(), numbered.as_slice());
-    Ok(())
+    assert_same!(rt; canon_of(&rt, &bytes, 0, &mut sink), Ok(summary));
+    assert_same!(rt; sink.bytes(), numbered.as_slice());
+    assert_same!(rt; sink.flushed(), numbered.as_slice());
 }
 
 #[test]
-fn a_capture_that_is_cut_up_to_there(rt: HostRuntime) -> Result<(), Fail> {
-    let (mut bytes, mut numbered) = commits(rt.alloc())?;
-    let mut sink = MemSink::new(rt.alloc(), 999, 9, 0)?;
+fn a_capture_that_is_cut_up_to_there(rt: HostRuntime) {
+    let (mut bytes, mut numbered) = ok(&rt, commits(rt.alloc()));
+    let mut sink = ok(&rt, MemSink::new(rt.alloc(), 999, 9, 0));
     bytes.truncate(140);
     numbered.truncate(140);
     let fault = Fault {
         place: Place::File { at: 140 },
         reason: Reason::CaptureCut,
     };
-    assert_eq!(rt;
+    assert_same!(rt;
         canon_of(&rt, &bytes, 0, &mut sink),
         Err(Error::Refused(fault))
     );
-    assert_eq!(rt; sink.bytes(), numbered.as_slice());
-    Ok(())
+    assert_same!(rt; sink.bytes(), numbered.as_slice());
 }
 
 #[test]
-fn entries_before_a_failed_read(rt: HostRuntime) -> Result<(), Fail> {
-    let (bytes, mut numbered) = commits(rt.alloc())?;
+fn entries_before_a_failed_read(rt: HostRuntime) {
+    let (bytes, mut numbered) = ok(&rt, commits(rt.alloc()));
     numbered.truncate(12);
-    let mut sink = MemSink::new(rt.alloc(), 999, 9, 0)?;
-    assert_eq!(rt; canon_of(&rt, &bytes, 12, &mut sink), Err(Error::Read));
-    assert_eq!(rt; sink.bytes(), numbered.as_slice());
-    Ok(())
+    let mut sink = ok(&rt, MemSink::new(rt.alloc(), 999, 9, 0));
+    assert_same!(rt; canon_of(&rt, &bytes, 12, &mut sink), Err(Error::Read));
+    assert_same!(rt; sink.bytes(), numbered.as_slice());
 }
 
 #[test]
-fn a_front_where_room_is_wanting(rt: HostRuntime) -> Result<(), Fail> {
-    let (bytes, mut numbered) = commits(rt.alloc())?;
+fn a_front_where_room_is_wanting(rt: HostRuntime) {
+    let (bytes, mut numbered) = ok(&rt, commits(rt.alloc()));
     numbered.truncate(50);
-    let mut sink = MemSink::new(rt.alloc(), 50, 9, 0)?;
-    assert_eq!(rt; canon_of(&rt, &bytes, 0, &mut sink), Err(Error::Write));
-    assert_eq!(rt; sink.bytes(), numbered.as_slice());
-    Ok(())
+    let mut sink = ok(&rt, MemSink::new(rt.alloc(), 50, 9, 0));
+    assert_same!(rt; canon_of(&rt, &bytes, 0, &mut sink), Err(Error::Write));
+    assert_same!(rt; sink.bytes(), numbered.as_slice());
 }
 
 // Nine writes come before it.
 #[test]
-fn a_failed_flush(rt: HostRuntime) -> Result<(), Fail> {
-    let (bytes, numbered) = commits(rt.alloc())?;
-    let mut sink = MemSink::new(rt.alloc(), 999, 999, 10)?;
-    assert_eq!(rt; canon_of(&rt, &bytes, 0, &mut sink), Err(Error::Write));
-    assert_eq!(rt; sink.bytes(), numbered.as_slice());
-    Ok(())
+fn a_failed_flush(rt: HostRuntime) {
+    let (bytes, numbered) = ok(&rt, commits(rt.alloc()));
+    let mut sink = ok(&rt, MemSink::new(rt.alloc(), 999, 999, 10));
+    assert_same!(rt; canon_of(&rt, &bytes, 0, &mut sink), Err(Error::Write));
+    assert_same!(rt; sink.bytes(), numbered.as_slice());
 }

@@ -1,10 +1,11 @@
 //! Comparisons of captures in memory.
 
+use crate::asserts::{assert_holds, assert_same, ok};
 use crate::samples::{commit, hashers};
 use canon3::{SameError, Verdict, Which, same};
 use capture3::{Error, Fault, MemSource, Place, Side};
 use std::alloc::{AllocError, Global};
-use std::test::Fail;
+use std::process::Abort;
 use xdr3::Reason;
 
 /// Each is read byte by byte, and the read of the second with this number fails.
@@ -42,37 +43,34 @@ fn record(side: Side, byte: u32) -> Place {
 }
 
 #[test]
-fn runs_that_are_the_same(rt: HostRuntime) -> Result<(), Fail> {
-    let (first, second) = runs(rt.alloc())?;
-    assert_eq!(rt; compared(rt.alloc(), &first, &second, 0), Ok(Verdict::Same));
-    Ok(())
+fn runs_that_are_the_same(rt: HostRuntime) {
+    let (first, second) = ok(&rt, runs(rt.alloc()));
+    assert_same!(rt; compared(rt.alloc(), &first, &second, 0), Ok(Verdict::Same));
 }
 
 /// The count of the second's COMMIT, which ends its call at byte 80 of the file, is another.
 #[test]
-fn runs_that_part(rt: HostRuntime) -> Result<(), Fail> {
-    let (first, mut second) = runs(rt.alloc())?;
-    assert!(rt; second.len() == 144);
+fn runs_that_part(rt: HostRuntime) {
+    let (first, mut second) = ok(&rt, runs(rt.alloc()));
+    assert_holds!(rt; second.len() == 144);
     second[79] = 1;
-    assert_eq!(rt;
+    assert_same!(rt;
         compared(rt.alloc(), &first, &second, 0),
         Ok(Verdict::Differ(record(Side::Client, 0)))
     );
-    Ok(())
 }
 
 /// A failed read is answered when it is met, also where the first run would be refused later.
 #[test]
-fn a_failed_read_of_the_second(rt: HostRuntime) -> Result<(), Fail> {
-    let (mut first, second) = runs(rt.alloc())?;
-    assert!(rt; first.len() == 144);
+fn a_failed_read_of_the_second(rt: HostRuntime) {
+    let (mut first, second) = ok(&rt, runs(rt.alloc()));
+    assert_holds!(rt; first.len() == 144);
     first[27] = 2;
-    assert_eq!(rt;
+    assert_same!(rt;
         compared(rt.alloc(), &first, &second, 1),
         Err(SameError {
             which: Which::Second,
             error: Error::Read
         })
     );
-    Ok(())
 }

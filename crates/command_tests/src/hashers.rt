@@ -1,11 +1,12 @@
 //! Hashers of several kinds: what the commands answer and write does not depend on them.
 
+use crate::asserts::{assert_holds, assert_same, ok};
 use canon3::{MemSink, SameError, Summary, Verdict, canon, check, same};
 use capture3::{Error, Fault, Hashers, MemSource, Place, Side};
 use listing3::show;
-use std::alloc::Global;
+use std::alloc::{AllocError, Global};
 use std::hash::{BuildHasher, FoldHasher, Hasher};
-use std::test::Fail;
+use std::process::Abort;
 use xdr3::Reason;
 
 /// All keys have the hash 0.
@@ -262,8 +263,8 @@ const PAIRS: [(&str, &str, Option<(u32, u32)>); 6] = [
     ),
 ];
 
-fn bytes_of(alloc: Global, digits: &str) -> Result<Vec<u8>, Fail> {
-    Ok(hex::decode(alloc, digits)?)
+fn bytes_of(rt: &impl Abort, alloc: Global, digits: &str) -> Vec<u8> {
+    ok(rt, hex::decode(alloc, digits))
 }
 
 /// What the commands answer and write of a capture.
@@ -280,7 +281,7 @@ fn answers<S: BuildHasher + Copy + Drop>(
     alloc: Global,
     hasher: S,
     file: &[u8],
-) -> Result<Answered, Fail> {
+) -> Result<Answered, AllocError> {
     let source = || MemSource::new(file, 65_536, 0);
     let mut form = MemSink::new(alloc, 9_999, 9_999, 0)?;
     let mut listing = MemSink::new(alloc, 9_999, 9_999, 0)?;
@@ -294,17 +295,16 @@ fn answers<S: BuildHasher + Copy + Drop>(
 }
 
 #[test]
-fn canonical_forms_under_each_hasher(rt: HostRuntime) -> Result<(), Fail> {
+fn canonical_forms_under_each_hasher(rt: HostRuntime) {
     let alloc = rt.alloc();
     for (file, form) in FORMS {
-        let (file, form) = (bytes_of(alloc, file)?, bytes_of(alloc, form)?);
-        let plain = answers(alloc, Seeded::new(0), &file)?;
-        assert_eq!(rt; plain.form.as_slice(), form.as_slice());
-        assert!(rt; plain.counted.is_ok());
-        assert_eq!(rt; answers(alloc, Seeded::new(7), &file)?, plain);
-        assert_eq!(rt; answers(alloc, Zero, &file)?, plain);
+        let (file, form) = (bytes_of(&rt, alloc, file), bytes_of(&rt, alloc, form));
+        let plain = ok(&rt, answers(alloc, Seeded::new(0), &file));
+        assert_same!(rt; plain.form.as_slice(), form.as_slice());
+        assert_holds!(rt; plain.counted.is_ok());
+        assert_same!(rt; ok(&rt, answers(alloc, Seeded::new(7), &file)), plain);
+        assert_same!(rt; ok(&rt, answers(alloc, Zero, &file)), plain);
     }
-    Ok(())
 }
 
 fn compared<S: BuildHasher + Copy + Drop>(
@@ -335,16 +335,15 @@ fn verdict(parts_at: Option<(u32, u32)>) -> Verdict {
 }
 
 #[test]
-fn verdicts_under_each_hasher(rt: HostRuntime) -> Result<(), Fail> {
+fn verdicts_under_each_hasher(rt: HostRuntime) {
     let alloc = rt.alloc();
     for (first, second, parts_at) in PAIRS {
-        let (first, second) = (bytes_of(alloc, first)?, bytes_of(alloc, second)?);
+        let (first, second) = (bytes_of(&rt, alloc, first), bytes_of(&rt, alloc, second));
         let wanted = Ok(verdict(parts_at));
-        assert_eq!(rt; compared(alloc, Seeded::new(0), &first, &second), wanted);
-        assert_eq!(rt; compared(alloc, Seeded::new(7), &first, &second), wanted);
-        assert_eq!(rt; compared(alloc, Zero, &first, &second), wanted);
+        assert_same!(rt; compared(alloc, Seeded::new(0), &first, &second), wanted);
+        assert_same!(rt; compared(alloc, Seeded::new(7), &first, &second), wanted);
+        assert_same!(rt; compared(alloc, Zero, &first, &second), wanted);
     }
-    Ok(())
 }
 
 /// LOOKUP and then READ with one xid.
@@ -355,9 +354,9 @@ const CONFLICT: &str = "\
      000000000000000401020304000000000000000000000010000000000000000000000000";
 
 #[test]
-fn an_xid_in_conflict_under_each_hasher(rt: HostRuntime) -> Result<(), Fail> {
+fn an_xid_in_conflict_under_each_hasher(rt: HostRuntime) {
     let alloc = rt.alloc();
-    let file = bytes_of(alloc, CONFLICT)?;
+    let file = bytes_of(&rt, alloc, CONFLICT);
     let fault = Fault {
         place: Place::Record {
             conn: 1,
@@ -367,9 +366,8 @@ fn an_xid_in_conflict_under_each_hasher(rt: HostRuntime) -> Result<(), Fail> {
         },
         reason: Reason::XidConflict,
     };
-    let plain = answers(alloc, Seeded::new(0), &file)?;
-    assert_eq!(rt; plain.counted, Err(Error::Refused(fault)));
-    assert_eq!(rt; answers(alloc, Seeded::new(7), &file)?, plain);
-    assert_eq!(rt; answers(alloc, Zero, &file)?, plain);
-    Ok(())
+    let plain = ok(&rt, answers(alloc, Seeded::new(0), &file));
+    assert_same!(rt; plain.counted, Err(Error::Refused(fault)));
+    assert_same!(rt; ok(&rt, answers(alloc, Seeded::new(7), &file)), plain);
+    assert_same!(rt; ok(&rt, answers(alloc, Zero, &file)), plain);
 }

@@ -1,11 +1,12 @@
 //! Listings of captures in memory.
 
+use crate::asserts::{assert_same, ok};
 use crate::samples::hashers;
 use canon3::{MemSink, Summary};
 use capture3::{Error, Fault, MemSource, Place};
 use listing3::show;
 use std::alloc::{AllocError, Global};
-use std::test::Fail;
+use std::process::Abort;
 use xdr3::Reason;
 
 /// MNT of `/x` and its reply, and in another connection GETATTR of the handle. In hexadecimal.
@@ -30,12 +31,13 @@ static LINES: [&str; 6] = [
     " cred_body= verf_flavor=0 verf_body= fh=0102030405060708\n",
 ];
 
-fn capture(alloc: Global) -> Result<Vec<u8>, Fail> {
+fn capture(rt: &impl Abort, alloc: Global) -> Vec<u8> {
     let mut bytes = Vec::new(alloc);
     for digits in CAPTURE {
-        bytes.extend_from_slice(&hex::decode(alloc, digits)?)?;
+        let part = ok(rt, hex::decode(alloc, digits));
+        ok(rt, bytes.extend_from_slice(&part));
     }
-    Ok(bytes)
+    bytes
 }
 
 fn lines(alloc: Global) -> Result<Vec<u8>, AllocError> {
@@ -57,80 +59,74 @@ fn listed(rt: &HostRuntime, file: &[u8], fail: u64, sink: &mut MemSink) -> Resul
 }
 
 #[test]
-fn lines_of_two_connections(rt: HostRuntime) -> Result<(), Fail> {
-    let bytes = capture(rt.alloc())?;
-    let mut sink = MemSink::new(rt.alloc(), 999, 999, 0)?;
+fn lines_of_two_connections(rt: HostRuntime) {
+    let bytes = capture(&rt, rt.alloc());
+    let mut sink = ok(&rt, MemSink::new(rt.alloc(), 999, 999, 0));
     let summary = Summary {
         connections: 2,
         calls: 2,
         replies: 1,
         handles: 1,
     };
-    assert_eq!(rt; listed(&rt, &bytes, 0, &mut sink), Ok(summary));
-    assert_eq!(rt; sink.bytes(), lines(rt.alloc())?.as_slice());
-    Ok(())
+    assert_same!(rt; listed(&rt, &bytes, 0, &mut sink), Ok(summary));
+    assert_same!(rt; sink.bytes(), ok(&rt, lines(rt.alloc())).as_slice());
 }
 
 #[test]
-fn one_byte_a_read_and_one_a_write(rt: HostRuntime) -> Result<(), Fail> {
-    let bytes = capture(rt.alloc())?;
-    let mut sink = MemSink::new(rt.alloc(), 999, 1, 0)?;
+fn one_byte_a_read_and_one_a_write(rt: HostRuntime) {
+    let bytes = capture(&rt, rt.alloc());
+    let mut sink = ok(&rt, MemSink::new(rt.alloc(), 999, 1, 0));
     let mut source = MemSource::new(&bytes, 1, 0);
-    let summary = show(rt.alloc(), hashers(), &mut source, &mut sink)?;
-    assert_eq!(rt; summary.calls, 2);
-    assert_eq!(rt; sink.bytes(), lines(rt.alloc())?.as_slice());
-    Ok(())
+    let summary = ok(&rt, show(rt.alloc(), hashers(), &mut source, &mut sink));
+    assert_same!(rt; summary.calls, 2);
+    assert_same!(rt; sink.bytes(), ok(&rt, lines(rt.alloc())).as_slice());
 }
 
 // The second line is written before the capture is found to be cut.
 #[test]
-fn the_lines_before_a_fault(rt: HostRuntime) -> Result<(), Fail> {
-    let mut bytes = capture(rt.alloc())?;
+fn the_lines_before_a_fault(rt: HostRuntime) {
+    let mut bytes = capture(&rt, rt.alloc());
     bytes.truncate(150);
-    let mut sink = MemSink::new(rt.alloc(), 999, 9, 0)?;
+    let mut sink = ok(&rt, MemSink::new(rt.alloc(), 999, 9, 0));
     let fault = Fault {
         place: Place::File { at: 150 },
         reason: Reason::CaptureCut,
     };
-    assert_eq!(rt;
+    assert_same!(rt;
         listed(&rt, &bytes, 0, &mut sink),
         Err(Error::Refused(fault))
     );
-    let mut text = lines(rt.alloc())?;
+    let mut text = ok(&rt, lines(rt.alloc()));
     text.truncate(LINES[0].len() + LINES[1].len() + LINES[2].len() + LINES[3].len());
-    assert_eq!(rt; sink.bytes(), text.as_slice());
-    Ok(())
+    assert_same!(rt; sink.bytes(), text.as_slice());
 }
 
 // Ten reads of 7 bytes have the first call, which ends at byte 68.
 #[test]
-fn the_lines_before_a_failed_read(rt: HostRuntime) -> Result<(), Fail> {
-    let bytes = capture(rt.alloc())?;
-    let mut sink = MemSink::new(rt.alloc(), 999, 9, 0)?;
-    assert_eq!(rt; listed(&rt, &bytes, 11, &mut sink), Err(Error::Read));
-    let mut text = lines(rt.alloc())?;
+fn the_lines_before_a_failed_read(rt: HostRuntime) {
+    let bytes = capture(&rt, rt.alloc());
+    let mut sink = ok(&rt, MemSink::new(rt.alloc(), 999, 9, 0));
+    assert_same!(rt; listed(&rt, &bytes, 11, &mut sink), Err(Error::Read));
+    let mut text = ok(&rt, lines(rt.alloc()));
     text.truncate(LINES[0].len() + LINES[1].len());
-    assert_eq!(rt; sink.bytes(), text.as_slice());
-    Ok(())
+    assert_same!(rt; sink.bytes(), text.as_slice());
 }
 
 #[test]
-fn a_front_where_room_is_wanting(rt: HostRuntime) -> Result<(), Fail> {
-    let bytes = capture(rt.alloc())?;
-    let mut sink = MemSink::new(rt.alloc(), 200, 9, 0)?;
-    assert_eq!(rt; listed(&rt, &bytes, 0, &mut sink), Err(Error::Write));
-    let mut text = lines(rt.alloc())?;
+fn a_front_where_room_is_wanting(rt: HostRuntime) {
+    let bytes = capture(&rt, rt.alloc());
+    let mut sink = ok(&rt, MemSink::new(rt.alloc(), 200, 9, 0));
+    assert_same!(rt; listed(&rt, &bytes, 0, &mut sink), Err(Error::Write));
+    let mut text = ok(&rt, lines(rt.alloc()));
     text.truncate(200);
-    assert_eq!(rt; sink.bytes(), text.as_slice());
-    Ok(())
+    assert_same!(rt; sink.bytes(), text.as_slice());
 }
 
 // Two writes for each line come before it.
 #[test]
-fn a_failed_flush(rt: HostRuntime) -> Result<(), Fail> {
-    let bytes = capture(rt.alloc())?;
-    let mut sink = MemSink::new(rt.alloc(), 999, 999, 7)?;
-    assert_eq!(rt; listed(&rt, &bytes, 0, &mut sink), Err(Error::Write));
-    assert_eq!(rt; sink.bytes(), lines(rt.alloc())?.as_slice());
-    Ok(())
+fn a_failed_flush(rt: HostRuntime) {
+    let bytes = capture(&rt, rt.alloc());
+    let mut sink = ok(&rt, MemSink::new(rt.alloc(), 999, 999, 7));
+    assert_same!(rt; listed(&rt, &bytes, 0, &mut sink), Err(Error::Write));
+    assert_same!(rt; sink.bytes(), ok(&rt, lines(rt.alloc())).as_slice());
 }

@@ -2,12 +2,12 @@
 
 ghost use Rattle.std.specs.Prelude.{◌<◌, false, None};
 
+use crate::asserts::{assert_holds, assert_same, ok, some};
 use canon3::{MemSink, Sink};
 use capture3::{DeviceFailed, Error, Fault, MemSource, Place, Source};
 use packing3::Packing;
 use std::alloc::{AllocError, Global};
 use std::process::Abort;
-use std::test::Fail;
 use xdr3::Reason;
 
 // The client stream of a call of NULL, and the server stream of its reply.
@@ -31,11 +31,9 @@ const NULL: [u8; 104] = [
 ];
 
 // Into so much room, where the write or flush with this number fails.
-fn packing(alloc: Global, room: usize, fail: u64) -> Result<Packing<MemSink>, Fail> {
-    match Packing::start(alloc, MemSink::new(alloc, room, 1_000_000, fail)?) {
-        Ok(packing) => Ok(packing),
-        Err((error, _)) => Err(error.into()),
-    }
+fn packing(rt: &impl Abort, alloc: Global, room: usize, fail: u64) -> Packing<MemSink> {
+    let sink = ok(rt, MemSink::new(alloc, room, 1_000_000, fail));
+    some(rt, Packing::start(alloc, sink).ok())
 }
 
 // Adds the streams from sources that give at most so many bytes a read.
@@ -54,26 +52,24 @@ fn add(
 }
 
 #[test]
-fn two_empty_streams(rt: HostRuntime) -> Result<(), Fail> {
-    let mut packing = packing(rt.alloc(), 99, 0)?;
-    assert_eq!(rt; packing.sink().bytes(), b"NFS3CAP1".as_slice());
-    add(&mut packing, &[], &[], 1)?;
+fn two_empty_streams(rt: HostRuntime) {
+    let mut packing = packing(&rt, rt.alloc(), 99, 0);
+    assert_same!(rt; packing.sink().bytes(), b"NFS3CAP1".as_slice());
+    ok(&rt, add(&mut packing, &[], &[], 1));
     let wanted = b"NFS3CAP1\0\0\0\x01\0\0\0\0\0\0\0\0\0\0\0\0";
-    assert_eq!(rt; packing.sink().bytes(), &wanted[..20]);
-    packing.finish()?;
-    assert_eq!(rt; packing.sink().bytes(), wanted.as_slice());
-    Ok(())
+    assert_same!(rt; packing.sink().bytes(), &wanted[..20]);
+    ok(&rt, packing.finish());
+    assert_same!(rt; packing.sink().bytes(), wanted.as_slice());
 }
 
 #[test]
-fn a_call_and_its_reply(rt: HostRuntime) -> Result<(), Fail> {
+fn a_call_and_its_reply(rt: HostRuntime) {
     for block in [1, 3, 99] {
-        let mut packing = packing(rt.alloc(), 999, 0)?;
-        add(&mut packing, &CALL, &REPLY, block)?;
-        packing.finish()?;
-        assert_eq!(rt; packing.sink().bytes(), NULL.as_slice());
+        let mut packing = packing(&rt, rt.alloc(), 999, 0);
+        ok(&rt, add(&mut packing, &CALL, &REPLY, block));
+        ok(&rt, packing.finish());
+        assert_same!(rt; packing.sink().bytes(), NULL.as_slice());
     }
-    Ok(())
 }
 
 fn sevens(alloc: Global, count: usize) -> Result<Vec<u8>, AllocError> {
@@ -82,33 +78,31 @@ fn sevens(alloc: Global, count: usize) -> Result<Vec<u8>, AllocError> {
 
 // A stream of 65,537 bytes has a full chunk and one of one byte, also where a read gives one byte.
 #[test]
-fn a_stream_of_two_chunks(rt: HostRuntime) -> Result<(), Fail> {
-    let stream = sevens(rt.alloc(), 65_537)?;
+fn a_stream_of_two_chunks(rt: HostRuntime) {
+    let stream = ok(&rt, sevens(rt.alloc(), 65_537));
     for block in [1, 65_535, 65_536, 65_537] {
-        let mut packing = packing(rt.alloc(), 70_000, 0)?;
-        add(&mut packing, &stream, &[], block)?;
-        packing.finish()?;
+        let mut packing = packing(&rt, rt.alloc(), 70_000, 0);
+        ok(&rt, add(&mut packing, &stream, &[], block));
+        ok(&rt, packing.finish());
         let bytes = packing.sink().bytes();
-        assert_eq!(rt; bytes.len(), 65_569);
-        assert_eq!(rt; &bytes[8..18], [0, 0, 0, 1, 0, 1, 0, 0, 7, 7].as_slice());
+        assert_holds!(rt; bytes.len() == 65_569);
+        assert_same!(rt; &bytes[8..18], [0, 0, 0, 1, 0, 1, 0, 0, 7, 7].as_slice());
         let wanted = [7, 7, 0, 0, 0, 1, 7, 0, 0, 0, 0, 0, 0, 0, 0, 0, 0, 0, 0];
-        assert_eq!(rt; &bytes[65_550..], wanted.as_slice());
+        assert_same!(rt; &bytes[65_550..], wanted.as_slice());
     }
-    Ok(())
 }
 
 // A stream that fills its chunks has no empty one.
 #[test]
-fn a_full_chunk(rt: HostRuntime) -> Result<(), Fail> {
-    let stream = sevens(rt.alloc(), 65_536)?;
-    let mut packing = packing(rt.alloc(), 70_000, 0)?;
-    add(&mut packing, &[], &stream, 65_536)?;
+fn a_full_chunk(rt: HostRuntime) {
+    let stream = ok(&rt, sevens(rt.alloc(), 65_536));
+    let mut packing = packing(&rt, rt.alloc(), 70_000, 0);
+    ok(&rt, add(&mut packing, &[], &stream, 65_536));
     let bytes = packing.sink().bytes();
-    assert_eq!(rt; bytes.len(), 65_560);
+    assert_holds!(rt; bytes.len() == 65_560);
     let wanted = [0, 0, 0, 0, 0, 1, 0, 0, 7];
-    assert_eq!(rt; &bytes[12..21], wanted.as_slice());
-    assert_eq!(rt; &bytes[65_555..], [7, 0, 0, 0, 0].as_slice());
-    Ok(())
+    assert_same!(rt; &bytes[12..21], wanted.as_slice());
+    assert_same!(rt; &bytes[65_555..], [7, 0, 0, 0, 0].as_slice());
 }
 
 // The same is answered again, and nothing is read or written any more.
@@ -117,42 +111,40 @@ fn is_over(
     alloc: Global,
     packing: &mut Packing<MemSink>,
     answer: Result<(), Error>,
-) -> Result<(), Fail> {
-    let written = packing.sink().bytes().to_vec(alloc)?;
+) {
+    let written = ok(rt, packing.sink().bytes().to_vec(alloc));
     let mut client = MemSource::new(&CALL, 9, 0);
     let mut server = MemSource::new(&REPLY, 9, 0);
-    assert_eq!(rt; packing.add(&mut client, &mut server), answer);
-    assert_eq!(rt; packing.finish(), answer);
-    assert_eq!(rt; packing.sink().bytes(), written.as_slice());
+    assert_same!(*rt; packing.add(&mut client, &mut server), answer);
+    assert_same!(*rt; packing.finish(), answer);
+    assert_same!(*rt; packing.sink().bytes(), written.as_slice());
     let mut front = [0; 4];
-    assert_eq!(rt; client.read_some(&mut front), Ok(4));
-    assert_eq!(rt; front, [0x80, 0, 0, 0x28]);
-    Ok(())
+    assert_same!(*rt; client.read_some(&mut front), Ok(4));
+    assert_same!(*rt; front, [0x80, 0, 0, 0x28]);
 }
 
 #[test]
-fn finished(rt: HostRuntime) -> Result<(), Fail> {
-    let mut packing = packing(rt.alloc(), 999, 0)?;
-    add(&mut packing, &CALL, &REPLY, 9)?;
-    packing.finish()?;
-    assert_eq!(rt; packing.sink().bytes(), NULL.as_slice());
-    is_over(&rt, rt.alloc(), &mut packing, Ok(()))
+fn finished(rt: HostRuntime) {
+    let mut packing = packing(&rt, rt.alloc(), 999, 0);
+    ok(&rt, add(&mut packing, &CALL, &REPLY, 9));
+    ok(&rt, packing.finish());
+    assert_same!(rt; packing.sink().bytes(), NULL.as_slice());
+    is_over(&rt, rt.alloc(), &mut packing, Ok(()));
 }
 
 // The client stream of 44 bytes takes four reads of at most 15 bytes, and the server stream of 28
 // bytes takes three: of the last of each nothing is given.
 #[test]
-fn a_read_fails_at_each_call(rt: HostRuntime) -> Result<(), Fail> {
+fn a_read_fails_at_each_call(rt: HostRuntime) {
     for fail in 1..8u64 {
-        let mut packing = packing(rt.alloc(), 999, 0)?;
+        let mut packing = packing(&rt, rt.alloc(), 999, 0);
         let mut client = MemSource::new(&CALL, 15, fail);
         let mut server = MemSource::new(&REPLY, 15, fail.saturating_sub(4));
-        assert_eq!(rt; packing.add(&mut client, &mut server), Err(Error::Read));
+        assert_same!(rt; packing.add(&mut client, &mut server), Err(Error::Read));
         let wanted = if fail < 5 { 12 } else { 64 };
-        assert_eq!(rt; packing.sink().bytes(), &NULL[..wanted]);
-        is_over(&rt, rt.alloc(), &mut packing, Err(Error::Read))?;
+        assert_same!(rt; packing.sink().bytes(), &NULL[..wanted]);
+        is_over(&rt, rt.alloc(), &mut packing, Err(Error::Read));
     }
-    Ok(())
 }
 
 // One pair, and the end.
@@ -164,24 +156,22 @@ fn packed(packing: &mut Packing<MemSink>) -> Result<(), Error> {
 // The calls of the sink: the magic, the word 1, for each stream a length word, its bytes and the
 // word 0, the last word 0, and the flush.
 #[test]
-fn a_write_fails_at_each_call(rt: HostRuntime) -> Result<(), Fail> {
+fn a_write_fails_at_each_call(rt: HostRuntime) {
     let written = [8, 12, 16, 60, 64, 68, 96, 100, 104];
     for (fail, wanted) in written.iter().enumerate() {
-        let mut packing = packing(rt.alloc(), 999, fail as u64 + 2)?;
-        assert_eq!(rt; packed(&mut packing), Err(Error::Write));
-        assert_eq!(rt; packing.sink().bytes().len(), *wanted);
-        is_over(&rt, rt.alloc(), &mut packing, Err(Error::Write))?;
+        let mut packing = packing(&rt, rt.alloc(), 999, fail as u64 + 2);
+        assert_same!(rt; packed(&mut packing), Err(Error::Write));
+        assert_same!(rt; packing.sink().bytes().len(), *wanted);
+        is_over(&rt, rt.alloc(), &mut packing, Err(Error::Write));
     }
-    Ok(())
 }
 
 #[test]
-fn a_magic_that_is_not_written(rt: HostRuntime) -> Result<(), Fail> {
-    let sink = MemSink::new(rt.alloc(), 5, 9, 0)?;
-    let (error, sink) = Packing::start(rt.alloc(), sink).err().ok_or("started")?;
-    assert_eq!(rt; error, Error::Write);
-    assert_eq!(rt; sink.bytes(), b"NFS3C".as_slice());
-    Ok(())
+fn a_magic_that_is_not_written(rt: HostRuntime) {
+    let sink = ok(&rt, MemSink::new(rt.alloc(), 5, 9, 0));
+    let (error, sink) = some(&rt, Packing::start(rt.alloc(), sink).err());
+    assert_same!(rt; error, Error::Write);
+    assert_same!(rt; sink.bytes(), b"NFS3C".as_slice());
 }
 
 /// A source without end.
@@ -230,27 +220,23 @@ fn refused(at: u64, reason: Reason) -> Result<(), Error> {
 
 // After 16,384 full chunks.
 #[test]
-fn a_stream_without_end(rt: HostRuntime) -> Result<(), Fail> {
-    match Packing::start(rt.alloc(), Counter { bytes: 0 }) {
-        Ok(mut packing) => {
-            let result = refused(1_073_807_372, Reason::TooManyBytes);
-            assert_eq!(rt; packing.add(&mut Endless, &mut Endless), result);
-            assert_eq!(rt; packing.sink().bytes, 1_073_807_372);
-            assert_eq!(rt; packing.finish(), result);
-        }
-        Err((error, _)) => return Err(error.into()),
-    }
-    Ok(())
+fn a_stream_without_end(rt: HostRuntime) {
+    let start = Packing::start(rt.alloc(), Counter { bytes: 0 });
+    let mut packing = some(&rt, start.ok());
+    let result = refused(1_073_807_372, Reason::TooManyBytes);
+    assert_same!(rt; packing.add(&mut Endless, &mut Endless), result);
+    assert_same!(rt; packing.sink().bytes, 1_073_807_372);
+    assert_same!(rt; packing.finish(), result);
 }
 
 #[test]
-fn one_connection_too_many(rt: HostRuntime) -> Result<(), Fail> {
-    let mut packing = packing(rt.alloc(), 800_000, 0)?;
+fn one_connection_too_many(rt: HostRuntime) {
+    let mut packing = packing(&rt, rt.alloc(), 800_000, 0);
     for _ in 0..65_535 {
-        add(&mut packing, &[], &[], 1)?;
+        ok(&rt, add(&mut packing, &[], &[], 1));
     }
     let result = refused(786_428, Reason::TooManyConnections);
-    assert_eq!(rt; add(&mut packing, &CALL, &REPLY, 9), result);
-    assert_eq!(rt; packing.sink().bytes().len(), 786_428);
-    is_over(&rt, rt.alloc(), &mut packing, result)
+    assert_same!(rt; add(&mut packing, &CALL, &REPLY, 9), result);
+    assert_same!(rt; packing.sink().bytes().len(), 786_428);
+    is_over(&rt, rt.alloc(), &mut packing, result);
 }

@@ -1,10 +1,11 @@
 //! Sinks over writers of which a call fails.
 
+use crate::asserts::{assert_same, ok};
 use crate::samples::{commits, hashers};
 use canon3::{Sink, Summary, ToWrite, canon};
 use capture3::{DeviceFailed, Error, MemSource};
 use std::io::{self, ErrorKind, Write};
-use std::test::Fail;
+use std::process::Abort;
 
 /// How a call goes wrong.
 #[derive(Clone, Copy)]
@@ -56,19 +57,18 @@ impl Write for Faulty {
 }
 
 #[test]
-fn failed_calls_of_a_writer(rt: HostRuntime) -> Result<(), Fail> {
+fn failed_calls_of_a_writer(rt: HostRuntime) {
     for failing in [Failing::WithAnError, Failing::TakingNothing] {
         let mut sink = ToWrite::new(Faulty::at(2, failing));
-        assert_eq!(rt; sink.write_some(b"abc"), Ok(3));
-        assert_eq!(rt; sink.write_some(b"de"), Err(DeviceFailed));
-        assert_eq!(rt; sink.write_some(b"de"), Ok(2));
-        assert_eq!(rt; sink.flush_all(), Ok(()));
+        assert_same!(rt; sink.write_some(b"abc"), Ok(3));
+        assert_same!(rt; sink.write_some(b"de"), Err(DeviceFailed));
+        assert_same!(rt; sink.write_some(b"de"), Ok(2));
+        assert_same!(rt; sink.flush_all(), Ok(()));
     }
     let mut sink = ToWrite::new(Faulty::at(1, Failing::WithAnError));
-    assert_eq!(rt; sink.flush_all(), Err(DeviceFailed));
-    assert_eq!(rt; sink.flush_all(), Ok(()));
-    assert_eq!(rt; sink.inner().calls, 2);
-    Ok(())
+    assert_same!(rt; sink.flush_all(), Err(DeviceFailed));
+    assert_same!(rt; sink.flush_all(), Ok(()));
+    assert_same!(rt; sink.inner().calls, 2);
 }
 
 fn canon_into(rt: &HostRuntime, file: &[u8], writer: Faulty) -> Result<Summary, Error> {
@@ -83,15 +83,12 @@ fn canon_into(rt: &HostRuntime, file: &[u8], writer: Faulty) -> Result<Summary, 
 
 // Nine writes and the flush, each of which fails once.
 #[test]
-fn each_call_of_a_writer_fails(rt: HostRuntime) -> Result<(), Fail> {
-    let (bytes, _) = commits(rt.alloc())?;
+fn each_call_of_a_writer_fails(rt: HostRuntime) {
+    let (bytes, _) = ok(&rt, commits(rt.alloc()));
     for fails_at in 1..11u64 {
         let writer = Faulty::at(fails_at, Failing::WithAnError);
-        assert_eq!(rt;
-            canon_into(&rt, &bytes, writer),
-            Err(Error::Write),
-            "at {fails_at}"
-        );
+        let answer = canon_into(&rt, &bytes, writer);
+        assert_same!(rt; (fails_at, answer), (fails_at, Err(Error::Write)));
     }
     let summary = Summary {
         connections: 1,
@@ -100,6 +97,5 @@ fn each_call_of_a_writer_fails(rt: HostRuntime) -> Result<(), Fail> {
         handles: 1,
     };
     let writer = Faulty::at(11, Failing::WithAnError);
-    assert_eq!(rt; canon_into(&rt, &bytes, writer), Ok(summary));
-    Ok(())
+    assert_same!(rt; canon_into(&rt, &bytes, writer), Ok(summary));
 }
