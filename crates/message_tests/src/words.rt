@@ -15,6 +15,8 @@ fn words_keep_their_first_values(rt: HostRuntime) {
     let hasher: BuildHasherDefault<FoldHasher> = BuildHasherDefault::new();
     let mut table = WordTable::new(rt.alloc(), hasher);
     assert_same!(rt; table.get(0), None);
+    assert_same!(rt; table.is_large(), false);
+    table.touch(&[0, word(1)]);
     for index in 0..1000 {
         let earlier = ok(&rt, table.admit(word(index), index + 1));
         assert_same!(rt; (index, earlier), (index, None));
@@ -24,6 +26,7 @@ fn words_keep_their_first_values(rt: HostRuntime) {
         let earlier = ok(&rt, table.admit(word(index), 7));
         assert_same!(rt; (index, earlier), (index, Some(index + 1)));
     }
+    table.touch(&[word(5), word(1000)]);
     assert_same!(rt; table.get(word(1000)), None);
     table.clear();
     assert_same!(rt; table.get(word(3)), None);

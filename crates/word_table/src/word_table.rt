@@ -15,6 +15,9 @@ const LEAST_MASK: usize = 15;
 /// How many slots are made behind the homes, so that few are pushed one by one.
 const BEHIND: usize = 32;
 
+/// The least number of homes of a large table, minus one. Its slots take 256 KiB.
+const LARGE_MASK: usize = 32_767;
+
 /// Words, each with a value of at least 1. The hasher affects no result.
 #[derive(Drop)]
 pub struct WordTable<S: BuildHasher + Drop> {
@@ -25,6 +28,8 @@ pub struct WordTable<S: BuildHasher + Drop> {
     mask: usize,
     taken: usize,
     hasher: S,
+    // What `touch` has loaded, so that its loads are not optimised away.
+    touched: u32,
 }
 
 impl<S: BuildHasher + Drop> Model for WordTable<S> {
@@ -81,6 +86,7 @@ impl<S: BuildHasher + Drop> WordTable<S> {
             mask: 0,
             taken: 0,
             hasher,
+            touched: 0,
         }
     }
 
@@ -90,6 +96,28 @@ impl<S: BuildHasher + Drop> WordTable<S> {
         ensures { result ≡ value_of_word self.now word }
     {
         find(&self.slots, home(&self.hasher, self.mask, word), word)
+    }
+
+    /// Returns whether the table has more slots than a near cache, so that `touch` is worth its cost.
+    #[inline(always)]
+    pub fn is_large(&self) -> bool {
+        self.mask >= LARGE_MASK
+    }
+
+    /// Loads what `get` and `admit` read first for each of these words. The loads do not wait for one
+    /// another, so look-ups of many words right after it take less time. It changes no result.
+    #[inline(never)]
+    pub fn touch(&mut self, words: &[u32])
+        ensures { self.new ≡ self.old }
+    {
+        // The loop has few instructions, so that the processor is at many loads at once.
+        let mut seen = 0;
+        for word in words {
+            if let Some(slot) = self.slots.get(home(&self.hasher, self.mask, *word)) {
+                seen ^= slot.word;
+            }
+        }
+        self.touched ^= seen;
     }
 
     /// Gives a word this value if it has none, and returns the value that it had.

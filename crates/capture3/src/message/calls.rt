@@ -107,6 +107,8 @@ impl CallTable for CallList {
 #[derive(Drop)]
 pub(crate) struct HashedCalls<S: BuildHasher + Drop> {
     table: CountedCalls<S>,
+    // How many of the next look-ups have their slots loaded, by guess.
+    ahead: usize,
 }
 
 impl<S: BuildHasher + Drop> Model for HashedCalls<S> {
@@ -124,7 +126,31 @@ impl<S: BuildHasher + Drop> HashedCalls<S> {
     {
         HashedCalls {
             table: CountedCalls::new(alloc, hasher),
+            ahead: 0,
         }
+    }
+
+    /// Counts a look-up. Returns whether it is time to touch the calls of the next ones: there are
+    /// many calls, and those that were touched are used up.
+    #[inline(always)]
+    pub(crate) fn is_due(&mut self) -> bool
+        ensures { self.new ≡ self.old }
+    {
+        if self.ahead == 0 {
+            return self.table.are_many();
+        }
+        self.ahead -= 1;
+        false
+    }
+
+    /// Loads what look-ups of these xids read first. The loads do not wait for one another. It
+    /// changes no result.
+    pub(crate) fn touch(&mut self, xids: &[u32])
+        ensures { self.new ≡ self.old }
+    {
+        self.table.touch(xids);
+        // The first is the look-up that was counted.
+        self.ahead = xids.len().saturating_sub(1);
     }
 }
 

@@ -187,6 +187,20 @@ impl<S: BuildHasher + Drop> CountedCalls<S> {
         }
     }
 
+    /// Returns whether so many calls are hashed that `touch` is worth its cost.
+    #[inline(always)]
+    pub(crate) fn are_many(&self) -> bool {
+        self.others.are_many()
+    }
+
+    /// Loads what look-ups of these xids among the hashed calls read first. It changes no result.
+    pub(crate) fn touch(&mut self, xids: &[u32])
+        ensures line { self.new.line.items ≡ self.old.line.items }
+        ensures others { self.new.others ≡ self.old.others }
+    {
+        self.others.touch(xids);
+    }
+
     /// Forgets all calls. A connection of few calls may follow one of a million.
     pub(crate) fn clear(&mut self)
         ensures { self.new.line.items ++ self.new.others ≡ [] }

@@ -96,6 +96,19 @@ impl<S: BuildHasher + Drop> OtherCalls<S> {
         }
     }
 
+    /// Returns whether there are so many calls that `touch` is worth its cost.
+    #[inline(always)]
+    pub(crate) fn are_many(&self) -> bool {
+        self.codes.is_large()
+    }
+
+    /// Loads what look-ups of these xids read first. It changes no result.
+    pub(crate) fn touch(&mut self, xids: &[u32])
+        ensures { self.new ≡ self.old }
+    {
+        self.codes.touch(xids);
+    }
+
     /// Adds a call if its xid is new. Returns `false` if an earlier call has the same xid but
     /// another procedure.
     #[inline(always)]

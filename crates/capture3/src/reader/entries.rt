@@ -312,6 +312,7 @@ impl<'r, R: Source, S: BuildHasher + Drop> Entries<'r, R, S> {
         ensures same_reference { loan_of self.new ≡ loan_of self.old }
     {
         let piece = &self.block[self.start..self.end];
+        self.parser.look_ahead(piece);
         match self.parser.next(piece, visitor) {
             Ok((count, kind)) => {
                 self.start += count;
