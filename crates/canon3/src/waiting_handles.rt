@@ -9,17 +9,15 @@ ghost use Rattle.canon3.specs.Rank.{distinct, number_limit};
 ghost use Rattle.canon3.specs.Values.{handles_in};
 
 use crate::numbers::Numbers;
+use key_table::MOST_WARMED;
 use nfs3_types::Handle;
 use std::alloc::{AllocError, Global};
 use std::hash::BuildHasher;
 use xdr3::{PlainField, Visit};
 
-/// How many handles wait at most.
-const MOST_WAITING: usize = 32;
-
 /// A visitor that collects the distinct file handles that are not empty, as a `HandleTable` does.
-/// They wait until there are `MOST_WAITING`, and are then looked up one right after the other, so
-/// that the processor waits for several cache misses at once.
+/// They wait until there are `MOST_WARMED`, and are then looked up together, so that the processor
+/// waits for their cache misses at once.
 #[derive(Drop)]
 pub(crate) struct WaitingHandles<S: BuildHasher + Drop> {
     numbers: Numbers<Handle, S>,
@@ -47,6 +45,7 @@ impl<S: BuildHasher + Drop> WaitingHandles<S> {
             → OnOk result (Gathers self.new.numbers items) }
         ensures none { OnOk result (self.new.looked_up ≡ 0) }
     {
+        self.numbers.warm(&self.waiting);
         while self.looked_up < self.waiting.len() {
             self.numbers.number_of(self.waiting[self.looked_up])?;
             self.looked_up += 1;
@@ -64,7 +63,7 @@ impl<S: BuildHasher + Drop> WaitingHandles<S> {
             (Adds GathersAll self.old self.new (Opaque HandleKind name.now bytes.now ∷ [])) }
         ensures err { OnErr result (Keeps GathersAll self.old self.new) }
     {
-        if self.looked_up > 0 || self.waiting.len() >= MOST_WAITING {
+        if self.looked_up > 0 || self.waiting.len() >= MOST_WARMED {
             self.look_up()?;
         }
         self.waiting.push(Handle::from_short(bytes))?;

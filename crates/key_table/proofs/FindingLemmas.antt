@@ -7,7 +7,7 @@ use Rattle.std.proofs.lemmas.Bool.Decides.{leb_tells}
 use Rattle.std.specs.Cmp.{IsEquivalence}
 use Rattle.std.specs.List.{list_any, position_or_len}
 use Rattle.std.specs.Option.{unwrap_or}
-use Rattle.key_table.specs.machinery.Finding.{FindsAll, IsFoundAt}
+use Rattle.key_table.specs.Finding.{FindsAll, IsFoundAt}
 
 -- ---- tests
 

@@ -3,7 +3,7 @@
 ghost use Rattle.std.specs.Prelude.{◌≡◌, true, List, [], length, IfOk, IsOk, OnErr, OnOk};
 ghost use Rattle.std.specs.List.{list_any, position_or_len};
 ghost use Rattle.key_table.specs.Keys.{with_key};
-ghost use Rattle.key_table.specs.machinery.Finding.{fingerprint_of};
+ghost use Rattle.key_table.specs.Finding.{fingerprint_of};
 
 use crate::adding::{add_clashing, add_first};
 use crate::first_bytes::FirstBytes;
@@ -32,7 +32,7 @@ impl<K: Copy + Eq + Hash, S: BuildHasher + Drop> Model for KeyTable<K, S> {
     ghost use Rattle.std.specs.Coded.{coded_list};
     ghost use Rattle.indexmap.specs.IndexMap.{get};
     ghost use Rattle.word_table.specs.Words.{value_of_word};
-    ghost use Rattle.key_table.specs.machinery.Finding.{fingerprint_of, FindsAll};
+    ghost use Rattle.key_table.specs.Finding.{fingerprint_of, FindsAll};
 
     ghost Value = { List K };
 
@@ -105,10 +105,14 @@ impl<K: Copy + Eq + Hash, S: BuildHasher + Drop> KeyTable<K, S> {
 
     /// Loads what `index_of_or_add` reads for each of these keys, of which all but the first
     /// `MOST_WARMED` are left out. The loads do not wait for one another, so look-ups of many keys
-    /// right after it take less time. It changes no result.
+    /// right after it take less time. If the table is not large it loads nothing, because it is in a
+    /// near cache. It changes no result.
     pub fn warm(&mut self, keys: &[K])
         ensures { self.new ≡ self.old }
     {
+        if !self.places.is_large() {
+            return;
+        }
         let count = keys.len().min(MOST_WARMED);
         let mut words = [0; MOST_WARMED];
         for at in 0..count {

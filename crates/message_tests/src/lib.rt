@@ -5,9 +5,13 @@
 #[cfg(test)]
 mod asserts;
 #[cfg(test)]
+mod bodies;
+#[cfg(test)]
 mod heads;
 #[cfg(test)]
 mod items;
+#[cfg(test)]
+mod keys;
 #[cfg(test)]
 mod parts;
 #[cfg(test)]

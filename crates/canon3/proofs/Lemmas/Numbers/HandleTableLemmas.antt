@@ -15,7 +15,8 @@ use Rattle.nfs3_types.specs.declared.values.handle.Handle as handles
 use Rattle.nfs3_types.specs.Handle.{handle_bytes}
 use Rattle.capture3.specs.Entry.{Entry, items_of}
 use Rattle.canon3.specs.HandleTable.{Gathers, same_handle}
-use Rattle.canon3.specs.Rank.{before, distinct, rank, with_key, with_keys, HoldsDistinct}
+use Rattle.canon3.specs.Rank.{before, distinct, rank, with_keys, HoldsDistinct}
+use Rattle.key_table.specs.Keys.{with_key}
 use Rattle.canon3.specs.machinery.Sums.{all_items}
 use Rattle.canon3.specs.machinery.WaitingHandles.{GathersAll}
 use Rattle.canon3.specs.declared.waiting_handles.WaitingHandles.{WaitingHandles}

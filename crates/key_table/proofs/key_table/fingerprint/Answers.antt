@@ -1,7 +1,7 @@
 use Rattle.std.specs.Prelude.{◌/◌, ◌%◌, ◌^◌}
 use mathlib.Core.Path.{ap, ◌∙◌}
 use lib.Bits.{bit_xor, and_mask}
-use Rattle.key_table.specs.machinery.Finding.{fingerprint_of}
+use Rattle.key_table.specs.Finding.{fingerprint_of}
 use Rattle.key_table.proofs.key_table.fingerprint.Goals as goal
 
 pub returns : goal.returns

@@ -5,7 +5,7 @@ use Rattle.xdr3.specs.Visit.{Adds, Keeps}
 use Rattle.canon3.specs.machinery.WaitingHandles.{GathersAll}
 use Rattle.canon3.proofs.Lemmas.Numbers.HandleTableLemmas.{waits_one}
 use Rattle.canon3.proofs.waiting_handles.WaitingHandles.add.Goals as goal
-use Rattle.canon3.proofs.waiting_handles.WaitingHandles.add.Goals.{then-self-gt0+in_ok-look_up, else-self-gt0+else-len-ge-MOST_WAITING}
+use Rattle.canon3.proofs.waiting_handles.WaitingHandles.add.Goals.{then-self-gt0+in_ok-look_up, else-self-gt0+else-len-ge-MOST_WARMED}
 
 on_err : {T E P : Type 0} (r : Result T E) → P → OnErr r P
 on_err (Ok x) p = tt
@@ -16,7 +16,7 @@ unfolding Adds Keeps
 returns-clause-ok g c =
     let came : Keeps GathersAll c.args.self.now c.if-self-gt0.self × (c.if-self-gt0.self.looked_up ≡ 0) = elim c.if-self-gt0.branch [
       | then-self-gt0+in_ok-look_up w ↦ rw w.self-is (w.in_ok-look_up.ensures.keeps, w.in_ok-look_up.ensures.none)
-      | else-self-gt0+else-len-ge-MOST_WAITING w ↦ rw w.self-is ((λ items h. h), omega (arith, w.if-self-gt0.false))
+      | else-self-gt0+else-len-ge-MOST_WARMED w ↦ rw w.self-is ((λ items h. h), omega (arith, w.if-self-gt0.false))
     ] in
     λ items h.
     let (given, stands, are) = came.0 items h in (
@@ -33,7 +33,7 @@ unfolding Keeps
 returns-in_err-push-clause-err g c =
     let came : Keeps GathersAll c.args.self.now c.if-self-gt0.self = elim c.if-self-gt0.branch [
       | then-self-gt0+in_ok-look_up w ↦ rw w.self-is (w.in_ok-look_up.ensures.keeps)
-      | else-self-gt0+else-len-ge-MOST_WAITING w ↦ rw w.self-is (λ items h. h)
+      | else-self-gt0+else-len-ge-MOST_WARMED w ↦ rw w.self-is (λ items h. h)
     ] in
     on_err c.from_residual-in_err-push.result (λ items h.
     let (given, stands, are) = came items h in (

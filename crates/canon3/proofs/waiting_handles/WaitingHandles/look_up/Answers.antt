@@ -6,7 +6,7 @@ use Rattle.canon3.proofs.Lemmas.Numbers.HandleTableLemmas.{waits_looked_up, wait
 use Rattle.canon3.proofs.waiting_handles.WaitingHandles.look_up.Goals as goal
 
 pub loop-self-init : goal.loop-self-init
-loop-self-init g c = λ items h. h
+loop-self-init g c = rw c.warm.ensures (λ items h. h)
 
 pub returns-in_err-number_of-clause-keeps : goal.returns-in_err-number_of-clause-keeps
 unfolding Keeps

@@ -3,7 +3,7 @@ use Rattle.std.specs.List.{list_any, position_or_len}
 use Rattle.std.specs.Map.{lookup}
 use Rattle.indexmap.specs.IndexMap.{get}
 use Rattle.word_table.specs.Words.{value_of_word, Admits}
-use Rattle.key_table.specs.machinery.Finding.{fingerprint_of}
+use Rattle.key_table.specs.Finding.{fingerprint_of}
 use Rattle.key_table.proofs.FindingLemmas.{absent_clashing, absent_first, any_at, finds_clashing, finds_first, finds_of, finds_same, not_none, position_absent}
 use Rattle.key_table.proofs.key_table.KeyTable.index_of_or_add.Given.{Over}
 use Rattle.key_table.proofs.key_table.KeyTable.index_of_or_add.Goals as goal

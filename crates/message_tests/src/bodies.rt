@@ -1,0 +1,47 @@
+//! Bodies with replacements.
+
+use crate::asserts::{assert_same, ok};
+use patches::Patches;
+use std::alloc::Global;
+use std::process::Abort;
+
+// Bytes that are written before a body.
+const FRONT: &[u8; 4] = b">>> ";
+
+fn written(rt: &impl Abort, alloc: Global, patches: &Patches, body: &[u8]) -> Vec<u8> {
+    let mut room = ok(rt, FRONT.to_vec(alloc));
+    let at = room.len();
+    let end = ok(rt, patches.write(body, &mut room, at));
+    room.truncate(end);
+    room
+}
+
+#[test]
+fn a_body_is_written_with_its_replacements(rt: HostRuntime) {
+    let mut patches = Patches::new(rt.alloc());
+    assert_same!(rt; written(&rt, rt.alloc(), &patches, b"").as_slice(), FRONT.as_slice());
+    patches.keep(6);
+    ok(&rt, patches.replace(3, b"two.....", 3));
+    ok(&rt, patches.replace(1, b"  and   ", 6));
+    patches.keep(5);
+    assert_same!(rt; written(&rt, rt.alloc(), &patches, b"first one three").as_slice(), b">>> first two  and three".as_slice());
+    patches.clear();
+    patches.keep(2);
+    assert_same!(rt; written(&rt, rt.alloc(), &patches, b"ab").as_slice(), b">>> ab".as_slice());
+}
+
+#[test]
+fn alike_bodies_make_the_same_bytes(rt: HostRuntime) {
+    let mut patches = Patches::new(rt.alloc());
+    ok(&rt, patches.replace(1, b"xid     ", 3));
+    patches.keep(2);
+    let mut others = Patches::new(rt.alloc());
+    ok(&rt, others.replace(2, b"xid     ", 3));
+    others.keep(2);
+    assert_same!(rt; patches.are_alike(b"1ab", &others, b"77ab"), true);
+    assert_same!(rt; patches.are_alike(b"1ab", &others, b"77ac"), false);
+    others.clear();
+    ok(&rt, others.replace(2, b"xie     ", 3));
+    others.keep(2);
+    assert_same!(rt; patches.are_alike(b"1ab", &others, b"77ab"), false);
+}
