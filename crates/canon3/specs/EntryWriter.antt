@@ -13,11 +13,11 @@ use Rattle.capture3.specs.Reached.{Reached}
 use Rattle.capture3.specs.Typed.{Typed}
 use Rattle.canon3.specs.declared.passed.Passed.{Passed}
 use Rattle.canon3.specs.declared.summary.Summary.{Summary}
-use Rattle.capture3.specs.declared.reader.entry.Kind.{Kind}
+use Rattle.capture3.specs.declared.reader.entry.EntryRef.{EntryRef}
 use Rattle.canon3.specs.Laws.{AreFirst}
 use Rattle.canon3.specs.Passed.{ArePassed}
 use Rattle.canon3.specs.Summary.{IsSummary}
-use Rattle.capture3.specs.Kept.{IsOfKind}
+use Rattle.capture3.specs.Kept.{IsLent}
 use Rattle.canon3.specs.SinkWrites.{AppendsFront}
 
 module _ (form : List Entry → List ℕ) where
@@ -78,12 +78,12 @@ module _ {T : Type 0} (form : List Entry → List ℕ) (before : List Entry → 
       × Appends old new (form entries)
   HasWrittenOrCut writer old new entries (Err error) = AppendsFront old new (form entries)
 
-  -- One entry more of a well-formed capture is written, or cut, whose items the writer was told
-  -- after those of the entries before. The sink had some bytes, and has others now.
-  abbrev pub WritesOne : (was now : T) → Passed → Kind → (between new : Option (List ℕ))
+  -- One lent entry more of a well-formed capture is written, or cut, whose items the writer was
+  -- told after those of the entries before. The sink had some bytes, and has others now.
+  abbrev pub WritesOne : (was now : T) → Passed → EntryRef → (between new : Option (List ℕ))
       → {X : Type 0} → Result X Error → Type 0
-  WritesOne was now passed kind between new result =
-      (old : Option (List ℕ)) (entries : List Entry) (one : Entry) → IsOfKind kind one
+  WritesOne was now passed lent between new result =
+      (old : Option (List ℕ)) (entries : List Entry) (one : Entry) → IsLent lent one
       → AreFirst (entries ++ one ∷ []) → length (entries ++ one ∷ []) < 2 ^ 32
       → ArePassed passed entries
       → stands was (before entries ++ items_of one) → Appends old between (form entries)

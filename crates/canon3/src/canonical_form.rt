@@ -11,7 +11,7 @@ ghost use Rattle.canon3.specs.CanonicalForm.{canonical_bytes, RewritesGiven, Wri
 ghost use Rattle.canon3.specs.EntryWriter.{WritesAll};
 ghost use Rattle.canon3.specs.machinery.FormSteps.{Follows, magic_before};
 ghost use Rattle.canon3.specs.Passed.{connections_in};
-ghost use Rattle.capture3.specs.Kept.{IsOfKind};
+ghost use Rattle.capture3.specs.Kept.{IsLent};
 ghost use Rattle.capture3.specs.Entry.{items_of};
 ghost use Rattle.canon3.specs.WriteErrors.{CountsWriting, IsOfWriting};
 ghost use Rattle.canon3.specs.SinkWrites.{AppendsFront, IsFlushed};
@@ -24,7 +24,7 @@ use crate::sink::Sink;
 use crate::spelling::spelling_of_entry;
 use crate::summary::Summary;
 use crate::whole_writes::write_all;
-use capture3::{Error, Hashers, Kind, Source, pack_header};
+use capture3::{EntryRef, Error, Hashers, Source, pack_header};
 use std::alloc::Global;
 use std::hash::BuildHasher;
 
@@ -93,9 +93,9 @@ fn open<W: Sink>(passed: &Passed, sink: &mut W) -> Result<(), Error>
 fn follow<S: BuildHasher + Drop, W: Sink>(
     message_writer: &mut MessageWriter<S>,
     sink: &mut W,
-    kind: Kind,
+    entry: EntryRef<'_>,
 ) -> Result<(), Error>
-    ensures follows { (entries : List spec.Entry) (one : spec.Entry) → IsOfKind kind one
+    ensures follows { (entries : List spec.Entry) (one : spec.Entry) → IsLent entry.entry one
         → AreFirst (entries ++ one ∷ []) → length (entries ++ one ∷ []) < 2 ^ 32
         → WriterStands message_writer.old (told_after (values_of entries) (items_of one))
         → Follows message_writer.new (W.written sink.old) (W.written sink.new) entries one
@@ -103,11 +103,11 @@ fn follow<S: BuildHasher + Drop, W: Sink>(
     ensures count { CountsWriting (W.failures sink.old) (W.failures sink.new) result }
     ensures error { IfErr result IsOfWriting }
 {
-    let form = match spelling_of_entry(message_writer, kind) {
+    let form = match spelling_of_entry(message_writer, entry) {
         Ok(form) => form,
         Err(_) => return Err(Error::Memory),
     };
-    write_spelling(sink, form, message_writer.writer.bytes())?;
+    write_spelling(sink, form, message_writer)?;
     message_writer.begin_message();
     Ok(())
 }
@@ -123,9 +123,14 @@ impl<S: BuildHasher + Drop> EntryWriter for MessageWriter<S> {
 
     ghost going = { IsGoing };
 
-    fn write<W: Sink>(&mut self, passed: &Passed, sink: &mut W, kind: Kind) -> Result<(), Error> {
+    fn write<W: Sink>(
+        &mut self,
+        passed: &Passed,
+        sink: &mut W,
+        entry: EntryRef<'_>,
+    ) -> Result<(), Error> {
         open(passed, sink)?;
-        follow(self, sink, kind)
+        follow(self, sink, entry)
     }
 
     fn handles(&self) -> u32 {

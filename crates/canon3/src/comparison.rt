@@ -10,14 +10,15 @@ ghost use Rattle.canon3.specs.Comparison.{CountsReadingOf, DecidesGiven, Decides
 ghost use Rattle.canon3.specs.machinery.ComparisonSteps.{Compares, CountsReadsOf, FindsOut, HasGiven, HasGivenOn, IsCompared, IsFound, IsReadAfter, IsReadOut, IsTold, IsComparing, Meets, met_second, ReadsOn, refusal_in, StepsOn};
 ghost use Rattle.canon3.specs.Laws.{AreFirst};
 ghost use Rattle.canon3.specs.Progress.{steps_of};
-ghost use Rattle.capture3.specs.Kept.{IsOfKind};
+ghost use Rattle.capture3.specs.Kept.{IsLent};
 ghost use Rattle.capture3.specs.Entry.{items_of};
 
+use crate::entry_kind::kind_of;
 use crate::message_writer::MessageWriter;
 use crate::progress::Progress;
 use crate::spelling::{are_alike, spelling_of_entry};
-use crate::verdict::{SameError, Verdict, Which};
-use capture3::{Entries, Error, Fault, Hashers, Kind, Place, Silent, Source, new_block};
+use crate::verdict::{SameError, Verdict, Which, wanting};
+use capture3::{Entries, EntryRef, Error, Fault, Hashers, Place, Silent, Source, new_block};
 use std::alloc::Global;
 use std::hash::BuildHasher;
 
@@ -81,17 +82,6 @@ pub fn same<A: Source, B: Source, S: BuildHasher + Drop>(
     entries.into_source();
     others.into_source();
     result
-}
-
-/// Returns that memory ran out for this one.
-fn wanting(which: Which) -> SameError
-    ensures which { result.which ≡ which }
-    ensures error { result.error ≡ Error.Memory }
-{
-    SameError {
-        which,
-        error: Error::Memory,
-    }
 }
 
 /// Compares what two new readers return.
@@ -281,7 +271,11 @@ impl<S: BuildHasher + Drop> Comparison<S> {
         ensures same_second { loan_of second.new ≡ loan_of second.old }
     {
         match first.next(&mut self.first) {
-            Ok(Some(kind)) => self.meet(kind, second),
+            Ok(Some(_)) => match first.entry() {
+                Some(entry) => self.meet(entry, second),
+                // An entry was just returned.
+                None => unreachable!(),
+            },
             Ok(None) => Ok(Some(Finding::Ended)),
             Err(error) => Err(SameError {
                 which: Which::First,
@@ -293,13 +287,13 @@ impl<S: BuildHasher + Drop> Comparison<S> {
     /// Takes the second's entry beside the first's, whose items were visited.
     fn meet<B: Source>(
         &mut self,
-        kind: Kind,
+        entry: EntryRef<'_>,
         second: &mut Entries<'_, B, S>,
     ) -> Result<Option<Finding>, SameError>
         requires going { failure_of second.old ≡ None }
         requires room { steps_of self.old.progress + 1 < 2 ^ 32 }
         ensures meets { (first now start : Told) (a b : List spec.Entry) (e : spec.Entry)
-            → IsOfKind kind e → AreFirst (a ++ e ∷ []) → length (a ++ e ∷ []) < 2 ^ 32
+            → IsLent entry.entry e → AreFirst (a ++ e ∷ []) → length (a ++ e ∷ []) < 2 ^ 32
             → IsTold self.old a b (items_of e) [] → HasGiven B.told start second.old b
             → Meets B.told first now start second.new self.new a b e result }
         ensures going { IfOk result (λ next. failure_of second.new ≡ refusal_in next) }
@@ -310,7 +304,11 @@ impl<S: BuildHasher + Drop> Comparison<S> {
         ensures same_reference { loan_of second.new ≡ loan_of second.old }
     {
         match second.next(&mut self.second) {
-            Ok(Some(other)) => Ok(self.compare(kind, other)?.map(Finding::Parted)),
+            Ok(Some(_)) => match second.entry() {
+                Some(other) => Ok(self.compare(entry, other)?.map(Finding::Parted)),
+                // An entry was just returned.
+                None => unreachable!(),
+            },
             Ok(None) => Ok(Some(Finding::Ended)),
             Err(error) => refused(error),
         }
@@ -318,17 +316,21 @@ impl<S: BuildHasher + Drop> Comparison<S> {
 
     /// Compares what two entries are written as, whose items were visited. Returns `None` if they
     /// are alike.
-    fn compare(&mut self, kind: Kind, other: Kind) -> Result<Option<Place>, SameError>
+    fn compare(
+        &mut self,
+        entry: EntryRef<'_>,
+        other: EntryRef<'_>,
+    ) -> Result<Option<Place>, SameError>
         requires room { steps_of self.old.progress + 1 < 2 ^ 32 }
-        ensures compares { (a b : List spec.Entry) (e f : spec.Entry) → IsOfKind kind e
-            → IsOfKind other f → AreFirst (a ++ e ∷ []) → AreFirst (b ++ f ∷ [])
+        ensures compares { (a b : List spec.Entry) (e f : spec.Entry) → IsLent entry.entry e
+            → IsLent other.entry f → AreFirst (a ++ e ∷ []) → AreFirst (b ++ f ∷ [])
             → length (a ++ e ∷ []) < 2 ^ 32 → length (b ++ f ∷ []) < 2 ^ 32
             → IsTold self.old a b (items_of e) (items_of f)
             → IfOk result (Compares self.new a b e f) }
         ensures few { steps_of self.new.progress ≤ steps_of self.old.progress + 1 }
         ensures memory { IfErr result (λ error. error.error ≡ Error.Memory) }
     {
-        let form = match spelling_of_entry(&mut self.first, kind) {
+        let form = match spelling_of_entry(&mut self.first, entry) {
             Ok(form) => form,
             Err(_) => return Err(wanting(Which::First)),
         };
@@ -336,14 +338,13 @@ impl<S: BuildHasher + Drop> Comparison<S> {
             Ok(form) => form,
             Err(_) => return Err(wanting(Which::Second)),
         };
-        let message = self.first.writer.bytes();
-        if are_alike(form, message, other_form, self.second.writer.bytes()) {
+        if are_alike(form, &mut self.first, other_form, &mut self.second)? {
             self.first.begin_message();
             self.second.begin_message();
-            self.progress.pass(kind);
+            self.progress.pass(kind_of(entry));
             return Ok(None);
         }
-        Ok(Some(self.progress.place(kind, other)))
+        Ok(Some(self.progress.place(kind_of(entry), kind_of(other))))
     }
 }
 

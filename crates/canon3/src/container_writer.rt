@@ -4,39 +4,48 @@ ghost use Rattle.std.specs.Prelude.{◌≡◌, IfErr, OnErr, OnOk};
 ghost use Rattle.std.specs.Io.KnownBytes.{Appends};
 ghost use Rattle.xdr3.specs.Item.{word_bytes};
 ghost use Rattle.canon3.specs.Bytes.{chunk_bytes, record_bytes};
+ghost use Rattle.canon3.specs.machinery.MessageWriter.{Before, HoldsBefore};
 ghost use Rattle.canon3.specs.machinery.Spelling.{spelling_of};
 ghost use Rattle.canon3.specs.WriteErrors.{CountsWriting, IsOfWriting};
 ghost use Rattle.canon3.specs.SinkWrites.{AppendsFront};
 
+use crate::message_writer::MessageWriter;
 use crate::sink::Sink;
 use crate::spelling::Spelling;
 use crate::whole_writes::{write_all, write_record};
 use capture3::{Error, pack_chunk};
 use record_mark::BODY_LIMIT;
+use std::hash::BuildHasher;
 
 /// Writes what an entry is written as. After an error a prefix of it was written.
 ///
 /// # Errors
 ///
 /// - `Write` if a write failed.
-/// - `Memory` if the message has more than 16,777,216 bytes.
-pub(crate) fn write_spelling<W: Sink>(
+/// - `Memory` if an allocation failed, or the message has more than 16,777,216 bytes.
+pub(crate) fn write_spelling<W: Sink, S: BuildHasher + Drop>(
     sink: &mut W,
-    form: Spelling,
-    message: &[u8],
+    form: Spelling<'_>,
+    message_writer: &mut MessageWriter<S>,
 ) -> Result<(), Error>
     ensures ok { OnOk result
-        (Appends (W.written sink.old) (W.written sink.new) (spelling_of form message.now)) }
+        (Appends (W.written sink.old) (W.written sink.new)
+        (spelling_of form.entry message_writer.old)) }
     ensures err { OnErr result
         (AppendsFront (W.written sink.old) (W.written sink.new)
-        (spelling_of form message.now)) }
+        (spelling_of form.entry message_writer.old)) }
+    ensures holds { (before : Before) → HoldsBefore message_writer.old before
+        → HoldsBefore message_writer.new before }
     ensures count { CountsWriting (W.failures sink.old) (W.failures sink.new) result }
     ensures error { IfErr result IsOfWriting }
 {
     match form {
         Spelling::Zero => write_word(sink, 0),
         Spelling::One => write_word(sink, 1),
-        Spelling::Message => write_message(sink, message),
+        Spelling::Message(body) => match message_writer.compose(body) {
+            Ok(len) => write_message(sink, &message_writer.room[..len]),
+            Err(_) => Err(Error::Memory),
+        },
     }
 }
 

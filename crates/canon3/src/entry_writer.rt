@@ -15,10 +15,11 @@ ghost use Rattle.canon3.specs.Values as values;
 ghost use Rattle.canon3.specs.WriteErrors.{CountsWriting, IsOfWriting};
 ghost use Rattle.canon3.specs.SinkWrites.{IsFlushed};
 
+use crate::entry_kind::kind_of;
 use crate::passed::Passed;
 use crate::sink::Sink;
 use crate::summary::Summary;
-use capture3::{Entries, Error, Kind, Source, new_block};
+use capture3::{Entries, EntryRef, Error, Source, new_block};
 use std::alloc::Global;
 use std::hash::BuildHasher;
 use xdr3::Visit;
@@ -35,7 +36,7 @@ pub trait EntryWriter: Visit {
     /// Holds of a writer that has not failed.
     ghost going: { Self → Type 0 };
 
-    /// Writes what the entry whose items were visited adds to the form.
+    /// Writes what the entry adds to the form. Its items were visited.
     ///
     /// # Errors
     ///
@@ -43,10 +44,15 @@ pub trait EntryWriter: Visit {
     /// - `Memory` if an allocation failed.
     ///
     /// A prefix of the form is written then, and nothing can follow.
-    fn write<W: Sink>(&mut self, passed: &Passed, sink: &mut W, kind: Kind) -> Result<(), Error>
+    fn write<W: Sink>(
+        &mut self,
+        passed: &Passed,
+        sink: &mut W,
+        entry: EntryRef<'_>,
+    ) -> Result<(), Error>
         requires { passed_steps passed.now + 1 < 2 ^ 32 }
-        ensures writes { WritesOne form before Self.stands going self.old self.new passed.now kind
-            (W.written sink.old) (W.written sink.new) result }
+        ensures writes { WritesOne form before Self.stands going self.old self.new passed.now
+            entry.entry (W.written sink.old) (W.written sink.new) result }
         ensures count { CountsWriting (W.failures sink.old) (W.failures sink.new) result }
         ensures error { IfErr result IsOfWriting };
 
@@ -195,7 +201,11 @@ fn write_next<R: Source, W: Sink, E: EntryWriter, S: BuildHasher + Drop>(
     ensures same_reference { loan_of entries.new ≡ loan_of entries.old }
 {
     match entries.next(writer)? {
-        Some(kind) => write_one(passed, sink, writer, kind),
+        Some(_) => match entries.entry() {
+            Some(entry) => write_one(passed, sink, writer, entry),
+            // An entry was just returned.
+            None => unreachable!(),
+        },
         None => Ok(false),
     }
 }
@@ -205,17 +215,17 @@ fn write_one<W: Sink, E: EntryWriter>(
     passed: &mut Passed,
     sink: &mut W,
     writer: &mut E,
-    kind: Kind,
+    entry: EntryRef<'_>,
 ) -> Result<bool, Error>
     requires { passed_steps passed.old + 1 < 2 ^ 32 }
     ensures more { IfOk result IsTrue }
     ensures few { passed_steps passed.new ≤ passed_steps passed.old + 1 }
     ensures writes { WritesMore E.form E.before E.stands E.going writer.old writer.new passed.old
-        passed.new kind (W.written sink.old) (W.written sink.new) result }
+        passed.new entry.entry (W.written sink.old) (W.written sink.new) result }
     ensures count { CountsWriting (W.failures sink.old) (W.failures sink.new) result }
     ensures error { IfErr result IsOfWriting }
 {
-    writer.write(passed, sink, kind)?;
-    passed.add(kind);
+    writer.write(passed, sink, entry)?;
+    passed.add(kind_of(entry));
     Ok(true)
 }

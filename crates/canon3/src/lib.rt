@@ -4,6 +4,7 @@
 mod canonical_form;
 mod comparison;
 mod container_writer;
+mod entry_kind;
 mod entry_writer;
 pub mod examples;
 mod handles;
@@ -26,6 +27,7 @@ mod xid_numbers;
 pub use canonical_form::canon;
 pub use comparison::same;
 pub use container_writer::{write_message, write_word};
+pub use entry_kind::kind_of;
 pub use entry_writer::{EntryWriter, write_entries};
 pub use handles::HandleTable;
 pub use mem_sink::MemSink;

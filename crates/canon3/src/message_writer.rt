@@ -1,40 +1,49 @@
 //! The writer of the canonical form, one message at a time.
 
-ghost use Rattle.std.specs.Prelude.{◌≡◌, ◌≢◌, ◌≤◌, ◌++◌, ◌∷◌, ℕ, List, [], bytes_eq, length, min, IfOk, OnErr, OnOk};
-ghost use Rattle.xdr3.specs.Item.{Handle as HandleKind, Item, Opaque, Word, WriteVerf, word_bytes};
+ghost use Rattle.std.specs.Prelude.{◌≡◌, ◌≢◌, ◌≤◌, ◌++◌, ◌∷◌, ℕ, List, [], bytes_eq, drop, length, min, take, vec_len, IfOk, OnErr, OnOk};
+ghost use Rattle.xdr3.specs.Item.{Handle as HandleKind, Item, Kind, Opaque, Word, WriteVerf, residue, word_bytes};
 ghost use Rattle.xdr3.specs.Plain.{run_items, run_size};
-ghost use Rattle.xdr3.specs.Visit.{Adds};
+ghost use Rattle.xdr3.specs.Visit.{Adds, body_limit};
 ghost use Rattle.canon3.specs.HandleTable.{HoldsHandles};
-ghost use Rattle.canon3.specs.machinery.MessageWriter.{Before, HoldsBefore, IsGoing, WriterStands, told_after, values_of};
+ghost use Rattle.canon3.specs.machinery.MessageWriter.{Before, HoldsBefore, IsGoing, WriterStands, message_of, told_after, values_of};
 ghost use Rattle.canon3.specs.Rank.{number_limit, rank};
+ghost use Rattle.canon3.specs.Renaming.{IsPlain};
 
 use crate::numbers::Numbers;
 use crate::xid_numbers::XidNumbers;
 use byteorder::{BigEndian, ByteOrder};
 use capture3::pack_chunk;
 use nfs3_types::Handle;
+use patches::Patches;
 use std::alloc::{AllocError, Global};
 use std::hash::BuildHasher;
-use xdr3::{PlainField, Visit, Writer};
+use xdr3::room::{make_room, put_bytes};
+use xdr3::{PlainField, Visit};
 
 /// How far the message is.
 #[derive(Clone, Copy)]
 pub(crate) enum Stage {
     /// The message has been opened; its xid is the next item.
     Begins,
-    /// Its xid was written.
+    /// Its xid was noted.
     Goes,
-    /// An allocation failed, and the tables may have more than was written.
+    /// An allocation failed, and the tables may have more than was noted.
     Failed,
 }
 
-/// The numbers of a capture's values so far, and the message that is written with them.
+/// The numbers of a capture's values so far, and what they replace in the body of the message whose
+/// items are visited.
 #[derive(Drop)]
 pub(crate) struct MessageWriter<S: BuildHasher + Drop> {
     pub(crate) handles: Numbers<Handle, S>,
     pub(crate) verfs: Numbers<[u8; 8], S>,
     pub(crate) xids: XidNumbers<S>,
-    pub(crate) writer: Writer,
+    /// The number of the message's xid.
+    pub(crate) xid: u32,
+    /// What is replaced in the body after the xid.
+    pub(crate) patches: Patches,
+    /// A buffer for a message with its numbers. What it contains means nothing.
+    pub(crate) room: Vec<u8>,
     pub(crate) stage: Stage,
 }
 
@@ -50,6 +59,20 @@ fn number_of_handle<S: BuildHasher + Drop>(
         → OnOk result (HoldsHandles handles.new (hs ++ bytes.now ∷ [])) }
 {
     handles.number_of(Handle::from_short(bytes))
+}
+
+/// Returns the number of residual bytes after `len` bytes.
+fn residue(len: usize) -> usize
+    ensures { result ≡ residue len }
+{
+    (4 - len % 4) % 4
+}
+
+/// Returns what follows the xid in a message's body.
+pub(crate) fn after_xid(body: &[u8]) -> &[u8]
+    ensures { result.now ≡ drop 4 body.now }
+{
+    &body[body.len().min(4)..]
 }
 
 /// Returns the encoding of a handle of four bytes, which are the number.
@@ -72,7 +95,9 @@ impl<S: BuildHasher + Drop> MessageWriter<S> {
             handles: Numbers::new(alloc, handles),
             verfs: Numbers::new(alloc, verfs),
             xids: XidNumbers::new(alloc, xids),
-            writer: Writer::new(alloc),
+            xid: 0,
+            patches: Patches::new(alloc),
+            room: Vec::new(alloc),
             stage: Stage::Begins,
         }
     }
@@ -96,7 +121,7 @@ impl<S: BuildHasher + Drop> MessageWriter<S> {
             → WriterStands self.new (told_after before []) }
         ensures going { IsGoing self.new }
     {
-        self.writer.clear();
+        self.patches.clear();
         self.stage = Stage::Begins;
     }
 
@@ -110,73 +135,105 @@ impl<S: BuildHasher + Drop> MessageWriter<S> {
         }
     }
 
-    /// Writes the number of an xid instead of the xid `n`.
-    fn write_xid(&mut self, name: &'static str, n: u32) -> Result<(), AllocError>
+    /// Puts the message with this body into `room`, with numbers, and returns its length. The items
+    /// that were visited are those of the body.
+    pub(crate) fn compose(&mut self, body: &[u8]) -> Result<usize, AllocError>
+        ensures within { IfOk result (λ len. len ≤ vec_len self.new.room) }
+        ensures message { IfOk result
+            (λ len. take len self.new.room.items ≡ message_of self.old body.now) }
+        ensures holds { (before : Before) → HoldsBefore self.old before
+            → HoldsBefore self.new before }
+    {
+        make_room(&mut self.room, 0, 4)?;
+        let end = put_bytes(&mut self.room, 0, &pack_chunk(self.xid));
+        self.patches.write(after_xid(body), &mut self.room, end)
+    }
+
+    /// Takes the number of the xid `n`.
+    fn take_xid(&mut self, n: u32) -> Result<(), AllocError>
         requires { self.old.stage ≡ Stage.Begins }
-        ensures ok { OnOk result (Adds WriterStands self.old self.new (Word name.now n ∷ [])) }
+        ensures ok { (name : List ℕ) → OnOk result
+            (Adds WriterStands self.old self.new (Word name n ∷ [])) }
         ensures goes { OnOk result (self.new.stage ≡ Stage.Goes) }
     {
         let number = self.xids.number_of(n)?;
+        self.xid = number;
         self.stage = Stage::Goes;
-        self.writer.word(name, number)
+        Ok(())
     }
 
-    /// Writes the number of a file handle instead of the handle.
-    fn write_handle(&mut self, name: &'static str, bytes: &[u8]) -> Result<(), AllocError>
+    /// Notes that a file handle is replaced by a handle of its number.
+    fn note_handle(&mut self, bytes: &[u8]) -> Result<(), AllocError>
         requires short { length bytes.now ≤ 64 }
         requires some { bytes.now ≢ [] }
-        ensures ok { OnOk result (Adds WriterStands self.old self.new
-            (Opaque HandleKind name.now bytes.now ∷ [])) }
+        ensures ok { (name : List ℕ) → OnOk result (Adds WriterStands self.old self.new
+            (Opaque HandleKind name bytes.now ∷ [])) }
     {
         let number = number_of_handle(&mut self.handles, bytes)?;
-        // The length and the number at once, since their size is constant.
-        self.writer.fixed(name, &spelled_number(number))
+        let size = 4 + (bytes.len() + residue(bytes.len()));
+        self.patches.replace(size, &spelled_number(number), 8)
     }
 
-    /// Writes the number of a write verifier instead of its bytes.
-    fn write_verifier(&mut self, name: &'static str, bytes: &[u8; 8]) -> Result<(), AllocError>
-        ensures ok { OnOk result (Adds WriterStands self.old self.new
-            (WriteVerf name.now bytes.now ∷ [])) }
+    /// Notes that a write verifier is replaced by its number.
+    fn note_verifier(&mut self, bytes: &[u8; 8]) -> Result<(), AllocError>
+        ensures ok { (name : List ℕ) → OnOk result (Adds WriterStands self.old self.new
+            (WriteVerf name bytes.now ∷ [])) }
     {
         let number = self.verfs.number_of(*bytes)?;
         let mut hyper = [0u8; 8];
         BigEndian::write_u64(&mut hyper, u64::from(number));
-        self.writer.write_verf(name, &hyper)
+        self.patches.replace(8, &hyper, 8)
+    }
+
+    /// Notes that opaque data of `len` bytes stays, and that its residual bytes become zeros. A
+    /// visitor does not see what they are.
+    fn note_run(&mut self, len: usize) -> Result<(), AllocError>
+        requires { len ≤ body_limit }
+        ensures { (kind : Kind) (name bytes : List ℕ) → IsPlain (Opaque kind name bytes)
+            → length bytes ≡ len → OnOk result
+            (Adds WriterStands self.old self.new (Opaque kind name bytes ∷ [])) }
+    {
+        self.patches.keep(4 + len);
+        match residue(len) {
+            0 => Ok(()),
+            count => self.patches.replace(count, &[0; 8], count),
+        }
     }
 
     /// Takes the first field, which may be the xid, and then the others at once.
     #[inline(never)]
-    fn write_first(&mut self, fields: &[PlainField], bytes: &[u8]) -> Result<(), AllocError>
+    fn note_first(&mut self, fields: &[PlainField], bytes: &[u8]) -> Result<(), AllocError>
         requires size { length bytes.now ≡ run_size fields.now }
         requires begins { self.old.stage ≡ Stage.Begins }
         ensures ok { OnOk result
             (Adds WriterStands self.old self.new (run_items fields.now bytes.now)) }
     {
-        let Some((first, more)) = fields.split_first() else {
+        let Some((first, _)) = fields.split_first() else {
             return Ok(());
         };
         match *first {
-            PlainField::Word(name) => {
-                self.write_xid(name, BigEndian::read_u32(bytes))?;
-                self.writer.plain(more, &bytes[4..])
+            PlainField::Word(_) => {
+                self.take_xid(BigEndian::read_u32(bytes))?;
+                self.patches.keep(bytes.len() - 4);
             }
             PlainField::Hyper(_) => {
                 self.stage = Stage::Goes;
-                self.writer.plain(fields, bytes)
+                self.patches.keep(bytes.len());
             }
         }
+        Ok(())
     }
 
     /// Says nothing more of the tables after an error.
-    fn settle(&mut self, written: Result<(), AllocError>) -> Result<(), AllocError>
-        ensures result { result ≡ written }
-        ensures ok { OnOk written (self.new ≡ self.old) }
-        ensures err { OnErr written (self.new.stage ≡ Stage.Failed) }
+    fn settle(&mut self, noted: Result<(), AllocError>) -> Result<(), AllocError>
+        ensures result { result ≡ noted }
+        ensures ok { OnOk noted (self.new ≡ self.old) }
+        ensures err { OnErr noted (self.new.stage ≡ Stage.Failed) }
     {
-        if written.is_err() {
+        if noted.is_err() {
             self.stage = Stage::Failed;
         }
-        written
+        noted
     }
 }
 
@@ -186,58 +243,70 @@ impl<S: BuildHasher + Drop> Visit for MessageWriter<S> {
 
     ghost stands = { WriterStands };
 
-    fn word(&mut self, name: &'static str, n: u32) -> Result<(), AllocError> {
+    fn word(&mut self, _name: &'static str, n: u32) -> Result<(), AllocError> {
         match self.stage {
             Stage::Begins => {
-                let written = self.write_xid(name, n);
-                self.settle(written)
+                let noted = self.take_xid(n);
+                self.settle(noted)
             }
-            Stage::Goes | Stage::Failed => self.writer.word(name, n),
+            Stage::Goes | Stage::Failed => {
+                self.patches.keep(4);
+                Ok(())
+            }
         }
     }
 
-    fn hyper(&mut self, name: &'static str, n: u64) -> Result<(), AllocError> {
-        self.writer.hyper(name, n)
+    fn hyper(&mut self, _name: &'static str, _n: u64) -> Result<(), AllocError> {
+        self.patches.keep(8);
+        Ok(())
     }
 
-    fn fixed(&mut self, name: &'static str, bytes: &[u8; 8]) -> Result<(), AllocError> {
-        self.writer.fixed(name, bytes)
+    fn fixed(&mut self, _name: &'static str, bytes: &[u8; 8]) -> Result<(), AllocError> {
+        self.patches.keep(bytes.len());
+        Ok(())
     }
 
-    fn write_verf(&mut self, name: &'static str, bytes: &[u8; 8]) -> Result<(), AllocError> {
-        let written = self.write_verifier(name, bytes);
-        self.settle(written)
+    fn write_verf(&mut self, _name: &'static str, bytes: &[u8; 8]) -> Result<(), AllocError> {
+        let noted = self.note_verifier(bytes);
+        self.settle(noted)
     }
 
-    fn var(&mut self, name: &'static str, bytes: &[u8]) -> Result<(), AllocError> {
-        self.writer.var(name, bytes)
+    fn var(&mut self, _name: &'static str, bytes: &[u8]) -> Result<(), AllocError> {
+        let noted = self.note_run(bytes.len());
+        self.settle(noted)
     }
 
-    fn text(&mut self, name: &'static str, bytes: &[u8]) -> Result<(), AllocError> {
-        self.writer.text(name, bytes)
+    fn text(&mut self, _name: &'static str, bytes: &[u8]) -> Result<(), AllocError> {
+        let noted = self.note_run(bytes.len());
+        self.settle(noted)
     }
 
-    fn handle(&mut self, name: &'static str, bytes: &[u8]) -> Result<(), AllocError> {
+    fn handle(&mut self, _name: &'static str, bytes: &[u8]) -> Result<(), AllocError> {
         if bytes.is_empty() {
-            return self.writer.handle(name, bytes);
+            self.patches.keep(4);
+            return Ok(());
         }
-        let written = self.write_handle(name, bytes);
-        self.settle(written)
+        let noted = self.note_handle(bytes);
+        self.settle(noted)
     }
 
-    fn rest(&mut self, name: &'static str, bytes: &[u8]) -> Result<(), AllocError> {
-        self.writer.rest(name, bytes)
+    fn rest(&mut self, _name: &'static str, bytes: &[u8]) -> Result<(), AllocError> {
+        self.patches.keep(bytes.len());
+        Ok(())
     }
 
-    // Inlined, so that runs of a constant size are copied by a few moves.
+    // Inlined, so that a run of a constant size is one addition.
     #[inline(always)]
     fn plain(&mut self, fields: &[PlainField], bytes: &[u8]) -> Result<(), AllocError> {
         match self.stage {
             Stage::Begins => {
-                let written = self.write_first(fields, bytes);
-                self.settle(written)
+                let noted = self.note_first(fields, bytes);
+                self.settle(noted)
             }
-            Stage::Goes | Stage::Failed => self.writer.plain(fields, bytes),
+            Stage::Goes | Stage::Failed => {
+                self.patches.keep(bytes.len());
+                Ok(())
+            }
         }
     }
 }

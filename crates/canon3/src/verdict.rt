@@ -1,5 +1,7 @@
 //! What a comparison of two captures returns.
 
+ghost use Rattle.std.specs.Prelude.{◌≡◌};
+
 use capture3::{Error, Place};
 use std::fmt;
 
@@ -34,4 +36,15 @@ impl fmt::Display for Which {
 pub struct SameError {
     pub which: Which,
     pub error: Error,
+}
+
+/// Returns that memory ran out for this one.
+pub(crate) fn wanting(which: Which) -> SameError
+    ensures which { result.which ≡ which }
+    ensures error { result.error ≡ Error.Memory }
+{
+    SameError {
+        which,
+        error: Error::Memory,
+    }
 }

@@ -6,8 +6,11 @@ use Rattle.std.specs.Io.KnownBytes.{Appends}
 use Rattle.std.proofs.KnownBytes.{Appends-trans}
 use Rattle.std.proofs.Math.Seq.{take-append_seam}
 use Rattle.std.proofs.lemmas.Grind.{flat_map-append}
-use Rattle.xdr3.specs.Item.{Item, Word, Opaque, Handle}
+use Rattle.xdr3.specs.declared.plain.PlainField.{PlainField}
+use Rattle.xdr3.specs.Item.{Item, Word, Hyper, Opaque, Handle}
+use Rattle.xdr3.specs.Plain.{run_items}
 use Rattle.xdr3.specs.Visit.{Adds, Keeps}
+use Rattle.xdr3.proofs.Lemmas.Shapes.Walks.{adds_nothing}
 use Rattle.rpc_head.specs.declared.values.call.ProcId.{ProcId}
 use Rattle.rpc_head.specs.Messages.{procedure_in}
 use Rattle.rpc_head.specs.Names.{head_names}
@@ -25,7 +28,7 @@ use Rattle.canon3.specs.Laws.{AreFirst}
 use Rattle.canon3.specs.Progress.{HasPassed}
 use Rattle.canon3.specs.Values.{handles_in}
 use Rattle.canon3.specs.SinkWrites.{AppendsFront}
-use Rattle.canon3.proofs.Lemmas.Numbers.HandleTableLemmas.{gathers_none}
+use Rattle.canon3.proofs.Lemmas.Numbers.HandleTableLemmas.{gathers_none, none_in_run}
 use Rattle.canon3.proofs.Lemmas.WellFormed.Laid.{IsLaidOut, last_laid}
 use Rattle.canon3.proofs.Lemmas.WellFormed.Messages.{is_headed_call, is_headed_reply}
 use Rattle.canon3.proofs.Lemmas.Writing.SinkWritesLemmas.{front_of_second}
@@ -79,18 +82,19 @@ TextOf text items = text ≡ shown_items items
 pub after_front-append : (front items more : List Item) → after_front front items ++ more ≡ after_front front (items ++ more)
 after_front-append front items more = ap (λ (l : List Item). Word [] (length front) ∷ l) (append_assoc front items more)
 
-module _ {S H : Type 0} (old new : LineWriter S H) (i : Item) where
-  pub adds : ((front : List Item) → Gathers old.handles front → Gathers new.handles (front ++ i ∷ []))
-      → ((items : List Item) → IsTextOf old.xid old.items items → IsTextOf new.xid new.items (items ++ i ∷ []))
-      → Adds LineStands old new (i ∷ [])
+module _ {S H : Type 0} (old new : LineWriter S H) (more : List Item) where
+  pub adds : ((front : List Item) → Gathers old.handles front → Gathers new.handles (front ++ more))
+      → ((items : List Item) → IsTextOf old.xid old.items items → IsTextOf new.xid new.items (items ++ more))
+      → Adds LineStands old new more
   unfolding Adds
   adds gathers text all (front, items, are, is) = (
     front,
-    items ++ i ∷ [],
-    ap (λ (l : List Item). l ++ i ∷ []) are ∙ after_front-append front items (i ∷ []),
-    record { gathered = subst (Gathers new.handles) (append_assoc front items (i ∷ [])) (gathers (front ++ items) is.gathered); text = text items is.text },
+    items ++ more,
+    ap (λ (l : List Item). l ++ more) are ∙ after_front-append front items more,
+    record { gathered = subst (Gathers new.handles) (append_assoc front items more) (gathers (front ++ items) is.gathered); text = text items is.text },
   )
 
+module _ {S H : Type 0} (old new : LineWriter S H) where
   pub keeps : ((items : List Item) → Gathers old.handles items → Gathers new.handles items)
       → ((items : List Item) → IsTextOf old.xid old.items items → IsTextOf new.xid new.items items) → Keeps LineStands old new
   unfolding Keeps
@@ -130,10 +134,10 @@ module _ {S H : Type 0} (writer : LineWriter S H) (text : List ℕ) where
 
   pub adds_plain : (i : Item) → handles_in (i ∷ []) ≡ [] → IsLater writer.xid i → Adds TextOf writer.items text (i ∷ []) → Adds LineStands writer with_text (i ∷ [])
   adds_plain i none later write =
-      adds writer with_text i (λ front h. gathers_none writer.handles front (i ∷ []) none h) (text_more writer.xid writer.items text i later write)
+      adds writer with_text (i ∷ []) (λ front h. gathers_none writer.handles front (i ∷ []) none h) (text_more writer.xid writer.items text i later write)
 
   pub keeps_text : Keeps TextOf writer.items text → Keeps LineStands writer with_text
-  keeps_text kept = keeps writer with_text (Word [] 0) (λ items h. h) (text_still writer.xid writer.items text kept)
+  keeps_text kept = keeps writer with_text (λ items h. h) (text_still writer.xid writer.items text kept)
 
   -- the text and the table with the handle
   pub adds_both : (table : List handles.Handle) (name bytes : List ℕ) → text ≡ writer.items ++ shown_item (Opaque Handle name bytes)
@@ -141,7 +145,7 @@ module _ {S H : Type 0} (writer : LineWriter S H) (text : List ℕ) where
       → Adds LineStands writer (record { handles = table; xid = writer.xid; items = text; head = writer.head }) (Opaque Handle name bytes ∷ [])
   unfolding Adds
   adds_both table name bytes is gathers =
-      adds writer (record { handles = table; xid = writer.xid; items = text; head = writer.head }) (Opaque Handle name bytes) gathers
+      adds writer (record { handles = table; xid = writer.xid; items = text; head = writer.head }) (Opaque Handle name bytes ∷ []) gathers
       (text_more writer.xid writer.items text (Opaque Handle name bytes) (no_word writer.xid (Opaque Handle name bytes) tt)
       (λ items t. is ∙ ap (λ (l : List ℕ). l ++ shown_item (Opaque Handle name bytes)) t ∙ sym (flat_map-append shown_item items (Opaque Handle name bytes ∷ []) ∙ ap (λ (l : List ℕ). shown_items items ++ l) (append-nil (shown_item (Opaque Handle name bytes))))))
 
@@ -149,12 +153,60 @@ module _ {S H : Type 0} (writer : LineWriter S H) (text : List ℕ) where
 pub adds_xid : {S H : Type 0} (writer : LineWriter S H) (name : List ℕ) (n : ℕ) → writer.xid ≡ None
     → Adds LineStands writer (record { handles = writer.handles; xid = Some n; items = writer.items; head = writer.head }) (Word name n ∷ [])
 adds_xid writer name n none =
-    adds writer (record { handles = writer.handles; xid = Some n; items = writer.items; head = writer.head }) (Word name n) (λ front h. gathers_none writer.handles front (Word name n ∷ []) refl h) text
+    adds writer (record { handles = writer.handles; xid = Some n; items = writer.items; head = writer.head }) (Word name n ∷ []) (λ front h. gathers_none writer.handles front (Word name n ∷ []) refl h) text
   where
     text : (items : List Item) → IsTextOf writer.xid writer.items items → IsTextOf (Some n) writer.items (items ++ Word name n ∷ [])
     text [] t = (refl, t.1)
     text (Word other m ∷ items) t = let some : writer.xid ≡ Some m = t.0 in absurd cc
     text (_ ∷ items) t = tt
+
+-- ---- a run
+
+text_run : (x : ℕ) (old new : List ℕ) (run : List Item) → Adds TextOf old new run → (items : List Item) → IsTextOf (Some x) old items → IsTextOf (Some x) new (items ++ run)
+unfolding Adds
+text_run x old new run write [] t = let none : Some x ≡ None = t.0 in absurd cc
+text_run x old new run write (Word name n ∷ items) t = (t.0, write items t.1)
+text_run x old new run write (_ ∷ items) t = tt
+
+xid_text_run : (name : List ℕ) (n : ℕ) (old new : List ℕ) (run : List Item) → Adds TextOf old new run → (items : List Item) → IsTextOf None old items → IsTextOf (Some n) new (items ++ Word name n ∷ run)
+unfolding Adds
+xid_text_run name n old new run write [] t = (refl, write [] t.1)
+xid_text_run name n old new run write (Word other m ∷ items) t = let some : None ≡ Some m = t.0 in absurd cc
+xid_text_run name n old new run write (_ ∷ items) t = tt
+
+number_text_run : (name : List ℕ) (n : ℕ) (old new : List ℕ) (run items : List Item) → IsTextOf None old items → IsTextOf None new (items ++ Hyper name n ∷ run)
+number_text_run name n old new run [] t = tt
+number_text_run name n old new run (Word other m ∷ items) t = let some : None ≡ Some m = t.0 in absurd cc
+number_text_run name n old new run (_ ∷ items) t = tt
+
+module _ {S H : Type 0} (writer : LineWriter S H) (text : List ℕ) (all : List PlainField) (run : List ℕ) where
+  -- a run after the xid
+  pub adds_run : (x : ℕ) → writer.xid ≡ Some x → Adds TextOf writer.items text (run_items all run) → Adds LineStands writer (with_text writer text) (run_items all run)
+  adds_run x told write =
+      adds writer (with_text writer text) (run_items all run) (λ front h. gathers_none writer.handles front (run_items all run) (none_in_run all run) h)
+      (subst (λ xid. (items : List Item) → IsTextOf xid writer.items items → IsTextOf xid text (items ++ run_items all run)) (sym told) (text_run x writer.items text (run_items all run) write))
+
+  -- a run that begins with the xid
+  pub adds_xid_run : (name : List ℕ) (n m : ℕ) → n ≡ m → writer.xid ≡ None → Adds TextOf writer.items text (run_items all run)
+      → Adds LineStands writer (record { handles = writer.handles; xid = Some n; items = text; head = writer.head }) (Word name m ∷ run_items all run)
+  adds_xid_run name n m same none write =
+      let told : LineWriter S H = record { handles = writer.handles; xid = Some n; items = text; head = writer.head } in
+      subst (λ (k : ℕ). Adds LineStands writer told (Word name k ∷ run_items all run)) same
+      (adds writer told (Word name n ∷ run_items all run)
+      (λ front h. gathers_none writer.handles front (Word name n ∷ run_items all run) (none_in_run all run) h)
+      (subst (λ xid. (items : List Item) → IsTextOf xid writer.items items → IsTextOf (Some n) text (items ++ Word name n ∷ run_items all run)) (sym none) (xid_text_run name n writer.items text (run_items all run) write)))
+
+  -- nothing is said of a message that begins with a number
+  pub adds_number_run : (name : List ℕ) (n : ℕ) → writer.xid ≡ None → Adds LineStands writer (with_text writer text) (Hyper name n ∷ run_items all run)
+  adds_number_run name n none =
+      adds writer (with_text writer text) (Hyper name n ∷ run_items all run)
+      (λ front h. gathers_none writer.handles front (Hyper name n ∷ run_items all run) (none_in_run all run) h)
+      (subst (λ xid. (items : List Item) → IsTextOf xid writer.items items → IsTextOf xid text (items ++ Hyper name n ∷ run_items all run)) (sym none) (number_text_run name n writer.items text (run_items all run)))
+
+-- a run of no fields
+pub adds_no_run : {S H : Type 0} (writer : LineWriter S H) (all : List PlainField) (run : List ℕ) → length all ≡ 0 → Adds LineStands writer writer (run_items all run)
+adds_no_run writer [] run none = adds_nothing LineStands writer
+adds_no_run writer (field ∷ all) run none = absurd (omega (arith, none))
 
 -- ---- after an error
 
@@ -172,7 +224,7 @@ module _ {S H : Type 0} (writer : LineWriter S H) (table : List handles.Handle) 
 
   kept_both : Keeps Gathers writer.handles table → new ≡ writer.items → Keeps LineStands writer with_both
   unfolding Keeps
-  kept_both gathers same = keeps writer with_both (Word [] 0) gathers (λ items t. subst (λ (l : List ℕ). IsTextOf writer.xid l items) (sym same) t)
+  kept_both gathers same = keeps writer with_both gathers (λ items t. subst (λ (l : List ℕ). IsTextOf writer.xid l items) (sym same) t)
 
   -- the text is cut where the handle was not added
   pub settled_err : {T E : Type 0} (written result : Result T E) (between more : List ℕ) (before : ℕ) → result ≡ written → OnErr written (new ≡ take before between) → before ≡ length writer.items → between ≡ writer.items ++ more

@@ -1,9 +1,10 @@
 -- Room that text is written into.
-use Rattle.std.proofs.Common.{◌≡◌, ℕ, zero, suc, ◌+◌, ◌*◌, ◌/◌, ◌%◌, ◌^◌, ◌≤◌, ◌<◌, List, [], ◌∷◌, ◌++◌, length, take, set, refl, ap, sym, ◌∙◌, arith, length-append}
+use Rattle.std.proofs.Common.{◌≡◌, ℕ, zero, suc, ◌+◌, ◌-◌, ◌≤◌, ◌<◌, List, ◌++◌, length, take, drop, set, refl, ap, sym, ◌∙◌, arith, append_assoc}
 use Rattle.std.specs.Prelude.{decimal, slice_index}
 use Rattle.hex.specs.Hex.{lower_digits}
-use Rattle.std.proofs.lemmas.List.{take-take, take_more_set}
-use Rattle.std.proofs.lemmas.Fmt.{decimal_digit, decimal_nonempty, decimal_step, length-decimal-le}
+use Rattle.std.proofs.Math.Seq.{take-append-add}
+use Rattle.std.proofs.lemmas.List.{length-take-le, take-append-drop, take_rest, take-take, take_more_set}
+use Rattle.std.proofs.lemmas.Fmt.{decimal_digit}
 
 -- what stands before a place is kept where it is kept before a later place
 pub kept_below : (m n : ℕ) (xs ys : List ℕ) → m ≤ n → take n xs ≡ take n ys → take m xs ≡ take m ys
@@ -13,25 +14,26 @@ kept_below m n xs ys l e = sym (take-take m n xs l) ∙ (ap (take m) e ∙ take-
 pub one_digit : (xs : List ℕ) (i n : ℕ) → n < 10 → i < length xs → take (i + 1) (set xs i (48 + n)) ≡ take i xs ++ decimal n
 one_digit xs i n s l = take_more_set xs i (48 + n) l ∙ ap (λ ds. take i xs ++ ds) (sym (decimal_digit n s))
 
-some_power : (k : ℕ) → 0 < 10 ^ k
-some_power zero = omega arith
-some_power (suc k) = omega (arith, some_power k)
+-- the last bytes, as they are cut out
+last_block : (bytes : List ℕ) (size last : ℕ) → last + size ≡ length bytes → take size (take (length bytes - last) (drop last bytes)) ≡ drop last bytes
+last_block bytes size last is =
+    let same : length bytes - last ≡ size = omega (arith, is) in
+    ap (take size) (take_rest bytes last) ∙ ap (λ (n : ℕ). take n (drop last bytes)) (sym same) ∙ take_rest bytes last
 
--- a number from this power of ten on has more digits
-more_digits : (k n : ℕ) → 10 ^ k ≤ n → n < 2 ^ 64 → k < length (decimal n)
-more_digits zero n l s = decimal_nonempty n s
-more_digits (suc k) n l s =
-    let above : 10 ^ k ≤ n / 10 = omega (arith, l) in
-    let more = more_digits k (n / 10) above (omega (arith, s)) in
-    let e = ap length (decimal_step n (omega (arith, l, some_power k)) s) ∙ length-append (decimal (n / 10)) ((48 + n % 10) ∷ []) in
-    omega (arith, more, e)
-
--- how many digits a number between two powers of ten has
-pub decimal_of_length : (k n : ℕ) → 10 ^ k ≤ n → n < 10 * 10 ^ k → n < 2 ^ 64 → k + 1 ≡ length (decimal n)
-decimal_of_length k n l m s =
-    let more = more_digits k n l s in
-    let most = length-decimal-le (suc k) n (omega arith) (omega (arith, m)) s in
-    omega (arith, more, most)
+-- the first bytes and the last bytes, which may overlap, are all of them
+pub both_ends : (r0 r1 r2 bytes front back : List ℕ) (at size last middle end : ℕ) → last + size ≡ length bytes → last ≤ size → at ≤ length r0
+    → front ≡ take size bytes → back ≡ take size (take (length bytes - last) (drop last bytes)) → middle ≡ at + length front
+    → take middle r1 ≡ take at r0 ++ front → take end r2 ≡ take (at + last) r1 ++ back → take end r2 ≡ take at r0 ++ bytes
+both_ends r0 r1 r2 bytes front back at size last middle end is few long front-is back-is middle-is first second =
+    let after : at + last ≤ middle = omega (arith, length-take-le size bytes, ap length front-is) in
+    let start : at ≡ length (take at r0) = sym (length-take-le at r0 long) in
+    let both : take (at + last) r1 ≡ take at r0 ++ take last bytes =
+    sym (take-take (at + last) middle r1 after) ∙ ap (take (at + last)) (first ∙ ap (λ (l : List ℕ). take at r0 ++ l) front-is)
+    ∙ ap (λ (k : ℕ). take (k + last) (take at r0 ++ take size bytes)) start ∙ take-append-add (take at r0) (take size bytes) last
+    ∙ ap (λ (l : List ℕ). take at r0 ++ l) (take-take last size bytes few) in
+    second ∙ ap (λ (l : List ℕ). take (at + last) r1 ++ l) (back-is ∙ last_block bytes size last is)
+    ∙ ap (λ (l : List ℕ). l ++ drop last bytes) both ∙ append_assoc (take at r0) (take last bytes) (drop last bytes)
+    ∙ ap (λ (l : List ℕ). take at r0 ++ l) (take-append-drop last bytes)
 
 -- a digit below ten
 pub low_digit : (n : ℕ) → n < 10 → slice_index lower_digits n ≡ 48 + n

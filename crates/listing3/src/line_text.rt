@@ -5,11 +5,13 @@ ghost use Rattle.hex.specs.Hex.{encode_lower};
 ghost use Rattle.xdr3.specs.Visit.{body_limit};
 ghost use Rattle.listing3.specs.Listing.{opening, prefix, quoted};
 
-use crate::room::{DIGITS, put_decimal, put_hex, put_name, put_quoted};
+use crate::room::{
+    DIGITS, put_decimal, put_hex, put_name, put_number, put_quoted, put_run, put_short,
+};
 use std::alloc::{AllocError, Global};
 use std::marker::Model;
-use xdr3::Visit;
 use xdr3::room::{make_room, put_bytes};
+use xdr3::{PlainField, Visit};
 
 /// The text of a line or of a part of it: what was appended since `new` or `forget`. A call that
 /// fails appends nothing. As a visitor it appends ` name=value` for each item.
@@ -98,7 +100,7 @@ impl LineText {
         let end = put_name(&mut self.room, self.end, "xid");
         let end = put_decimal(&mut self.room, end, u64::from(xid));
         let end = put_bytes(&mut self.room, end, b" ");
-        self.end = put_bytes(&mut self.room, end, name.as_bytes());
+        self.end = put_short(&mut self.room, end, name.as_bytes());
         Ok(())
     }
 
@@ -117,8 +119,7 @@ impl LineText {
         ensures err { OnErr result (self.new ≡ self.old) }
     {
         make_room(&mut self.room, self.end, name.len() + 2 + DIGITS)?;
-        let start = put_name(&mut self.room, self.end, name);
-        self.end = put_decimal(&mut self.room, start, n);
+        self.end = put_number(&mut self.room, self.end, name, n);
         Ok(())
     }
 
@@ -155,7 +156,7 @@ fn put_prefix(room: &mut [u8], at: usize, connection: u32, side: &'static str, n
 {
     let end = put_decimal(room, at, u64::from(connection));
     let end = put_bytes(room, end, b" ");
-    let end = put_bytes(room, end, side.as_bytes());
+    let end = put_short(room, end, side.as_bytes());
     let end = put_bytes(room, end, b" ");
     put_decimal(room, end, u64::from(number))
 }
@@ -197,5 +198,11 @@ impl Visit for LineText {
 
     fn rest(&mut self, name: &'static str, bytes: &[u8]) -> Result<(), AllocError> {
         self.append_hex(name, bytes)
+    }
+
+    #[inline(always)]
+    fn plain(&mut self, fields: &[PlainField], bytes: &[u8]) -> Result<(), AllocError> {
+        self.end = put_run(&mut self.room, self.end, fields, bytes)?;
+        Ok(())
     }
 }

@@ -1,8 +1,9 @@
 //! The lines of messages, one after another.
 
-ghost use Rattle.std.specs.Prelude.{◌≡◌, ◌≤◌, ◌<◌, ◌+◌, ◌*◌, ◌^◌, ◌++◌, ◌∷◌, ℕ, List, [], codes, decimal, length, take, IfErr, OnErr, OnOk};
+ghost use Rattle.std.specs.Prelude.{◌≡◌, ◌≤◌, ◌<◌, ◌+◌, ◌*◌, ◌^◌, ◌++◌, ◌∷◌, ℕ, List, [], codes, decimal, length, take, None, IfErr, OnErr, OnOk};
 ghost use Rattle.std.specs.Io.KnownBytes.{Appends};
 ghost use Rattle.xdr3.specs.Item.{Handle as HandleKind, Item, Opaque, Word};
+ghost use Rattle.xdr3.specs.Plain.{run_items, run_size};
 ghost use Rattle.xdr3.specs.Visit.{Adds, Keeps};
 ghost use Rattle.rpc_head.specs.Names.{head_names};
 ghost use Rattle.capture3.specs.Device as devices;
@@ -19,13 +20,14 @@ ghost use Rattle.listing3.specs.machinery.LineWriter.{after_front, LineStands};
 ghost use Rattle.listing3.specs.Listing.{entry_line, line, opening, prefix, procedure_name};
 
 use crate::line_text::LineText;
-use canon3::{EntryWriter, HandleTable, Passed, Sink, write_all};
-use capture3::{DeviceFailed, Error, Kind};
+use byteorder::{BigEndian, ByteOrder};
+use canon3::{EntryWriter, HandleTable, Passed, Sink, kind_of, write_all};
+use capture3::{DeviceFailed, EntryRef, Error, Kind};
 use procs3::proc_name;
 use rpc_head::ProcId;
 use std::alloc::{AllocError, Global};
 use std::hash::BuildHasher;
-use xdr3::Visit;
+use xdr3::{PlainField, Visit};
 
 /// Writes one line for each message. It collects the file handles of all messages, and buffers the
 /// text of the current one.
@@ -94,6 +96,26 @@ impl<S: BuildHasher + Drop> LineWriter<S> {
         self.items.append_hex(name, bytes)?;
         let gathered = self.handles.handle(name, bytes);
         self.items.settle(before, gathered)
+    }
+
+    /// Takes the first field, which is the xid, and then the others at once.
+    #[inline(never)]
+    fn take_first(&mut self, fields: &[PlainField], bytes: &[u8]) -> Result<(), AllocError>
+        requires size { length bytes.now ≡ run_size fields.now }
+        requires begins { self.old.xid ≡ None }
+        ensures ok { OnOk result
+            (Adds LineStands self.old self.new (run_items fields.now bytes.now)) }
+    {
+        let Some((first, more)) = fields.split_first() else {
+            return Ok(());
+        };
+        match *first {
+            PlainField::Word(_) => {
+                self.xid = Some(BigEndian::read_u32(bytes));
+                self.items.plain(more, &bytes[4..])
+            }
+            PlainField::Hyper(_) => self.items.plain(fields, bytes),
+        }
     }
 
     /// Composes the line of the message whose items were visited.
@@ -245,6 +267,14 @@ impl<S: BuildHasher + Drop> Visit for LineWriter<S> {
     fn rest(&mut self, name: &'static str, bytes: &[u8]) -> Result<(), AllocError> {
         self.items.rest(name, bytes)
     }
+
+    #[inline(always)]
+    fn plain(&mut self, fields: &[PlainField], bytes: &[u8]) -> Result<(), AllocError> {
+        match self.xid {
+            Some(_) => self.items.plain(fields, bytes),
+            None => self.take_first(fields, bytes),
+        }
+    }
 }
 
 impl<S: BuildHasher + Drop> EntryWriter for LineWriter<S> {
@@ -257,8 +287,13 @@ impl<S: BuildHasher + Drop> EntryWriter for LineWriter<S> {
 
     ghost going = { always };
 
-    fn write<W: Sink>(&mut self, passed: &Passed, sink: &mut W, kind: Kind) -> Result<(), Error> {
-        let written = self.write_entry(passed, sink, kind);
+    fn write<W: Sink>(
+        &mut self,
+        passed: &Passed,
+        sink: &mut W,
+        entry: EntryRef<'_>,
+    ) -> Result<(), Error> {
+        let written = self.write_entry(passed, sink, kind_of(entry));
         self.begin_message();
         written
     }

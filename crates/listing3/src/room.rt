@@ -1,23 +1,31 @@
 //! Text of values, written into a buffer that is long enough. A position is a count of bytes from
 //! the buffer's start, and each function returns the position after what it wrote.
 
-ghost use Rattle.std.specs.Prelude.{◌≡◌, ◌<◌, ◌≤◌, ◌+◌, ◌*◌, ◌++◌, ◌∷◌, [], length, take, decimal, slice_index, vec_len, IfOk};
+ghost use Rattle.std.specs.Prelude.{◌≡◌, ◌<◌, ◌≤◌, ◌+◌, ◌*◌, ◌/◌, ◌++◌, ◌∷◌, [], length, take, decimal, slice_index, vec_len, true, IfOk};
 ghost use Rattle.std.specs.List.{flat_map};
 ghost use Rattle.hex.specs.Hex.{encode_lower, lower_digits};
+ghost use Rattle.xdr3.specs.Plain.{plain_item, run_items, run_size, width};
 ghost use Rattle.xdr3.specs.Visit.{body_limit};
-ghost use Rattle.listing3.specs.Listing.{opening, quoted, quoted_byte};
+ghost use Rattle.listing3.specs.Listing.{is_plain, opening, quoted, quoted_byte, shown_item, shown_items};
+ghost use Rattle.listing3.specs.machinery.Digits.{eight_digits, four_digits, two_digits};
 
-use itoa::write_digits;
+use byteorder::{BigEndian, ByteOrder};
 use std::alloc::AllocError;
+use xdr3::PlainField;
 use xdr3::room::{make_room, put_bytes};
 
 /// How many digits a number has at most.
 pub(crate) const DIGITS: usize = 20;
 
-/// How many bytes of a string are written after one test of the buffer.
-const PIECE: usize = 256;
+/// How many bytes of a string are tested at once.
+const PIECE: usize = 8;
+
+/// The two digits of each number below 100.
+static PAIRS: [u8; 200] =
+    *b"00010203040506070809101112131415161718192021222324252627282930313233343536373839404142434445464748495051525354555657585960616263646566676869707172737475767778798081828384858687888990919293949596979899";
 
 /// Writes a space, the name and `=`.
+#[inline(always)]
 pub(crate) fn put_name(room: &mut [u8], at: usize, name: &'static str) -> usize
     requires { at + (length name.now + 2) ≤ length room.old }
     ensures end { result ≡ at + (length name.now + 2) }
@@ -26,12 +34,64 @@ pub(crate) fn put_name(room: &mut [u8], at: usize, name: &'static str) -> usize
     ensures len { length room.new ≡ length room.old }
 {
     room[at] = b' ';
-    let end = put_bytes(room, at + 1, name.as_bytes());
+    let end = put_short(room, at + 1, name.as_bytes());
     room[end] = b'=';
     end + 1
 }
 
-/// Writes a number in decimal. Most numbers of a capture have one digit, which needs no call.
+/// Writes the bytes at `at`, and returns the position after them. Most names have 2 to 16 bytes, and
+/// are copied by two moves, without a call.
+#[inline(always)]
+pub(crate) fn put_short(room: &mut [u8], at: usize, bytes: &[u8]) -> usize
+    requires { at + length bytes.now ≤ length room.old }
+    ensures end { result ≡ at + length bytes.now }
+    ensures written { take result room.new ≡ take at room.old ++ bytes.now }
+    ensures kept { take at room.new ≡ take at room.old }
+    ensures len { length room.new ≡ length room.old }
+{
+    let count = bytes.len();
+    if (8..=16).contains(&count) {
+        return put_ends::<8>(room, at, bytes);
+    }
+    if (4..=8).contains(&count) {
+        return put_ends::<4>(room, at, bytes);
+    }
+    if (2..=4).contains(&count) {
+        return put_ends::<2>(room, at, bytes);
+    }
+    put_bytes(room, at, bytes)
+}
+
+/// Writes the first `N` of the bytes and the last `N`, which may overlap.
+#[inline(always)]
+fn put_ends<const N: usize>(room: &mut [u8], at: usize, bytes: &[u8]) -> usize
+    requires room { at + length bytes.now ≤ length room.old }
+    requires least { N ≤ length bytes.now }
+    requires most { length bytes.now ≤ 2 * N }
+    ensures end { result ≡ at + length bytes.now }
+    ensures written { take result room.new ≡ take at room.old ++ bytes.now }
+    ensures kept { take at room.new ≡ take at room.old }
+    ensures len { length room.new ≡ length room.old }
+{
+    let last = bytes.len() - N;
+    put_bytes(room, at, &block::<N>(bytes));
+    put_bytes(room, at + last, &block::<N>(&bytes[last..]))
+}
+
+/// Returns the first `N` bytes. A copy cannot overlap what is written, so it stays in a register.
+#[inline(always)]
+fn block<const N: usize>(bytes: &[u8]) -> [u8; N]
+    requires { N ≤ length bytes.now }
+    ensures { result ≡ take N bytes.now }
+{
+    match bytes.first_chunk::<N>() {
+        Some(block) => *block,
+        None => unreachable!(),
+    }
+}
+
+/// Writes a number in decimal. Many numbers of a capture have one digit, which needs no call, and
+/// numbers of four bytes are divided faster.
 #[inline(always)]
 #[tactic(auto, using(crate::proofs::Rooms::one_digit))]
 pub(crate) fn put_decimal(room: &mut [u8], at: usize, n: u64) -> usize
@@ -44,30 +104,197 @@ pub(crate) fn put_decimal(room: &mut [u8], at: usize, n: u64) -> usize
         room[at] = b'0' + n as u8;
         return at + 1;
     }
-    put_digits(room, at, n)
+    if n >= 1 << 32 {
+        return put_long(room, at, n);
+    }
+    put_word(room, at, n as u32)
 }
 
-/// Writes a number of more than one digit in decimal.
-fn put_digits(room: &mut [u8], at: usize, n: u64) -> usize
+/// Writes a number of more than eight digits in decimal.
+#[inline(never)]
+fn put_long(room: &mut [u8], at: usize, n: u64) -> usize
+    requires long { 100000000 ≤ n }
     requires room { at + DIGITS ≤ length room.old }
-    requires more { 10 ≤ n }
     ensures within { (at ≤ result) × (result ≤ at + DIGITS) }
     ensures written { take result room.new ≡ take at room.old ++ decimal n }
     ensures len { length room.new ≡ length room.old }
 {
-    let end = at + count_digits(n);
-    write_digits(n, room, end);
-    end
+    let end = put_front(room, at, n / 100_000_000);
+    put_eight(room, end, (n % 100_000_000) as u32)
 }
 
-/// Returns how many digits a number of more than one digit has.
-#[tactic(auto, using(crate::proofs::Rooms::decimal_of_length))]
-fn count_digits(n: u64) -> usize
-    requires { 10 ≤ n }
-    ensures count { result ≡ length (decimal n) }
-    ensures most { result ≤ DIGITS }
+/// Writes what is in front of the last eight digits of a number.
+fn put_front(room: &mut [u8], at: usize, n: u64) -> usize
+    requires few { n < 184467440738 }
+    requires room { at + 12 ≤ length room.old }
+    ensures within { (at ≤ result) × (result ≤ at + 12) }
+    ensures written { take result room.new ≡ take at room.old ++ decimal n }
+    ensures len { length room.new ≡ length room.old }
 {
-    n.ilog10() as usize + 1
+    if let Ok(word) = u32::try_from(n) {
+        return put_word(room, at, word);
+    }
+    let end = put_few(room, at, (n / 100_000_000) as u32);
+    put_eight(room, end, (n % 100_000_000) as u32)
+}
+
+/// Writes a number of four bytes in decimal.
+#[inline(never)]
+fn put_word(room: &mut [u8], at: usize, n: u32) -> usize
+    requires { at + 10 ≤ length room.old }
+    ensures within { (at ≤ result) × (result ≤ at + 10) }
+    ensures written { take result room.new ≡ take at room.old ++ decimal n }
+    ensures len { length room.new ≡ length room.old }
+{
+    if n < 10_000 {
+        return put_few(room, at, n);
+    }
+    if n < 100_000_000 {
+        let end = put_few(room, at, n / 10_000);
+        return put_four(room, end, n % 10_000);
+    }
+    let end = put_two(room, at, n / 100_000_000);
+    put_eight(room, end, n % 100_000_000)
+}
+
+/// Writes a number below 10,000 in decimal.
+#[inline(always)]
+fn put_few(room: &mut [u8], at: usize, n: u32) -> usize
+    requires few { n < 10000 }
+    requires room { at + 4 ≤ length room.old }
+    ensures within { (at ≤ result) × (result ≤ at + 4) }
+    ensures written { take result room.new ≡ take at room.old ++ decimal n }
+    ensures len { length room.new ≡ length room.old }
+{
+    if n < 100 {
+        return put_two(room, at, n);
+    }
+    let first = hundreds(n);
+    let end = put_two(room, at, first);
+    put_pair(room, end, n - 100 * first)
+}
+
+/// Writes a number below 100 in decimal.
+#[inline(always)]
+#[tactic(auto, using(crate::proofs::Rooms::one_digit, crate::proofs::Digits::decimal_two))]
+fn put_two(room: &mut [u8], at: usize, n: u32) -> usize
+    requires few { n < 100 }
+    requires room { at + 2 ≤ length room.old }
+    ensures within { (at ≤ result) × (result ≤ at + 2) }
+    ensures written { take result room.new ≡ take at room.old ++ decimal n }
+    ensures len { length room.new ≡ length room.old }
+{
+    if n < 10 {
+        room[at] = b'0' + n as u8;
+        return at + 1;
+    }
+    put_pair(room, at, n)
+}
+
+/// Writes the last eight digits of a number.
+#[inline(always)]
+fn put_eight(room: &mut [u8], at: usize, n: u32) -> usize
+    requires few { n < 100000000 }
+    requires room { at + 8 ≤ length room.old }
+    ensures end { result ≡ at + 8 }
+    ensures written { take result room.new ≡ take at room.old ++ eight_digits n }
+    ensures len { length room.new ≡ length room.old }
+{
+    let end = put_four(room, at, n / 10_000);
+    put_four(room, end, n % 10_000)
+}
+
+/// Writes the last four digits of a number.
+#[inline(always)]
+fn put_four(room: &mut [u8], at: usize, n: u32) -> usize
+    requires few { n < 10000 }
+    requires room { at + 4 ≤ length room.old }
+    ensures end { result ≡ at + 4 }
+    ensures written { take result room.new ≡ take at room.old ++ four_digits n }
+    ensures len { length room.new ≡ length room.old }
+{
+    let first = hundreds(n);
+    let end = put_pair(room, at, first);
+    put_pair(room, end, n - 100 * first)
+}
+
+/// Returns `n / 100`. The compiler does not know that so few bits are enough, and divides by more
+/// instructions.
+#[inline(always)]
+fn hundreds(n: u32) -> u32
+    requires { n < 10000 }
+    ensures { result ≡ n / 100 }
+{
+    (5243 * n) >> 19
+}
+
+/// Writes the last two digits of a number.
+#[inline(always)]
+#[tactic(auto, using(crate::proofs::Digits::pair_written))]
+fn put_pair(room: &mut [u8], at: usize, n: u32) -> usize
+    requires few { n < 100 }
+    requires room { at + 2 ≤ length room.old }
+    ensures end { result ≡ at + 2 }
+    ensures written { take result room.new ≡ take at room.old ++ two_digits n }
+    ensures len { length room.new ≡ length room.old }
+{
+    let from = 2 * n as usize;
+    room[at] = PAIRS[from];
+    room[at + 1] = PAIRS[from + 1];
+    at + 2
+}
+
+/// Writes ` name=value` for each field of a run, and makes the buffer longer as it goes.
+#[inline(always)]
+pub(crate) fn put_run(
+    room: &mut Vec<u8>,
+    at: usize,
+    fields: &[PlainField],
+    bytes: &[u8],
+) -> Result<usize, AllocError>
+    requires at { at ≤ vec_len room.old }
+    requires size { length bytes.now ≡ run_size fields.now }
+    ensures within { IfOk result (λ end. end ≤ vec_len room.new) }
+    ensures ok { IfOk result (λ end. take end room.new.items
+        ≡ take at room.old.items ++ shown_items (run_items fields.now bytes.now)) }
+    ensures len { vec_len room.old ≤ vec_len room.new }
+{
+    let mut end = at;
+    let mut rest = bytes;
+    for field in fields {
+        let (name, n, width) = number_in(*field, rest);
+        make_room(room, end, name.len() + 2 + DIGITS)?;
+        end = put_number(room, end, name, n);
+        rest = &rest[width..];
+    }
+    Ok(end)
+}
+
+/// Returns a field's name, its value, and how many of the bytes it has.
+#[inline(always)]
+fn number_in(field: PlainField, bytes: &[u8]) -> (&'static str, u64, usize)
+    requires { width field ≤ length bytes.now }
+    ensures width { result.2 ≡ width field }
+    ensures shown { opening result.0.now ++ decimal result.1
+        ≡ shown_item (plain_item field bytes.now) }
+{
+    match field {
+        PlainField::Word(name) => (name, u64::from(BigEndian::read_u32(bytes)), 4),
+        PlainField::Hyper(name) => (name, BigEndian::read_u64(bytes), 8),
+    }
+}
+
+/// Writes ` name=` and a number in decimal.
+#[inline(always)]
+pub(crate) fn put_number(room: &mut [u8], at: usize, name: &'static str, n: u64) -> usize
+    requires { at + (length name.now + 2 + DIGITS) ≤ length room.old }
+    ensures within { (at ≤ result) × (result ≤ at + (length name.now + 2 + DIGITS)) }
+    ensures written { take result room.new
+        ≡ take at room.old ++ (opening name.now ++ decimal n) }
+    ensures len { length room.new ≡ length room.old }
+{
+    let start = put_name(room, at, name);
+    put_decimal(room, start, n)
 }
 
 /// Writes two lower-case hexadecimal digits for each byte.
@@ -120,13 +347,51 @@ pub(crate) fn put_quoted(room: &mut Vec<u8>, at: usize, bytes: &[u8]) -> Result<
     let mut end = put_bytes(room, at, b"\"");
     for piece in bytes.chunks(PIECE) {
         make_room(room, end, 4 * piece.len())?;
-        end = put_inside(room, end, piece);
+        end = put_piece(room, end, piece);
     }
     make_room(room, end, 1)?;
     Ok(put_bytes(room, end, b"\""))
 }
 
-/// Writes the text of the bytes between quotation marks.
+/// Writes the text of the bytes between quotation marks. Most pieces stand for themselves.
+#[inline(always)]
+fn put_piece(room: &mut [u8], at: usize, bytes: &[u8]) -> usize
+    requires { at + 4 * length bytes.now ≤ length room.old }
+    ensures within { (at ≤ result) × (result ≤ at + 4 * length bytes.now) }
+    ensures written { take result room.new ≡ take at room.old ++ flat_map quoted_byte bytes.now }
+    ensures kept { take at room.new ≡ take at room.old }
+    ensures len { length room.new ≡ length room.old }
+{
+    if bytes.len() == PIECE && are_plain(bytes) {
+        return put_bytes(room, at, &block::<PIECE>(bytes));
+    }
+    put_inside(room, at, bytes)
+}
+
+/// Returns `true` only if all bytes of a piece stand for themselves. Because it goes through all of
+/// them, the compiler tests them at once.
+#[inline(always)]
+fn are_plain(bytes: &[u8]) -> bool
+    requires { length bytes.now ≡ PIECE }
+    ensures { result ≡ true → flat_map quoted_byte bytes.now ≡ bytes.now }
+{
+    let mut plain = true;
+    for i in 0..PIECE {
+        plain &= is_plain(bytes[i]);
+    }
+    plain
+}
+
+/// Returns whether a byte stands for itself. There are no branches, so that several can be tested
+/// at once.
+#[inline(always)]
+fn is_plain(byte: u8) -> bool
+    ensures { result ≡ is_plain byte }
+{
+    (byte >= 32) & (byte <= 126) & (byte != 34) & (byte != 92)
+}
+
+/// Writes the text of the bytes between quotation marks, byte by byte.
 fn put_inside(room: &mut [u8], at: usize, bytes: &[u8]) -> usize
     requires { at + 4 * length bytes.now ≤ length room.old }
     ensures within { (at ≤ result) × (result ≤ at + 4 * length bytes.now) }
@@ -148,7 +413,7 @@ fn put_quoted_byte(room: &mut [u8], at: usize, byte: u8) -> usize
     ensures kept { take at room.new ≡ take at room.old }
     ensures len { length room.new ≡ length room.old }
 {
-    if (32..=126).contains(&byte) && byte != 34 && byte != 92 {
+    if is_plain(byte) {
         room[at] = byte;
         at + 1
     } else {

@@ -14,8 +14,8 @@ ghost use Rattle.masking3.specs.Masked.{masked_bytes};
 use crate::hashers::MaskHashers;
 use crate::masking_writer::{MaskingWriter, Plan};
 use crate::ways::Ways;
-use canon3::{EntryWriter, Passed, Sink, Summary, write_all, write_entries};
-use capture3::{Error, Kind, Source, pack_header};
+use canon3::{EntryWriter, Passed, Sink, Summary, kind_of, write_all, write_entries};
+use capture3::{EntryRef, Error, Source, pack_header};
 use std::alloc::Global;
 use std::hash::BuildHasher;
 use std::marker::Brand;
@@ -107,12 +107,17 @@ impl<P: Plan, S: BuildHasher + Drop> EntryWriter for MaskingWriter<P, S> {
 
     ghost going = { HasMemory };
 
-    fn write<W: Sink>(&mut self, passed: &Passed, sink: &mut W, kind: Kind) -> Result<(), Error> {
+    fn write<W: Sink>(
+        &mut self,
+        passed: &Passed,
+        sink: &mut W,
+        entry: EntryRef<'_>,
+    ) -> Result<(), Error> {
         if self.failed {
             return Err(Error::Memory);
         }
         open(passed, sink)?;
-        self.write_entry(sink, kind)?;
+        self.write_entry(sink, kind_of(entry))?;
         self.begin_message();
         Ok(())
     }

@@ -1,14 +1,16 @@
--- A writer of messages with numbers in place of file handles, write verifiers and xids.
-use Rattle.std.specs.Prelude.{◌≡◌, ◌≢◌, ℕ, ◌<◌, ◌^◌, List, [], ◌∷◌, ◌++◌, length, bytes_eq, nat_eq}
-use Rattle.xdr3.specs.Item.{Item, Word, Rest, zero_spelling}
+-- A writer of messages with numbers in place of file handles, write verifiers and xids, which are
+-- noted as replacements in a message's body.
+use Rattle.std.specs.Prelude.{◌≡◌, ◌≢◌, ℕ, ◌<◌, ◌^◌, List, [], ◌∷◌, ◌++◌, length, drop, bytes_eq, nat_eq}
+use Rattle.xdr3.specs.Item.{Item, Word, Rest, Spells, word_bytes, zero_spelling}
+use Rattle.patches.specs.Patches.{Makes, Noted, patched}
 use Rattle.capture3.specs.Entry.{Entry}
 use Rattle.canon3.specs.declared.message_writer.MessageWriter.{MessageWriter}
 use Rattle.canon3.specs.declared.message_writer.Stage.{Stage}
 use Rattle.canon3.specs.declared.message_writer.Stage.TheVariants.{Begins, Goes, Failed}
-use Rattle.canon3.specs.CanonicalStream.{message_after}
+use Rattle.canon3.specs.CanonicalStream.{items_after}
 use Rattle.canon3.specs.machinery.OpenXids.{open_xids}
 use Rattle.canon3.specs.HandleTable.{HoldsHandles}
-use Rattle.canon3.specs.Rank.{HoldsDistinct}
+use Rattle.canon3.specs.Rank.{HoldsDistinct, rank}
 use Rattle.canon3.specs.Values.{handles, handles_in, verifiers, verifiers_in}
 
 -- no more of each than a table has numbers for
@@ -35,28 +37,44 @@ pub record HoldsBefore {S H : Type 0} (n : MessageWriter S H) (before : Before) 
 
 -- ---- within a message
 
--- the bytes are those of the message, where xs are the xids with its own
-abbrev pub IsWritten : List ℕ → Before → (xs : List ℕ) → List Item → Type 0
-IsWritten bytes before xs items =
+-- Whatever body spells the items, its replacements make the zero spelling of the others of it.
+abbrev pub IsNotedAs : Noted → (items others : List Item) → Type 0
+IsNotedAs noted items others =
+    (body : List ℕ) → Spells items body → length body < 2 ^ 64
+    → Makes noted body (zero_spelling others)
+
+-- after the items and the others of which this was so, it is so of these too
+abbrev pub Notes : (old new : Noted) → (items others : List Item) → Type 0
+Notes old new items others =
+    (before after : List Item) → IsNotedAs old before after
+    → IsNotedAs new (before ++ items) (after ++ others)
+
+-- The number of the message's xid, where xs are the xids with its own, and its other items, which
+-- are noted as those with numbers.
+abbrev pub IsNotedMessage : (number : ℕ) → Noted → Before → (xs : List ℕ) → (x : ℕ) → List Item
+    → Type 0
+IsNotedMessage number noted before xs x items =
     AreFew (before.handles ++ handles_in items) (before.verifiers ++ verifiers_in items)
     → length xs < 2 ^ 32
-    → bytes ≡ zero_spelling (message_after before.handles before.verifiers xs items)
+    → (number ≡ rank nat_eq x xs)
+    × IsNotedAs noted items (items_after before.handles before.verifiers items)
 
 -- the message up to here, which begins with its xid; nothing is said where it begins with another
 -- item
-abbrev pub IsSpelled : Stage → (table bytes : List ℕ) → Before → List Item → Type 0
-IsSpelled stage table bytes before [] = (stage ≡ Begins) × HoldsDistinct nat_eq table before.xids
-    × (bytes ≡ [])
-IsSpelled stage table bytes before (Word name x ∷ items) = (stage ≡ Goes)
+abbrev pub IsSpelled : Stage → (table : List ℕ) → (number : ℕ) → Noted → Before → List Item
+    → Type 0
+IsSpelled stage table number noted before [] = (stage ≡ Begins)
+    × HoldsDistinct nat_eq table before.xids × IsNotedAs noted [] []
+IsSpelled stage table number noted before (Word name x ∷ items) = (stage ≡ Goes)
     × HoldsDistinct nat_eq table (before.xids ++ x ∷ [])
-    × IsWritten bytes before (before.xids ++ x ∷ []) (Word name x ∷ items)
-IsSpelled stage table bytes before _ = Unit {0}
+    × IsNotedMessage number noted before (before.xids ++ x ∷ []) x items
+IsSpelled stage table number noted before _ = Unit {0}
 
 pub record IsWithinMessage {S H : Type 0} (n : MessageWriter S H) (before : Before)
     (items : List Item) : Type 0 where
   pub handles : HoldsHandles n.handles (before.handles ++ handles_in items)
   pub verifiers : HoldsDistinct bytes_eq n.verfs (before.verifiers ++ verifiers_in items)
-  pub spelled : IsSpelled n.stage n.xids n.writer before items
+  pub spelled : IsSpelled n.stage n.xids n.xid n.patches before items
 
 -- A visitor stands for lists of items alone. So items in front of the message's own tell what was
 -- there before it.
@@ -75,6 +93,10 @@ pub record HasMessageUnderWay {S H : Type 0} (n : MessageWriter S H)
   pub items : List Item
   pub are : all ≡ told_after before items
   pub under_way : IsWithinMessage n before items
+
+-- the message with this body: the number of its xid, and what is made of the other bytes
+abbrev pub message_of : {S H : Type 0} → MessageWriter S H → (body : List ℕ) → List ℕ
+message_of n body = word_bytes n.xid ++ patched n.patches (drop 4 body)
 
 -- it has not failed
 abbrev pub IsGoing : {S H : Type 0} → MessageWriter S H → Type 0

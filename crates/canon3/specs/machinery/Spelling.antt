@@ -9,14 +9,14 @@ use Rattle.canon3.specs.declared.spelling.Spelling.TheVariants.{Zero, One, Messa
 use Rattle.canon3.specs.Bytes.{chunk_bytes, entry_bytes, record_bytes}
 use Rattle.canon3.specs.CanonicalStream.{entries_after}
 use Rattle.canon3.specs.machinery.OpenXids.{open_xids}
-use Rattle.canon3.specs.machinery.MessageWriter.{HoldsBefore, values_of}
+use Rattle.canon3.specs.machinery.MessageWriter.{HoldsBefore, message_of, values_of}
 use Rattle.canon3.specs.Values.{handles, verifiers}
 
--- the word 0, the word 1, or a message with this body
-abbrev pub spelling_of : Spelling → List ℕ → List ℕ
-spelling_of Zero body = word_bytes 0
-spelling_of One body = word_bytes 1
-spelling_of Message body = chunk_bytes (record_bytes body)
+-- the word 0, the word 1, or the message with this body
+abbrev pub spelling_of : {S H : Type 0} → Spelling → MessageWriter S H → List ℕ
+spelling_of Zero n = word_bytes 0
+spelling_of One n = word_bytes 1
+spelling_of (Message body) n = chunk_bytes (record_bytes (message_of n body.now))
 
 -- the bytes of entries in the canonical form, where they come after others
 abbrev pub bytes_after : (entries more : List Entry) → List ℕ
@@ -28,4 +28,4 @@ bytes_after entries more =
 pub record HasSpelled {S H : Type 0} (n : MessageWriter S H) (form : Spelling)
     (entries : List Entry) (one : Entry) : Type 0 where
   pub holds : HoldsBefore n (values_of (entries ++ one ∷ []))
-  pub spelled : spelling_of form n.writer ≡ bytes_after entries (one ∷ [])
+  pub spelled : spelling_of form n ≡ bytes_after entries (one ∷ [])

@@ -12,10 +12,10 @@ use Rattle.capture3.specs.machinery.EntriesHistory.{StandsFor}
 use Rattle.capture3.specs.Entry.{Entry, items_of}
 use Rattle.capture3.specs.Typed.{Typed}
 use Rattle.canon3.specs.declared.passed.Passed.{Passed}
-use Rattle.capture3.specs.declared.reader.entry.Kind.{Kind}
+use Rattle.capture3.specs.declared.reader.entry.EntryRef.{EntryRef}
 use Rattle.canon3.specs.Laws.{AreFirst}
 use Rattle.canon3.specs.Passed.{ArePassed}
-use Rattle.capture3.specs.Kept.{IsOfKind}
+use Rattle.capture3.specs.Kept.{IsLent}
 use Rattle.canon3.specs.SinkWrites.{AppendsFront}
 use Rattle.canon3.specs.EntryWriter.{IsStoppedBy}
 
@@ -37,10 +37,10 @@ module _ {T : Type 0} (form : List Entry → List ℕ) (before : List Entry → 
   HasMore writer passed old new entries (Err error) = AppendsFront old new (form entries)
 
   -- one entry more is written, and came, or it is cut
-  abbrev pub WritesMore : (was now : T) → (passed after : Passed) → Kind
+  abbrev pub WritesMore : (was now : T) → (passed after : Passed) → EntryRef
       → (between new : Option (List ℕ)) → {X : Type 0} → Result X Error → Type 0
-  WritesMore was now passed after kind between new result =
-      (old : Option (List ℕ)) (entries : List Entry) (one : Entry) → IsOfKind kind one
+  WritesMore was now passed after lent between new result =
+      (old : Option (List ℕ)) (entries : List Entry) (one : Entry) → IsLent lent one
       → AreFirst (entries ++ one ∷ []) → length (entries ++ one ∷ []) < 2 ^ 32
       → ArePassed passed entries
       → stands was (before entries ++ items_of one) → Appends old between (form entries)

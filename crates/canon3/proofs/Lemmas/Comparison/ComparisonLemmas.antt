@@ -46,10 +46,10 @@ use Rattle.canon3.proofs.Lemmas.Writing.Visiting.{told_after-append}
 -- ---- an entry of each
 
 module _ {S H : Type 0} (n m : MessageWriter S H) (form other_form : Spelling) (a b : List Entry) (e f : Entry) (first : AreFirst (a ++ e ∷ [])) (second : AreFirst (b ++ f ∷ [])) (s : HasSpelled n form a e) (t : HasSpelled m other_form b f) (g : Agree a b) where
-  pub agree_on : spelling_of form n.writer ≡ spelling_of other_form m.writer → Agree (a ++ e ∷ []) (b ++ f ∷ [])
+  pub agree_on : spelling_of form n ≡ spelling_of other_form m → Agree (a ++ e ∷ []) (b ++ f ∷ [])
   agree_on alike = agree_more a b e f first second g (sym s.spelled ∙ (alike ∙ t.spelled))
 
-  pub parts_here : (progress : Progress) (place : Place) → spelling_of form n.writer ≢ spelling_of other_form m.writer → HasPassed progress a → place ≡ place_from progress (side_in e) (side_in f) → PartWith a b e f place
+  pub parts_here : (progress : Progress) (place : Place) → spelling_of form n ≢ spelling_of other_form m → HasPassed progress a → place ≡ place_from progress (side_in e) (side_in f) → PartWith a b e f place
   parts_here progress place unlike told_after is =
       let differ : bytes_after a (e ∷ []) ≢ bytes_after b (f ∷ []) = λ same. unlike (s.spelled ∙ (same ∙ sym t.spelled)) in
       record {

@@ -1,5 +1,5 @@
 -- What is written of the entries that a reader hands out.
-use Rattle.std.proofs.Common.{⊎_elim, ℕ, Bool, true, false, List, [], ◌∷◌, ◌++◌, refl, subst, Option, Result, Ok, Err, IfErr, IfOk, arith}
+use Rattle.std.proofs.Common.{⊎_elim, ◌≡◌, ℕ, Bool, true, false, List, [], ◌∷◌, ◌++◌, refl, subst, sym, Option, Result, Ok, Err, IfErr, IfOk, arith}
 use Rattle.std.specs.Prelude.{IsTrue}
 use Rattle.capture3.specs.Told.{Gave, Told}
 use Rattle.capture3.proofs.Lemmas.Reader.ToldLemmas.{gave_none, IsPrefixOf, shown_of_all}
@@ -14,6 +14,10 @@ use Rattle.capture3.specs.declared.fault.Error.TheVariants as errors
 use Rattle.capture3.specs.Entries.{IsMetBy, source_of}
 use Rattle.capture3.specs.machinery.EntriesHistory.{StandsFor}
 use Rattle.capture3.specs.Entry.{Entry}
+use Rattle.capture3.specs.declared.reader.entry.EntryRef.{EntryRef}
+use Rattle.capture3.specs.declared.reader.entry.EntryRef.TheVariants as lent
+use Rattle.capture3.specs.declared.reader.entry.Kind.{Kind}
+use Rattle.capture3.specs.Kept.{IsLent, IsOfKind, kind_of}
 use Rattle.capture3.specs.Reached.{AreFirstReached, Reached}
 use Rattle.capture3.proofs.Lemmas.Reached.EmittedEntries.{reached_by_machine}
 use Rattle.canon3.specs.declared.passed.Passed.{Passed}
@@ -26,6 +30,18 @@ use Rattle.canon3.specs.WriteErrors.{IsOfWriting}
 use Rattle.canon3.specs.SinkWrites.{AppendsFront}
 use Rattle.canon3.proofs.Lemmas.Order.Reaching.{reached_first}
 use Rattle.canon3.proofs.Lemmas.Writing.SinkWritesLemmas.{front_of_first, whole_front}
+
+-- a lent entry is of its kind
+of_its_kind : (one : EntryRef) (entry : Entry) → IsLent one entry → IsOfKind (kind_of one) entry
+of_its_kind lent.Begin entry is = is
+of_its_kind (lent.Call call) entry (items, fits, asks, is) = (items, asks, is)
+of_its_kind lent.Turn entry is = is
+of_its_kind (lent.Reply reply) entry (items, fits, is) = (items, is)
+of_its_kind lent.Close entry is = is
+of_its_kind lent.End entry is = is
+
+pub lent_kind : (one : EntryRef) (kind : Kind) (entry : Entry) → kind ≡ kind_of one → IsLent one entry → IsOfKind kind entry
+lent_kind one kind entry is lends = subst (λ k. IsOfKind k entry) (sym is) (of_its_kind one entry lends)
 
 module _ (form : List Entry → List ℕ) (prefixes : KeepsPrefixes form) where
   cut_reached : (old new : Option (List ℕ)) (given : List ℕ) (entries : List Entry) → AreFirstReached given entries → AppendsFront old new (form entries)

@@ -1,23 +1,25 @@
 -- A message with numbers, from its first item to its last.
-use Rattle.std.proofs.Common.{◌≡◌, ℕ, ◌<◌, ◌^◌, Bool, true, false, List, [], ◌∷◌, ◌++◌, length, append-nil, refl, sym, ap, ◌∙◌, subst, ◌||◌}
+use Rattle.std.proofs.Common.{◌≡◌, ℕ, ◌<◌, ◌^◌, Bool, true, false, List, [], ◌∷◌, ◌++◌, length, append-nil, refl, sym, ◌∙◌, subst, ◌||◌}
 use Rattle.std.specs.Prelude.{bytes_eq, nat_eq}
 use Rattle.std.specs.List.{list_any}
 use Rattle.std.proofs.lemmas.Bool.Decides.{Decides-eqb}
-use Rattle.xdr3.specs.Item.{Item, Word, zero_spelling}
+use Rattle.xdr3.specs.Item.{Item, Word}
+use Rattle.patches.specs.Patches.{Makes}
 use Rattle.canon3.specs.declared.message_writer.MessageWriter.{MessageWriter}
 use Rattle.canon3.specs.declared.message_writer.Stage.TheVariants.{Begins}
-use Rattle.canon3.specs.CanonicalStream.{items_after, message_after}
+use Rattle.canon3.specs.CanonicalStream.{items_after}
 use Rattle.canon3.specs.HandleTable.{HoldsHandles}
-use Rattle.canon3.specs.machinery.MessageWriter.{AreFew, Before, told_after, HoldsBefore, IsGoing, IsWithinMessage, WriterStands}
+use Rattle.canon3.specs.machinery.MessageWriter.{AreFew, Before, told_after, HoldsBefore, IsGoing, IsNotedAs, IsWithinMessage, WriterStands}
 use Rattle.canon3.specs.Pairing.{Member, here, there}
-use Rattle.canon3.specs.Rank.{distinct, HoldsDistinct}
+use Rattle.canon3.specs.Rank.{distinct, rank, HoldsDistinct}
 use Rattle.canon3.specs.Values.{handles_in, verifiers_in}
 use Rattle.canon3.proofs.Lemmas.Numbers.RankLemmas.{any-distinct, distinct-push, equivalence, itself, rank-append}
+use Rattle.canon3.proofs.Lemmas.Writing.Noting.{noted_none}
 use Rattle.canon3.proofs.Lemmas.Writing.Visiting.{told_after-same}
 
 module _ {S H : Type 0} (n : MessageWriter S H) (before : Before) where
   -- the tables hold what was there before, and no message is begun
-  pub begins : HoldsBefore n before → n.stage ≡ Begins → n.writer ≡ [] → WriterStands n (told_after before [])
+  pub begins : HoldsBefore n before → n.stage ≡ Begins → Makes n.patches [] [] → WriterStands n (told_after before [])
   begins h stage none going = record {
     before = before;
     items = [];
@@ -25,7 +27,7 @@ module _ {S H : Type 0} (n : MessageWriter S H) (before : Before) where
     under_way = record {
       handles = subst (HoldsHandles n.handles) (sym (append-nil before.handles)) h.handles;
       verifiers = subst (HoldsDistinct bytes_eq n.verfs) (sym (append-nil before.verifiers)) h.verifiers;
-      spelled = (stage, h.xids, none);
+      spelled = (stage, h.xids, noted_none n.patches none);
     };
   }
 
@@ -56,7 +58,7 @@ module _ {S H : Type 0} (n : MessageWriter S H) (before : Before) where
     abbrev pub IsSpelledWith : List ℕ → Type 0
     IsSpelledWith xs =
         AreFew (before.handles ++ handles_in (Word name xid ∷ rest)) (before.verifiers ++ verifiers_in (Word name xid ∷ rest)) → length xs < 2 ^ 32
-        → n.writer ≡ zero_spelling (message_after before.handles before.verifiers xs (Word name xid ∷ rest))
+        → (n.xid ≡ rank nat_eq xid xs) × IsNotedAs n.patches rest (items_after before.handles before.verifiers rest)
 
     pub call_held : IsWithinMessage n before (Word name xid ∷ rest) → HoldsBefore n (after (before.xids ++ xid ∷ []))
     call_held u = record { handles = u.handles; verifiers = u.verifiers; xids = u.spelled.1 }
@@ -85,4 +87,5 @@ module _ {S H : Type 0} (n : MessageWriter S H) (before : Before) where
 
     pub reply_written : Member xid before.xids → length (before.xids ++ xid ∷ []) < 2 ^ 32 → IsWithinMessage n before (Word name xid ∷ rest) → IsSpelledWith before.xids
     reply_written m room u few fewer =
-        u.spelled.2 few room ∙ ap (λ k. zero_spelling (Word name k ∷ items_after before.handles before.verifiers rest)) (rank-append nat_eq Decides-eqb (xid ∷ []) m)
+        let (number, noted) = u.spelled.2 few room in
+        (number ∙ rank-append nat_eq Decides-eqb (xid ∷ []) m, noted)

@@ -1,22 +1,26 @@
 -- What an entry is written as in the canonical form.
-use Rattle.std.proofs.Common.{◌≡◌, ◌<◌, ◌^◌, ◌⊎◌, inl, inr, ℕ, List, [], ◌∷◌, ◌++◌, length, length-append, append-nil, refl, sym, ap, ◌∙◌, subst, arith}
+use Rattle.std.proofs.Common.{◌≡◌, ◌<◌, ◌≤◌, ◌^◌, ◌⊎◌, inl, inr, ℕ, List, [], ◌∷◌, ◌++◌, length, length-append, append-nil, drop, refl, sym, ap, ap₂, ◌∙◌, subst, arith}
 use Rattle.std.specs.Prelude.{bytes_eq, nat_eq}
-use Rattle.xdr3.specs.Item.{Item, Word, word_bytes}
-use Rattle.rpc_head.specs.declared.values.call.ProcId.{ProcId}
+use Rattle.record_mark.specs.RecordMark.{max_body}
+use Rattle.xdr3.specs.Item.{Item, Spells, Word, word_bytes, zero_spelling}
+use Rattle.patches.specs.Patches.{patched}
 use Rattle.capture3.specs.Entry.{Entry, Begin, Call, Turn, Reply, Close, End, items_of}
 use Rattle.canon3.specs.declared.message_writer.MessageWriter.{MessageWriter}
 use Rattle.canon3.specs.declared.spelling.Spelling.TheVariants.{Zero, One, Message}
-use Rattle.capture3.specs.declared.reader.entry.Kind.{Kind}
-use Rattle.capture3.specs.declared.reader.entry.Kind.TheVariants as kinds
+use Rattle.capture3.specs.declared.reader.entry.CallRef.{CallRef}
+use Rattle.capture3.specs.declared.reader.entry.ReplyRef.{ReplyRef}
+use Rattle.capture3.specs.declared.reader.entry.EntryRef.{EntryRef}
+use Rattle.capture3.specs.declared.reader.entry.EntryRef.TheVariants as lent
+use Rattle.capture3.specs.Bodies.{IsCall, IsReply}
 use Rattle.canon3.specs.Bytes.{chunk_bytes, message_bytes, record_bytes}
-use Rattle.canon3.specs.CanonicalStream.{message_after}
+use Rattle.canon3.specs.CanonicalStream.{items_after, message_after}
 use Rattle.canon3.specs.machinery.OpenXids.{open_xids}
 use Rattle.canon3.specs.HandleTable.{HoldsHandles}
 use Rattle.canon3.specs.Laws.{AreFirst}
-use Rattle.canon3.specs.machinery.MessageWriter.{AreFew, told_after, HoldsBefore, IsGoing, WriterStands, values_of}
-use Rattle.canon3.specs.Rank.{HoldsDistinct}
+use Rattle.canon3.specs.machinery.MessageWriter.{AreFew, told_after, HoldsBefore, IsGoing, IsNotedAs, WriterStands, message_of, values_of}
+use Rattle.canon3.specs.Rank.{HoldsDistinct, rank}
 use Rattle.canon3.specs.machinery.Spelling.{HasSpelled}
-use Rattle.capture3.specs.Kept.{IsOfKind}
+use Rattle.capture3.specs.Kept.{IsLent}
 use Rattle.canon3.specs.Values.{handles, handles_in, verifiers, verifiers_in}
 use Rattle.canon3.proofs.Lemmas.Order.First.{first_in_order}
 use Rattle.canon3.proofs.Lemmas.Canonical.Growing.{few_open, few_xids, handles_push, last_paired, open-append, verifiers_push}
@@ -60,50 +64,64 @@ module _ {S H : Type 0} (n : MessageWriter S H) (entries : List Entry) where
 
   -- ---- a message
 
-  call_spelled : (items : List Item) → BeginsWithXid items → AreFirst (entries ++ Call items ∷ []) → length (entries ++ Call items ∷ []) < 2 ^ 32 → IsGoing n → WriterStands n (told_after (values_of entries) items) → HasSpelled n Message entries (Call items)
-  call_spelled (Word name xid ∷ rest) begins first few going stands =
+  message_is : (body : List ℕ) (name : List ℕ) (x number : ℕ) (items others : List Item) → (n.xid ≡ number) × IsNotedAs n.patches items others → Spells (Word name x ∷ items) body → length body ≤ max_body
+      → message_of n body ≡ zero_spelling (Word name number ∷ others)
+  message_is body name x number items others (same, noted) (front, back, first, more, split) short =
+      let rest : drop 4 body ≡ back = ap (drop 4) (split ∙ ap (λ (k : List ℕ). k ++ back) first.1) in
+      let few : length back < 2 ^ 64 = omega (arith, short, ap length split, length-append front back) in
+      ap₂ (λ (a b : List ℕ). a ++ b) (ap word_bytes same) (ap (patched n.patches) rest ∙ (noted back more few).makes)
+
+  call_spelled : (call : CallRef) (items : List Item) → IsCall call.body.now items → BeginsWithXid items → AreFirst (entries ++ Call items ∷ []) → length (entries ++ Call items ∷ []) < 2 ^ 32 → IsGoing n
+      → WriterStands n (told_after (values_of entries) items) → HasSpelled n (Message call.body) entries (Call items)
+  call_spelled call (Word name xid ∷ rest) is begins first few going stands =
       let items : List Item = Word name xid ∷ rest in
       let xs = open_xids [] entries ++ xid ∷ [] in
       let u = is_under_way n (values_of entries) items going stands in
+      let noted = call_written n (values_of entries) name xid rest u (are_few entries (Call items) first) (few_xids entries (Call items) few) in
+      let form = message_after (handles entries) (verifiers entries) xs items in
       record {
         holds = held_more (Call items) (call_held n (values_of entries) name xid rest u);
-        spelled = ap (λ (l : List ℕ). chunk_bytes (record_bytes l)) (call_written n (values_of entries) name xid rest u (are_few entries (Call items) first) (few_xids entries (Call items) few))
-            ∙ sym (append-nil (message_bytes (message_after (handles entries) (verifiers entries) xs items)));
+        spelled = ap (λ (l : List ℕ). chunk_bytes (record_bytes l)) (message_is call.body.now name xid (rank nat_eq xid xs) rest (items_after (handles entries) (verifiers entries) rest) noted is.1 call.short) ∙ sym (append-nil (message_bytes form));
       }
-  call_spelled _ begins first few going stands = absurd begins
+  call_spelled call _ is begins first few going stands = absurd begins
 
-  reply_spelled : (id : ProcId) (items : List Item) → IsAnswering (open_xids [] entries) items → AreFirst (entries ++ Reply id items ∷ []) → length (entries ++ Reply id items ∷ []) < 2 ^ 32 → IsGoing n
-      → WriterStands n (told_after (values_of entries) items) → HasSpelled n Message entries (Reply id items)
-  reply_spelled id (Word name xid ∷ rest) known first few going stands =
+  reply_spelled : (reply : ReplyRef) (items : List Item) → IsReply reply.body.now (record { id = reply.id; items = items }) → IsAnswering (open_xids [] entries) items → AreFirst (entries ++ Reply reply.id items ∷ [])
+      → length (entries ++ Reply reply.id items ∷ []) < 2 ^ 32 → IsGoing n → WriterStands n (told_after (values_of entries) items) → HasSpelled n (Message reply.body) entries (Reply reply.id items)
+  reply_spelled reply (Word name xid ∷ rest) is known first few going stands =
       let items : List Item = Word name xid ∷ rest in
+      let one = Reply reply.id items in
       let xs = open_xids [] entries in
       let u = is_under_way n (values_of entries) items going stands in
-      let room : length (xs ++ xid ∷ []) < 2 ^ 32 = omega (arith, few, few_open entries [], length-append xs (xid ∷ []), length-append entries (Reply id items ∷ [])) in
+      let room : length (xs ++ xid ∷ []) < 2 ^ 32 = omega (arith, few, few_open entries [], length-append xs (xid ∷ []), length-append entries (one ∷ [])) in
+      let noted = reply_written n (values_of entries) name xid rest known room u (are_few entries one first) (few_xids entries one few) in
+      let form = message_after (handles entries) (verifiers entries) xs items in
       record {
-        holds = held_more (Reply id items) (reply_held n (values_of entries) name xid rest known u);
-        spelled = ap (λ (l : List ℕ). chunk_bytes (record_bytes l)) (reply_written n (values_of entries) name xid rest known room u (are_few entries (Reply id items) first) (few_xids entries (Reply id items) few))
-            ∙ sym (append-nil (message_bytes (message_after (handles entries) (verifiers entries) xs items)));
+        holds = held_more one (reply_held n (values_of entries) name xid rest known u);
+        spelled = ap (λ (l : List ℕ). chunk_bytes (record_bytes l)) (message_is reply.body.now name xid (rank nat_eq xid xs) rest (items_after (handles entries) (verifiers entries) rest) noted is.1 reply.short) ∙ sym (append-nil (message_bytes form));
       }
-  reply_spelled id _ known first few going stands = absurd known
+  reply_spelled reply _ is known first few going stands = absurd known
 
-  -- ---- an entry of each kind
+  -- ---- a lent entry of each kind
 
-  pub word_spelled : (kind : Kind) (one : Entry) → (kind ≡ kinds.Turn) ⊎ ((kind ≡ kinds.Close) ⊎ (kind ≡ kinds.End)) → IsOfKind kind one → IsGoing n → WriterStands n (told_after (values_of entries) (items_of one)) → HasSpelled n Zero entries one
-  word_spelled kind one (inl is) of going stands =
-      let this : one ≡ Turn = subst (λ k. IsOfKind k one) is of in
+  pub word_spelled : (entry : EntryRef) (one : Entry) → (entry ≡ lent.Turn) ⊎ ((entry ≡ lent.Close) ⊎ (entry ≡ lent.End)) → IsLent entry one → IsGoing n → WriterStands n (told_after (values_of entries) (items_of one)) → HasSpelled n Zero entries one
+  word_spelled entry one (inl is) of going stands =
+      let this : one ≡ Turn = subst (λ k. IsLent k one) is of in
       rw this (turn_spelled (nothing_held n (values_of entries) going (subst (λ (e : Entry). WriterStands n (told_after (values_of entries) (items_of e))) this stands)))
-  word_spelled kind one (inr (inl is)) of going stands =
-      let this : one ≡ Close = subst (λ k. IsOfKind k one) is of in
+  word_spelled entry one (inr (inl is)) of going stands =
+      let this : one ≡ Close = subst (λ k. IsLent k one) is of in
       rw this (close_spelled (nothing_held n (values_of entries) going (subst (λ (e : Entry). WriterStands n (told_after (values_of entries) (items_of e))) this stands)))
-  word_spelled kind one (inr (inr is)) of going stands =
-      let this : one ≡ End = subst (λ k. IsOfKind k one) is of in
+  word_spelled entry one (inr (inr is)) of going stands =
+      let this : one ≡ End = subst (λ k. IsLent k one) is of in
       rw this (end_spelled (nothing_held n (values_of entries) going (subst (λ (e : Entry). WriterStands n (told_after (values_of entries) (items_of e))) this stands)))
 
-  pub message_spelled : (kind : Kind) (one : Entry) → ((id : ProcId) × (kind ≡ kinds.Call id)) ⊎ ((id : ProcId) × (kind ≡ kinds.Reply id)) → IsOfKind kind one → AreFirst (entries ++ one ∷ []) → length (entries ++ one ∷ []) < 2 ^ 32 → IsGoing n
-      → WriterStands n (told_after (values_of entries) (items_of one)) → HasSpelled n Message entries one
-  message_spelled kind one (inl (id, is)) of =
-      let (items, asks, this) = subst (λ k. IsOfKind k one) is of in
-      rw this (λ first few going stands. call_spelled items (last_paired entries (Call items) first).0 first few going stands)
-  message_spelled kind one (inr (id, is)) of =
-      let (items, this) = subst (λ k. IsOfKind k one) is of in
-      rw this (λ first few going stands. reply_spelled id items (last_paired entries (Reply id items) first).0 first few going stands)
+  pub lent_call_spelled : (entry : EntryRef) (one : Entry) (call : CallRef) → entry ≡ lent.Call call → IsLent entry one → AreFirst (entries ++ one ∷ []) → length (entries ++ one ∷ []) < 2 ^ 32 → IsGoing n
+      → WriterStands n (told_after (values_of entries) (items_of one)) → HasSpelled n (Message call.body) entries one
+  lent_call_spelled entry one call is of =
+      let (items, spells, asks, this) = subst (λ k. IsLent k one) is of in
+      rw this (λ first few going stands. call_spelled call items spells (last_paired entries (Call items) first).0 first few going stands)
+
+  pub lent_reply_spelled : (entry : EntryRef) (one : Entry) (reply : ReplyRef) → entry ≡ lent.Reply reply → IsLent entry one → AreFirst (entries ++ one ∷ []) → length (entries ++ one ∷ []) < 2 ^ 32 → IsGoing n
+      → WriterStands n (told_after (values_of entries) (items_of one)) → HasSpelled n (Message reply.body) entries one
+  lent_reply_spelled entry one reply is of =
+      let (items, spells, this) = subst (λ k. IsLent k one) is of in
+      rw this (λ first few going stands. reply_spelled reply items spells (last_paired entries (Reply reply.id items) first).0 first few going stands)

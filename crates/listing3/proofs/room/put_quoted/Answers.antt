@@ -17,7 +17,7 @@ loop-piece-preserved c =
     let so_far = c.loop-piece.invariant in
     let steps = c.in-Some.ensures.steps in
     let room = c.in_ok-make_room-2.ensures in
-    let put = c.put_inside-end.ensures in
+    let put = c.put_piece-end.ensures in
     record {
       next = search rules;
       finite = tt;

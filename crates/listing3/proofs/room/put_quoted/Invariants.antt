@@ -9,7 +9,7 @@ abbrev pub invariant-loop-piece : goal.invariant-loop-piece
 invariant-loop-piece l = record {
   next : goal.iterator-loop-piece.can_next l.piece-iterator;
   finite : goal.iterator-loop-piece.is_finite l.piece-iterator;
-  size : chunks_size l.piece-iterator ≡ 256;
+  size : chunks_size l.piece-iterator ≡ 8;
   text : take l.end l.room.items ++ flat_map quoted_byte (chunks_rest l.piece-iterator) ≡ (take l.fn.at l.fn.room.items ++ 34 ∷ []) ++ flat_map quoted_byte l.fn.bytes;
   kept : take l.fn.at l.room.items ≡ take l.fn.at l.fn.room.items;
   after : l.fn.at ≤ l.end;

@@ -1,4 +1,3 @@
-use Rattle.std.proofs.lemmas.Result.{on_ok_weaker}
 use Rattle.xdr3.specs.Plain.{run_items}
 use Rattle.xdr3.specs.Visit.{Adds}
 use Rattle.canon3.specs.machinery.MessageWriter.{WriterStands}
@@ -7,10 +6,10 @@ use Rattle.canon3.proofs.message_writer.MessageWriterVisit.plain.Goals as goal
 
 pub returns-in-Goes : goal.returns-in-Goes
 returns-in-Goes g c = record {
-  ok = on_ok_weaker c.plain.result (adds_run c.args.self.now c.plain.new.self c.args.fields.now c.args.bytes.now (after_xid c.args.self.now c.plain.new.self c.in-Goes.is)) c.plain.ensures.ok;
+  ok = adds_run c.args.self.now c.keep.new.self c.args.fields.now c.args.bytes.now _ (after_xid c.args.self.now c.keep.new.self c.in-Goes.is) c.requires c.keep.ensures;
 }
 
 pub returns-in-Begins : goal.returns-in-Begins
 returns-in-Begins g c = record {
-  ok = settled (λ n. Adds (WriterStands {S = g.row.S.Denot} {H = g.row.S-Hasher.Denot}) c.args.self.now n (run_items c.args.fields.now c.args.bytes.now)) c.write_first-written.result c.settle.result c.write_first-written.new.self c.settle.new.self c.settle.ensures.result c.settle.ensures.ok c.write_first-written.ensures.ok;
+  ok = settled (λ n. Adds (WriterStands {S = g.row.S.Denot} {H = g.row.S-Hasher.Denot}) c.args.self.now n (run_items c.args.fields.now c.args.bytes.now)) c.note_first-noted.result c.settle.result c.note_first-noted.new.self c.settle.new.self c.settle.ensures.result c.settle.ensures.ok c.note_first-noted.ensures.ok;
 }

@@ -1,10 +1,10 @@
-use Rattle.std.proofs.lemmas.Result.{on_err_weaker, on_ok_weaker}
+use Rattle.std.proofs.Common.{[], ◌∷◌, refl}
 use Rattle.xdr3.specs.Item.{Opaque, Text}
-use Rattle.canon3.proofs.Lemmas.Writing.Visiting.{adds_plain, keeps_writer}
+use Rattle.xdr3.specs.Visit.{Adds}
+use Rattle.canon3.specs.machinery.MessageWriter.{WriterStands}
+use Rattle.canon3.proofs.Lemmas.Writing.Visiting.{settled}
 use Rattle.canon3.proofs.message_writer.MessageWriterVisit.text.Goals as goal
 
 pub returns-clause-ok : goal.returns-clause-ok
-returns-clause-ok g c = on_ok_weaker c.text.result (adds_plain c.args.self.now c.text.new.self (Opaque Text c.args.name.now c.args.bytes.now) tt (λ before items going spelled. tt)) c.text.ensures.ok
-
-pub returns-clause-err : goal.returns-clause-err
-returns-clause-err g c = on_err_weaker c.text.result (keeps_writer c.args.self.now c.text.new.self) c.text.ensures.err
+returns-clause-ok g c =
+    settled (λ n. Adds (WriterStands {S = g.row.S.Denot} {H = g.row.S-Hasher.Denot}) c.args.self.now n (Opaque Text c.args._name.now c.args.bytes.now ∷ [])) c.note_run-noted.result c.settle.result c.note_run-noted.new.self c.settle.new.self c.settle.ensures.result c.settle.ensures.ok (c.note_run-noted.ensures Text c.args._name.now c.args.bytes.now tt refl)

@@ -1,0 +1,7 @@
+use Rattle.std.proofs.Common.{◌≡◌, true, take}
+use Rattle.std.specs.List.{flat_map}
+use Rattle.listing3.specs.Listing.{quoted_byte}
+use Rattle.listing3.proofs.room.are_plain.Given as goal
+
+abbrev pub invariant-loop-i : goal.invariant-loop-i
+invariant-loop-i l = l.plain ≡ true → flat_map quoted_byte (take l.i l.bytes) ≡ take l.i l.bytes

@@ -1,0 +1,7 @@
+use Rattle.std.proofs.Common.{arith}
+use Rattle.listing3.proofs.Digits.{after_digits, decimal_eight}
+use Rattle.listing3.proofs.room.put_long.Goals as goal
+
+pub returns-clause-written : goal.returns-clause-written
+returns-clause-written c =
+    after_digits _ _ _ _ _ _ c.put_eight.ensures.written c.put_front-end.ensures.written (decimal_eight c.args.n (omega arith) (omega arith))
