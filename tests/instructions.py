@@ -23,14 +23,14 @@ import make  # noqa: E402
 
 # The most instructions, in millions.
 LIMITS = {
-    'check small': 8.0,
+    'check small': 7.4,
     'canon small': 12.1,
-    'show small': 27.6,
-    'same small': 22.7,
+    'show small': 22.4,
+    'same small': 21.2,
     'check mixed': 5.5,
     'canon mixed': 14.3,
-    'show mixed': 21.8,
-    'same mixed': 21.7,
+    'show mixed': 20.8,
+    'same mixed': 13.4,
     'pack small': 0.39,
     'nfs3mask small': 19.8,
     'nfs3mask mixed': 17.8,
