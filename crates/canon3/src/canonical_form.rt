@@ -133,6 +133,11 @@ impl<S: BuildHasher + Drop> EntryWriter for MessageWriter<S> {
         follow(self, sink, entry)
     }
 
+    #[inline(always)]
+    fn expect(&mut self, xids: &[u32]) {
+        self.expect_xids(xids);
+    }
+
     fn handles(&self) -> u32 {
         self.handles.len()
     }

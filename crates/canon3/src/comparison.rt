@@ -271,11 +271,14 @@ impl<S: BuildHasher + Drop> Comparison<S> {
         ensures same_second { loan_of second.new ≡ loan_of second.old }
     {
         match first.next(&mut self.first) {
-            Ok(Some(_)) => match first.entry() {
-                Some(entry) => self.meet(entry, second),
-                // An entry was just returned.
-                None => unreachable!(),
-            },
+            Ok(Some(_)) => {
+                self.first.expect_xids(first.upcoming_xids());
+                match first.entry() {
+                    Some(entry) => self.meet(entry, second),
+                    // An entry was just returned.
+                    None => unreachable!(),
+                }
+            }
             Ok(None) => Ok(Some(Finding::Ended)),
             Err(error) => Err(SameError {
                 which: Which::First,
@@ -304,11 +307,14 @@ impl<S: BuildHasher + Drop> Comparison<S> {
         ensures same_reference { loan_of second.new ≡ loan_of second.old }
     {
         match second.next(&mut self.second) {
-            Ok(Some(_)) => match second.entry() {
-                Some(other) => Ok(self.compare(entry, other)?.map(Finding::Parted)),
-                // An entry was just returned.
-                None => unreachable!(),
-            },
+            Ok(Some(_)) => {
+                self.second.expect_xids(second.upcoming_xids());
+                match second.entry() {
+                    Some(other) => Ok(self.compare(entry, other)?.map(Finding::Parted)),
+                    // An entry was just returned.
+                    None => unreachable!(),
+                }
+            }
             Ok(None) => Ok(Some(Finding::Ended)),
             Err(error) => refused(error),
         }

@@ -1,6 +1,6 @@
 //! What entries are written as, to a sink.
 
-ghost use Rattle.std.specs.Prelude.{◌≡◌, IfErr, OnErr, OnOk};
+ghost use Rattle.std.specs.Prelude.{◌≡◌, ◌++◌, IfErr, OnErr, OnOk};
 ghost use Rattle.std.specs.Io.KnownBytes.{Appends};
 ghost use Rattle.xdr3.specs.Item.{word_bytes};
 ghost use Rattle.canon3.specs.Bytes.{chunk_bytes, record_bytes};
@@ -42,8 +42,8 @@ pub(crate) fn write_spelling<W: Sink, S: BuildHasher + Drop>(
     match form {
         Spelling::Zero => write_word(sink, 0),
         Spelling::One => write_word(sink, 1),
-        Spelling::Message(body) => match message_writer.compose(body) {
-            Ok(len) => write_message(sink, &message_writer.room[..len]),
+        Spelling::Message(body) => match message_writer.compose_front(body) {
+            Ok((len, rest)) => write_in_two(sink, &message_writer.room[..len], rest),
             Err(_) => Err(Error::Memory),
         },
     }
@@ -85,10 +85,24 @@ pub fn write_message<W: Sink>(sink: &mut W, message: &[u8]) -> Result<(), Error>
     ensures count { CountsWriting (W.failures sink.old) (W.failures sink.new) result }
     ensures error { IfErr result IsOfWriting }
 {
-    if message.len() > BODY_LIMIT as usize {
+    write_in_two(sink, message, &[])
+}
+
+/// Writes a message of two parts as `write_message` does.
+fn write_in_two<W: Sink>(sink: &mut W, front: &[u8], rest: &[u8]) -> Result<(), Error>
+    ensures ok { OnOk result
+        (Appends (W.written sink.old) (W.written sink.new)
+        (chunk_bytes (record_bytes (front.now ++ rest.now)))) }
+    ensures err { OnErr result
+        (AppendsFront (W.written sink.old) (W.written sink.new)
+        (chunk_bytes (record_bytes (front.now ++ rest.now)))) }
+    ensures count { CountsWriting (W.failures sink.old) (W.failures sink.new) result }
+    ensures error { IfErr result IsOfWriting }
+{
+    if front.len().saturating_add(rest.len()) > BODY_LIMIT as usize {
         return Err(Error::Memory);
     }
-    match write_record(sink, message) {
+    match write_record(sink, front, rest) {
         Ok(()) => Ok(()),
         Err(_) => Err(Error::Write),
     }

@@ -67,6 +67,16 @@ impl<S: BuildHasher + Drop> OtherXids<S> {
         Ok(next)
     }
 
+    /// Loads what `number_of` reads first for these xids, if the table is large. It changes no
+    /// number.
+    pub(crate) fn touch(&mut self, xids: &[u32])
+        ensures { self.new ≡ self.old }
+    {
+        if self.numbers.is_large() {
+            self.numbers.touch(xids);
+        }
+    }
+
     /// Drops the xids, and keeps the hasher. Its cost does not depend on them.
     pub(crate) fn clear(&mut self)
         ensures { self.new ≡ [] }

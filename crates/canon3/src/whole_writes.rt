@@ -27,18 +27,34 @@ pub fn write_all<W: Sink>(sink: &mut W, bytes: &[u8]) -> Result<(), DeviceFailed
     Ok(())
 }
 
-/// Writes a record's body of at most 16,777,216 bytes as one chunk that is one last fragment. After
-/// an error a prefix of the chunk was written.
-pub(crate) fn write_record<W: Sink>(sink: &mut W, body: &[u8]) -> Result<(), DeviceFailed>
-    requires { length body.now ≤ max_body }
+/// Writes both, one after the other. After an error a prefix of both was written.
+fn write_both<W: Sink>(sink: &mut W, first: &[u8], second: &[u8]) -> Result<(), DeviceFailed>
     ensures ok { OnOk result (Appends (W.written sink.old) (W.written sink.new)
-        (chunk_bytes (record_bytes body.now))) }
+        (first.now ++ second.now)) }
     ensures err { OnErr result (AppendsFront (W.written sink.old) (W.written sink.new)
-        (chunk_bytes (record_bytes body.now))) }
+        (first.now ++ second.now)) }
     ensures count { Counts (W.failures sink.old) (W.failures sink.new) result }
 {
-    write_all(sink, &front(body.len() as u32))?;
-    write_all(sink, body)
+    write_all(sink, first)?;
+    write_all(sink, second)
+}
+
+/// Writes a record's body as one chunk that is one last fragment. The body is in two parts, which
+/// have at most 16,777,216 bytes. After an error a prefix of the chunk was written.
+pub(crate) fn write_record<W: Sink>(
+    sink: &mut W,
+    body: &[u8],
+    rest: &[u8],
+) -> Result<(), DeviceFailed>
+    requires { length body.now + length rest.now ≤ max_body }
+    ensures ok { OnOk result (Appends (W.written sink.old) (W.written sink.new)
+        (chunk_bytes (record_bytes (body.now ++ rest.now)))) }
+    ensures err { OnErr result (AppendsFront (W.written sink.old) (W.written sink.new)
+        (chunk_bytes (record_bytes (body.now ++ rest.now)))) }
+    ensures count { Counts (W.failures sink.old) (W.failures sink.new) result }
+{
+    write_all(sink, &front((body.len() + rest.len()) as u32))?;
+    write_both(sink, body, rest)
 }
 
 /// Returns the length of the chunk of a body of `len` bytes, and the body's header.

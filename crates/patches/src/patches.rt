@@ -89,15 +89,42 @@ impl Patches {
             ≡ take at room.old.items ++ patched self.now body.now) }
         ensures kept { take at room.new.items ≡ take at room.old.items }
     {
+        let (end, rest) = self.write_front(body, room, at)?;
+        Ok(put_bytes(room, end, rest))
+    }
+
+    /// Writes the patched body into a buffer at `at`, but for the bytes that stay after the last
+    /// replacement. Returns the position after what was written, and those bytes. The buffer is
+    /// made so long that they fit in too; what follows the position means nothing.
+    ///
+    /// # Errors
+    ///
+    /// `AllocError` if an allocation fails.
+    pub fn write_front<'b>(
+        &self,
+        body: &'b [u8],
+        room: &mut Vec<u8>,
+        at: usize,
+    ) -> Result<(usize, &'b [u8]), AllocError>
+        requires { at ≤ vec_len room.old }
+        ensures within { IfOk result (λ r. r.0 + length r.1.now ≤ vec_len room.new) }
+        ensures written { IfOk result (λ r. take r.0 room.new.items ++ r.1.now
+            ≡ take at room.old.items ++ patched self.now body.now) }
+        ensures from { IfOk result (λ r. at ≤ r.0) }
+        ensures kept { take at room.new.items ≡ take at room.old.items }
+    {
         make_room(room, at, most_bytes(body.len(), self.parts.len()))?;
         Ok(self.put(body, room, at))
     }
 
-    /// Writes the patched body at `at`, and returns the position after it.
-    fn put(&self, body: &[u8], room: &mut [u8], at: usize) -> usize
+    /// Writes the patched body at `at`, but for the bytes that stay after the last replacement.
+    /// Returns the position after what was written, and those bytes.
+    fn put<'b>(&self, body: &'b [u8], room: &mut [u8], at: usize) -> (usize, &'b [u8])
         requires { at + (length body.now + 8 * length self.now.parts) ≤ length room.old }
-        ensures within { result ≤ length room.new }
-        ensures written { take result room.new ≡ take at room.old ++ patched self.now body.now }
+        ensures within { result.0 + length result.1.now ≤ length room.new }
+        ensures written { take result.0 room.new ++ result.1.now
+            ≡ take at room.old ++ patched self.now body.now }
+        ensures from { at ≤ result.0 }
         ensures kept { take at room.new ≡ take at room.old }
         ensures len { length room.new ≡ length room.old }
     {
@@ -107,7 +134,7 @@ impl Patches {
             end = put_part(room, end, rest, part);
             rest = after(rest, part);
         }
-        put_bytes(room, end, front(rest, self.kept))
+        (end, front(rest, self.kept))
     }
 
     /// Returns `true` only if both patched bodies have the same bytes. It compares what lies in the

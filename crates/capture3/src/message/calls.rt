@@ -1,6 +1,6 @@
 //! The calls of a connection.
 
-ghost use Rattle.std.specs.Prelude.{◌≡◌, [], IfOk, IsTrue};
+ghost use Rattle.std.specs.Prelude.{◌≡◌, ◌≤◌, [], IfOk, IsTrue};
 ghost use Rattle.capture3.specs.machinery.Calls.{found, Gains};
 ghost use Rattle.capture3.specs.BodyProgram.{agrees};
 
@@ -9,6 +9,9 @@ use rpc_head::ProcId;
 use std::alloc::{AllocError, Global};
 use std::hash::BuildHasher;
 use std::marker::Model;
+
+/// How many records are looked ahead to at most.
+pub(crate) const MOST_AHEAD: usize = 128;
 
 #[derive(Clone, Copy)]
 pub(crate) struct NumberedCall {
@@ -107,7 +110,10 @@ impl CallTable for CallList {
 #[derive(Drop)]
 pub(crate) struct HashedCalls<S: BuildHasher + Drop> {
     table: CountedCalls<S>,
-    // How many of the next look-ups have their slots loaded, by guess.
+    // The xids of the look-ups whose slots were loaded last, by guess.
+    touched: [u32; MOST_AHEAD],
+    touched_count: usize,
+    // How many of those look-ups are left after the next one.
     ahead: usize,
 }
 
@@ -126,6 +132,8 @@ impl<S: BuildHasher + Drop> HashedCalls<S> {
     {
         HashedCalls {
             table: CountedCalls::new(alloc, hasher),
+            touched: [0; MOST_AHEAD],
+            touched_count: 0,
             ahead: 0,
         }
     }
@@ -143,14 +151,30 @@ impl<S: BuildHasher + Drop> HashedCalls<S> {
         false
     }
 
-    /// Loads what look-ups of these xids read first. The loads do not wait for one another. It
-    /// changes no result.
-    pub(crate) fn touch(&mut self, xids: &[u32])
+    /// Loads what look-ups of the first of these xids read first: of so many. The loads do not wait
+    /// for one another. It changes no result.
+    pub(crate) fn touch(&mut self, xids: &[u32; MOST_AHEAD], count: usize)
+        requires { count ≤ MOST_AHEAD }
         ensures { self.new ≡ self.old }
     {
-        self.table.touch(xids);
+        self.touched = *xids;
+        self.touched_count = count;
+        self.table.touch(&self.touched[..count]);
         // The first is the look-up that was counted.
-        self.ahead = xids.len().saturating_sub(1);
+        self.ahead = count.saturating_sub(1);
+    }
+
+    /// Returns the xids that were touched for the last look-up and the next ones, or none if they
+    /// were touched for an earlier look-up.
+    #[inline(always)]
+    pub(crate) fn just_touched(&self) -> &[u32] {
+        if self.ahead.saturating_add(1) != self.touched_count {
+            return &[];
+        }
+        match self.touched.get(..self.touched_count) {
+            Some(xids) => xids,
+            None => &[],
+        }
     }
 }
 

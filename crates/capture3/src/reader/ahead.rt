@@ -3,12 +3,9 @@
 
 ghost use Rattle.std.specs.Prelude.{◌≡◌, ◌≤◌};
 
-use crate::message::calls::HashedCalls;
+use crate::message::calls::{HashedCalls, MOST_AHEAD};
 use crate::reader::entry_parser::EntryParser;
 use std::hash::BuildHasher;
-
-/// How many records are looked ahead to at most.
-const MOST_AHEAD: usize = 128;
 
 /// The bits of a fragment's header that are its length.
 const LENGTH_BITS: u32 = 0x7FFF_FFFF;
@@ -98,6 +95,13 @@ impl<S: BuildHasher + Drop> EntryParser<HashedCalls<S>> {
         let (bytes, left) = self.container.upcoming(piece);
         let mut xids = [0; MOST_AHEAD];
         let count = gather_xids(bytes, left, &mut xids);
-        self.calls.touch(&xids[..count]);
+        self.calls.touch(&xids, count);
+    }
+
+    /// Returns the xids that the last look ahead found, if that was right before the last entry,
+    /// else none.
+    #[inline(always)]
+    pub(crate) fn upcoming_xids(&self) -> &[u32] {
+        self.calls.just_touched()
     }
 }

@@ -1,5 +1,5 @@
 -- What stays and what is replaced of the spellings of items.
-use Rattle.std.proofs.Common.{◌≡◌, ℕ, ◌+◌, ◌-◌, ◌^◌, ◌<◌, List, [], ◌∷◌, ◌++◌, length, replicate, take, drop, refl, sym, ap, ap₂, ◌∙◌, subst, arith, length-append, append-nil, append_assoc, Result, Ok, Err}
+use Rattle.std.proofs.Common.{◌≡◌, ℕ, ◌+◌, ◌^◌, ◌<◌, List, [], ◌∷◌, ◌++◌, length, replicate, take, drop, refl, sym, ap, ap₂, ◌∙◌, subst, arith, length-append, append-nil, append_assoc, Result, Ok, Err}
 use Rattle.std.specs.Prelude.{OnOk}
 use Rattle.std.proofs.lemmas.List.{nil_from_length, take-replicate}
 use Rattle.std.proofs.lemmas.Grind.{flat_map-append}

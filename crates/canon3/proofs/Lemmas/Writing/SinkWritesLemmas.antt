@@ -1,5 +1,5 @@
 -- What a sink has taken of bytes, piece by piece.
-use Rattle.std.proofs.Common.{◌≡◌, ℕ, List, [], ◌++◌, ◌∙◌, ap, append_assoc, append-nil, drop, sym, length, length-drop, take, take-append-drop, arith, ◌+◌, ◌^◌, ◌≤◌}
+use Rattle.std.proofs.Common.{◌≡◌, ℕ, List, [], ◌++◌, ◌∙◌, ap, append_assoc, append-nil, drop, sym, length, length-append, length-drop, take, take-append-drop, arith, ◌+◌, ◌^◌, ◌≤◌}
 use Rattle.std.proofs.lemmas.List.{take_all}
 use Rattle.std.specs.Prelude.{Option}
 use Rattle.std.specs.Io.KnownBytes.{Appends}
@@ -36,3 +36,6 @@ pub record_split : (front body : List ℕ) → front ≡ word_bytes (4 + length 
 record_split front body is =
     let size : length (record_bytes body) ≡ 4 + length body = omega arith in
     ap (λ n. word_bytes n ++ record_bytes body) size ∙ ap (λ (l : List ℕ). l ++ body) (sym is)
+
+pub record_split_of_two : (front body rest : List ℕ) → front ≡ word_bytes (4 + (length body + length rest)) ++ word_bytes (2 ^ 31 + (length body + length rest)) → chunk_bytes (record_bytes (body ++ rest)) ≡ front ++ (body ++ rest)
+record_split_of_two front body rest is = record_split front (body ++ rest) (is ∙ ap (λ (n : ℕ). word_bytes (4 + n) ++ word_bytes (2 ^ 31 + n)) (sym (length-append body rest)))

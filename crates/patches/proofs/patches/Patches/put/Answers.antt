@@ -28,6 +28,3 @@ loop-part-preserved c = record {
   from = omega (arith, c.loop-part.invariant.from, c.put_part-end.ensures.from);
   kept = kept_below c.args.at c.loop-part.end _ _ c.loop-part.invariant.from c.put_part-end.ensures.kept ∙ c.loop-part.invariant.kept;
 }
-
-pub returns-clause-kept : goal.returns-clause-kept
-returns-clause-kept c = kept_below c.args.at c.loop-part.end _ _ c.loop-part.invariant.from c.put_bytes.ensures.kept ∙ c.loop-part.invariant.kept
