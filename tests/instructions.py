@@ -28,7 +28,7 @@ LIMITS = {
     'show small': 22.4,
     'same small': 21.2,
     'check mixed': 5.5,
-    'canon mixed': 14.3,
+    'canon mixed': 13.1,
     'show mixed': 20.8,
     'same mixed': 13.4,
     'pack small': 0.39,
