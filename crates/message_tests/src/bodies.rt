@@ -31,6 +31,19 @@ fn a_body_is_written_with_its_replacements(rt: HostRuntime) {
 }
 
 #[test]
+fn the_end_of_a_body_is_returned(rt: HostRuntime) {
+    let mut patches = Patches::new(rt.alloc());
+    patches.keep(6);
+    ok(&rt, patches.replace(3, b"two.....", 3));
+    patches.keep(6);
+    let mut room = ok(&rt, FRONT.to_vec(rt.alloc()));
+    let at = room.len();
+    let (end, rest) = ok(&rt, patches.write_front(b"first one three", &mut room, at));
+    assert_same!(rt; room.get(..end), Some(b">>> first two".as_slice()));
+    assert_same!(rt; rest, b" three".as_slice());
+}
+
+#[test]
 fn alike_bodies_make_the_same_bytes(rt: HostRuntime) {
     let mut patches = Patches::new(rt.alloc());
     ok(&rt, patches.replace(1, b"xid     ", 3));
