@@ -256,7 +256,7 @@ def what_is_believed(tools: Tools) -> None:
     """docs/PROOFS.md has the counts of tools/believed, which prints each definition once."""
     rows = re.findall(r'^\| `(\w+::\w+)` \| \d+ \| [\d,]+ \| \d+ \|$', (TOP / 'docs/PROOFS.md').read_text(), re.M)
     tools.want('calls', rows, ['canon3::check', 'canon3::canon', 'canon3::same', 'listing3::show', 'masking3::mask', 'packing3::Packing',
-                               'nfs3canon::counted', 'program3::rewritten', 'nfs3canon::packed', 'nfs3mask::masked'])
+                               'nfs3canon::run_check', 'program3::run_rewriting', 'nfs3canon::run_pack', 'nfs3mask::run_mask'])
     counted = tools.tool('believed', '--count', *rows)
     tools.want('counts', (counted[0], counted[1] in (TOP / 'docs/PROOFS.md').read_text(), counted[2]), (0, True, ''))
     for name, row in zip(rows, counted[1].splitlines()):

@@ -11,11 +11,11 @@ use Rattle.capture3.specs.Entry.{Entry, items_of}
 use Rattle.capture3.specs.FirstFault.{FirstFault}
 use Rattle.capture3.specs.Reached.{Reached}
 use Rattle.capture3.specs.Typed.{Typed}
-use Rattle.canon3.specs.declared.passed.Passed.{Passed}
+use Rattle.canon3.specs.declared.entry_counts.EntryCounts.{EntryCounts}
 use Rattle.canon3.specs.declared.summary.Summary.{Summary}
 use Rattle.capture3.specs.declared.reader.entry.EntryRef.{EntryRef}
 use Rattle.canon3.specs.Laws.{AreFirst}
-use Rattle.canon3.specs.Passed.{ArePassed}
+use Rattle.canon3.specs.EntryCounts.{AreCounted}
 use Rattle.canon3.specs.Summary.{IsSummary}
 use Rattle.capture3.specs.Kept.{IsLent}
 use Rattle.canon3.specs.SinkWrites.{AppendsFront}
@@ -80,11 +80,11 @@ module _ {T : Type 0} (form : List Entry → List ℕ) (before : List Entry → 
 
   -- One lent entry more of a well-formed capture is written, or cut, whose items the writer was
   -- told after those of the entries before. The sink had some bytes, and has others now.
-  abbrev pub WritesOne : (was now : T) → Passed → EntryRef → (between new : Option (List ℕ))
+  abbrev pub WritesOne : (was now : T) → EntryCounts → EntryRef → (between new : Option (List ℕ))
       → {X : Type 0} → Result X Error → Type 0
-  WritesOne was now passed lent between new result =
+  WritesOne was now counts lent between new result =
       (old : Option (List ℕ)) (entries : List Entry) (one : Entry) → IsLent lent one
       → AreFirst (entries ++ one ∷ []) → length (entries ++ one ∷ []) < 2 ^ 32
-      → ArePassed passed entries
+      → AreCounted counts entries
       → stands was (before entries ++ items_of one) → Appends old between (form entries)
       → HasWrittenOrCut now old new (entries ++ one ∷ []) result

@@ -19,6 +19,6 @@ pub mod WriteErrors
 pub mod EntryWriter
 pub mod CanonicalForm
 pub mod Progress
-pub mod Passed
+pub mod EntryCounts
 pub mod Comparison
 pub mod machinery

@@ -10,16 +10,16 @@ ghost use Rattle.capture3.specs.Told.{GavePrefix};
 ghost use Rattle.canon3.specs.CanonicalForm.{canonical_bytes, RewritesGiven, WritesNoMore};
 ghost use Rattle.canon3.specs.EntryWriter.{WritesAll};
 ghost use Rattle.canon3.specs.machinery.FormSteps.{Follows, magic_before};
-ghost use Rattle.canon3.specs.Passed.{connections_in};
+ghost use Rattle.canon3.specs.EntryCounts.{connections_in};
 ghost use Rattle.capture3.specs.Kept.{IsLent};
 ghost use Rattle.capture3.specs.Entry.{items_of};
 ghost use Rattle.canon3.specs.WriteErrors.{CountsWriting, IsOfWriting};
 ghost use Rattle.canon3.specs.SinkWrites.{AppendsFront, IsFlushed};
 
 use crate::container_writer::write_spelling;
+use crate::entry_counts::EntryCounts;
 use crate::entry_writer::{EntryWriter, write_entries};
 use crate::message_writer::MessageWriter;
-use crate::passed::Passed;
 use crate::sink::Sink;
 use crate::spelling::spelling_of_entry;
 use crate::summary::Summary;
@@ -70,17 +70,17 @@ pub fn canon<R: Source, W: Sink, S: BuildHasher + Drop>(
 }
 
 /// Writes the magic, if no connection began.
-fn open<W: Sink>(passed: &Passed, sink: &mut W) -> Result<(), Error>
+fn open<W: Sink>(counts: &EntryCounts, sink: &mut W) -> Result<(), Error>
     ensures ok { OnOk result
         (Appends (W.written sink.old) (W.written sink.new)
-        (magic_before (connections_in passed.now))) }
+        (magic_before (connections_in counts.now))) }
     ensures err { OnErr result
         (AppendsFront (W.written sink.old) (W.written sink.new)
-        (magic_before (connections_in passed.now))) }
+        (magic_before (connections_in counts.now))) }
     ensures count { CountsWriting (W.failures sink.old) (W.failures sink.new) result }
     ensures error { IfErr result (λ error. error ≡ Error.Write) }
 {
-    if passed.connections() > 0 {
+    if counts.connections() > 0 {
         return Ok(());
     }
     match write_all(sink, &pack_header()) {
@@ -90,7 +90,7 @@ fn open<W: Sink>(passed: &Passed, sink: &mut W) -> Result<(), Error>
 }
 
 /// Writes the entry after the magic, and begins the next message.
-fn follow<S: BuildHasher + Drop, W: Sink>(
+fn write_after_magic<S: BuildHasher + Drop, W: Sink>(
     message_writer: &mut MessageWriter<S>,
     sink: &mut W,
     entry: EntryRef<'_>,
@@ -125,12 +125,12 @@ impl<S: BuildHasher + Drop> EntryWriter for MessageWriter<S> {
 
     fn write<W: Sink>(
         &mut self,
-        passed: &Passed,
+        counts: &EntryCounts,
         sink: &mut W,
         entry: EntryRef<'_>,
     ) -> Result<(), Error> {
-        open(passed, sink)?;
-        follow(self, sink, entry)
+        open(counts, sink)?;
+        write_after_magic(self, sink, entry)
     }
 
     #[inline(always)]

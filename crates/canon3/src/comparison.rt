@@ -17,7 +17,7 @@ use crate::entry_kind::kind_of;
 use crate::message_writer::MessageWriter;
 use crate::progress::Progress;
 use crate::spelling::{are_alike, spelling_of_entry};
-use crate::verdict::{SameError, Verdict, Which, wanting};
+use crate::verdict::{SameError, Verdict, Which, out_of_memory_in};
 use capture3::{Entries, EntryRef, Error, Fault, Hashers, Place, Silent, Source, new_block};
 use std::alloc::Global;
 use std::hash::BuildHasher;
@@ -55,11 +55,11 @@ pub fn same<A: Source, B: Source, S: BuildHasher + Drop>(
 {
     let block = match new_block(alloc) {
         Ok(block) => block,
-        Err(_) => return Err(wanting(Which::First)),
+        Err(_) => return Err(out_of_memory_in(Which::First)),
     };
     let other_block = match new_block(alloc) {
         Ok(block) => block,
-        Err(_) => return Err(wanting(Which::Second)),
+        Err(_) => return Err(out_of_memory_in(Which::Second)),
     };
     let mut entries = Entries::through(alloc, first_hashers.calls, first, block);
     let mut others = Entries::through(alloc, second_hashers.calls, second, other_block);
@@ -137,7 +137,7 @@ fn conclude<A: Source, B: Source, S: BuildHasher + Drop>(
     ensures same_first { loan_of first.new ≡ loan_of first.old }
     ensures same_second { loan_of second.new ≡ loan_of second.old }
 {
-    match read_out(first) {
+    match drain(first) {
         Ok(()) => match finding {
             Finding::Ended => read_second(second, Verdict::Same),
             Finding::Parted(place) => read_second(second, Verdict::Differ(place)),
@@ -167,7 +167,7 @@ fn read_second<R: Source, S: BuildHasher + Drop>(
     ensures write { IfErr result (λ error. error.error ≢ Error.Write) }
     ensures same_reference { loan_of entries.new ≡ loan_of entries.old }
 {
-    match read_out(entries) {
+    match drain(entries) {
         Ok(()) => Ok(verdict),
         Err(error) => Err(SameError {
             which: Which::Second,
@@ -177,7 +177,7 @@ fn read_second<R: Source, S: BuildHasher + Drop>(
 }
 
 /// Reads all entries that are left.
-fn read_out<R: Source, S: BuildHasher + Drop>(entries: &mut Entries<'_, R, S>) -> Result<(), Error>
+fn drain<R: Source, S: BuildHasher + Drop>(entries: &mut Entries<'_, R, S>) -> Result<(), Error>
     requires going { failure_of entries.old ≡ None }
     ensures out { (start : Told) (handed : List spec.Entry)
         → HasGivenOn R.told start entries.old handed
@@ -274,7 +274,7 @@ impl<S: BuildHasher + Drop> Comparison<S> {
             Ok(Some(_)) => {
                 self.first.expect_xids(first.upcoming_xids());
                 match first.entry() {
-                    Some(entry) => self.meet(entry, second),
+                    Some(entry) => self.compare_second_entry(entry, second),
                     // An entry was just returned.
                     None => unreachable!(),
                 }
@@ -288,7 +288,7 @@ impl<S: BuildHasher + Drop> Comparison<S> {
     }
 
     /// Takes the second's entry beside the first's, whose items were visited.
-    fn meet<B: Source>(
+    fn compare_second_entry<B: Source>(
         &mut self,
         entry: EntryRef<'_>,
         second: &mut Entries<'_, B, S>,
@@ -338,11 +338,11 @@ impl<S: BuildHasher + Drop> Comparison<S> {
     {
         let form = match spelling_of_entry(&mut self.first, entry) {
             Ok(form) => form,
-            Err(_) => return Err(wanting(Which::First)),
+            Err(_) => return Err(out_of_memory_in(Which::First)),
         };
         let other_form = match spelling_of_entry(&mut self.second, other) {
             Ok(form) => form,
-            Err(_) => return Err(wanting(Which::Second)),
+            Err(_) => return Err(out_of_memory_in(Which::Second)),
         };
         if are_alike(form, &mut self.first, other_form, &mut self.second)? {
             self.first.begin_message();

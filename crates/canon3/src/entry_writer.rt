@@ -9,14 +9,14 @@ ghost use Rattle.capture3.specs.Entry as spec;
 ghost use Rattle.capture3.specs.Laws.{most_entries};
 ghost use Rattle.canon3.specs.EntryWriter.{KeepsPrefixes, WritesAll, WritesGiven, WritesOne};
 ghost use Rattle.canon3.specs.machinery.WritingSteps.{WritesOn, HasWritten, IsEnded, WritesToTheEnd, IsWriting, WritesMore};
-ghost use Rattle.canon3.specs.Passed.{ArePassed, passed_steps};
+ghost use Rattle.canon3.specs.EntryCounts.{AreCounted, counted_steps};
 ghost use Rattle.canon3.specs.Rank.{distinct, number_limit};
 ghost use Rattle.canon3.specs.Values as values;
 ghost use Rattle.canon3.specs.WriteErrors.{CountsWriting, IsOfWriting};
 ghost use Rattle.canon3.specs.SinkWrites.{IsFlushed};
 
+use crate::entry_counts::EntryCounts;
 use crate::entry_kind::kind_of;
-use crate::passed::Passed;
 use crate::sink::Sink;
 use crate::summary::Summary;
 use capture3::{Entries, EntryRef, Error, Source, new_block};
@@ -46,12 +46,12 @@ pub trait EntryWriter: Visit {
     /// A prefix of the form is written then, and nothing can follow.
     fn write<W: Sink>(
         &mut self,
-        passed: &Passed,
+        counts: &EntryCounts,
         sink: &mut W,
         entry: EntryRef<'_>,
     ) -> Result<(), Error>
-        requires { passed_steps passed.now + 1 < 2 ^ 32 }
-        ensures writes { WritesOne form before Self.stands going self.old self.new passed.now
+        requires { counted_steps counts.now + 1 < 2 ^ 32 }
+        ensures writes { WritesOne form before Self.stands going self.old self.new counts.now
             entry.entry (W.written sink.old) (W.written sink.new) result }
         ensures count { CountsWriting (W.failures sink.old) (W.failures sink.new) result }
         ensures error { IfErr result IsOfWriting };
@@ -129,20 +129,20 @@ fn write_new<R: Source, W: Sink, E: EntryWriter, S: BuildHasher + Drop>(
     ensures write { CountsWriting (W.failures sink.old) (W.failures sink.new) result }
     ensures same_reference { loan_of entries.new ≡ loan_of entries.old }
 {
-    let mut passed = Passed::new();
-    write_rest(entries, &mut passed, sink, writer)?;
-    close(&passed, sink, writer)
+    let mut counts = EntryCounts::new();
+    write_rest(entries, &mut counts, sink, writer)?;
+    close(&counts, sink, writer)
 }
 
 /// Flushes the sink after the end.
 fn close<W: Sink, E: EntryWriter>(
-    passed: &Passed,
+    counts: &EntryCounts,
     sink: &mut W,
     writer: &E,
 ) -> Result<Summary, Error>
     ensures writes { (first told : Told) (old : Option (List ℕ)) (given : List ℕ)
         (entries : List spec.Entry) → IsEnded first told given entries
-        → HasWritten E.form E.before E.stands E.going writer.now passed.now old
+        → HasWritten E.form E.before E.stands E.going writer.now counts.now old
         (W.written sink.old) entries → WritesGiven E.form first told old
         (W.written sink.new) result }
     ensures flushes { OnOk result (IsFlushed (W.written sink.new) (W.flushed sink.new)) }
@@ -150,7 +150,7 @@ fn close<W: Sink, E: EntryWriter>(
     ensures error { IfErr result (λ error. error ≡ Error.Write) }
 {
     match sink.flush_all() {
-        Ok(()) => Ok(passed.summary(writer.handles())),
+        Ok(()) => Ok(counts.summary(writer.handles())),
         Err(_) => Err(Error::Write),
     }
 }
@@ -158,49 +158,49 @@ fn close<W: Sink, E: EntryWriter>(
 /// Writes all entries that are left.
 fn write_rest<R: Source, W: Sink, E: EntryWriter, S: BuildHasher + Drop>(
     entries: &mut Entries<'_, R, S>,
-    passed: &mut Passed,
+    counts: &mut EntryCounts,
     sink: &mut W,
     writer: &mut E,
 ) -> Result<(), Error>
     requires going { failure_of entries.old ≡ None }
     requires prefixes { KeepsPrefixes E.form }
-    requires room { passed_steps passed.old + entries_left entries.old ≤ most_entries }
+    requires room { counted_steps counts.old + entries_left entries.old ≤ most_entries }
     ensures over { (first : Told) (old : Option (List ℕ))
         → IsWriting E.form E.before E.stands E.going R.told first old entries.old writer.old
-        passed.old (W.written sink.old)
+        counts.old (W.written sink.old)
         → WritesToTheEnd E.form E.before E.stands E.going R.told first old entries.new writer.new
-        passed.new
+        counts.new
         (W.written sink.new) result }
     ensures read { CountsReads R.failures entries.old entries.new result }
     ensures write { CountsWriting (W.failures sink.old) (W.failures sink.new) result }
     ensures same_reference { loan_of entries.new ≡ loan_of entries.old }
 {
-    while write_next(entries, passed, sink, writer)? {}
+    while write_next(entries, counts, sink, writer)? {}
     Ok(())
 }
 
 /// Writes the next entry. Returns `false` at the end.
 fn write_next<R: Source, W: Sink, E: EntryWriter, S: BuildHasher + Drop>(
     entries: &mut Entries<'_, R, S>,
-    passed: &mut Passed,
+    counts: &mut EntryCounts,
     sink: &mut W,
     writer: &mut E,
 ) -> Result<bool, Error>
     requires going { failure_of entries.old ≡ None }
     requires prefixes { KeepsPrefixes E.form }
-    requires room { passed_steps passed.old + entries_left entries.old ≤ most_entries }
+    requires room { counted_steps counts.old + entries_left entries.old ≤ most_entries }
     ensures goes_on { (first : Told) (old : Option (List ℕ))
         → IsWriting E.form E.before E.stands E.going R.told first old entries.old writer.old
-        passed.old (W.written sink.old)
+        counts.old (W.written sink.old)
         → WritesOn E.form E.before E.stands E.going R.told first old entries.new writer.new
-        passed.new
+        counts.new
         (W.written sink.new) result }
     ensures fewer { IfOk result
         (λ more. IsTrue more → entries_left entries.new < entries_left entries.old) }
     ensures going { OnOk result (failure_of entries.new ≡ None) }
     ensures room { IfOk result
         (λ more. IsTrue more
-        → passed_steps passed.new + entries_left entries.new ≤ most_entries) }
+        → counted_steps counts.new + entries_left entries.new ≤ most_entries) }
     ensures read { CountsReads R.failures entries.old entries.new result }
     ensures write { CountsWriting (W.failures sink.old) (W.failures sink.new) result }
     ensures same_reference { loan_of entries.new ≡ loan_of entries.old }
@@ -209,7 +209,7 @@ fn write_next<R: Source, W: Sink, E: EntryWriter, S: BuildHasher + Drop>(
         Some(_) => {
             writer.expect(entries.upcoming_xids());
             match entries.entry() {
-                Some(entry) => write_one(passed, sink, writer, entry),
+                Some(entry) => write_one(counts, sink, writer, entry),
                 // An entry was just returned.
                 None => unreachable!(),
             }
@@ -220,20 +220,20 @@ fn write_next<R: Source, W: Sink, E: EntryWriter, S: BuildHasher + Drop>(
 
 /// Writes the entry, and counts it.
 fn write_one<W: Sink, E: EntryWriter>(
-    passed: &mut Passed,
+    counts: &mut EntryCounts,
     sink: &mut W,
     writer: &mut E,
     entry: EntryRef<'_>,
 ) -> Result<bool, Error>
-    requires { passed_steps passed.old + 1 < 2 ^ 32 }
+    requires { counted_steps counts.old + 1 < 2 ^ 32 }
     ensures more { IfOk result IsTrue }
-    ensures few { passed_steps passed.new ≤ passed_steps passed.old + 1 }
-    ensures writes { WritesMore E.form E.before E.stands E.going writer.old writer.new passed.old
-        passed.new entry.entry (W.written sink.old) (W.written sink.new) result }
+    ensures few { counted_steps counts.new ≤ counted_steps counts.old + 1 }
+    ensures writes { WritesMore E.form E.before E.stands E.going writer.old writer.new counts.old
+        counts.new entry.entry (W.written sink.old) (W.written sink.new) result }
     ensures count { CountsWriting (W.failures sink.old) (W.failures sink.new) result }
     ensures error { IfErr result IsOfWriting }
 {
-    writer.write(passed, sink, entry)?;
-    passed.add(kind_of(entry));
+    writer.write(counts, sink, entry)?;
+    counts.add(kind_of(entry));
     Ok(true)
 }

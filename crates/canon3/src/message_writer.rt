@@ -262,7 +262,7 @@ impl<S: BuildHasher + Drop> MessageWriter<S> {
     }
 
     /// Says nothing more of the tables after an error.
-    fn settle(&mut self, noted: Result<(), AllocError>) -> Result<(), AllocError>
+    fn fail_for_good(&mut self, noted: Result<(), AllocError>) -> Result<(), AllocError>
         ensures result { result ≡ noted }
         ensures ok { OnOk noted (self.new ≡ self.old) }
         ensures err { OnErr noted (self.new.stage ≡ Stage.Failed) }
@@ -284,7 +284,7 @@ impl<S: BuildHasher + Drop> Visit for MessageWriter<S> {
         match self.stage {
             Stage::Begins => {
                 let noted = self.take_xid(n);
-                self.settle(noted)
+                self.fail_for_good(noted)
             }
             Stage::Goes | Stage::Failed => {
                 self.patches.keep(4);
@@ -305,17 +305,17 @@ impl<S: BuildHasher + Drop> Visit for MessageWriter<S> {
 
     fn write_verf(&mut self, _name: &'static str, bytes: &[u8; 8]) -> Result<(), AllocError> {
         let noted = self.note_verifier(bytes);
-        self.settle(noted)
+        self.fail_for_good(noted)
     }
 
     fn var(&mut self, _name: &'static str, bytes: &[u8]) -> Result<(), AllocError> {
         let noted = self.note_run(bytes.len());
-        self.settle(noted)
+        self.fail_for_good(noted)
     }
 
     fn text(&mut self, _name: &'static str, bytes: &[u8]) -> Result<(), AllocError> {
         let noted = self.note_run(bytes.len());
-        self.settle(noted)
+        self.fail_for_good(noted)
     }
 
     fn handle(&mut self, _name: &'static str, bytes: &[u8]) -> Result<(), AllocError> {
@@ -324,7 +324,7 @@ impl<S: BuildHasher + Drop> Visit for MessageWriter<S> {
             return Ok(());
         }
         let noted = self.note_handle(bytes);
-        self.settle(noted)
+        self.fail_for_good(noted)
     }
 
     fn rest(&mut self, _name: &'static str, bytes: &[u8]) -> Result<(), AllocError> {
@@ -338,7 +338,7 @@ impl<S: BuildHasher + Drop> Visit for MessageWriter<S> {
         match self.stage {
             Stage::Begins => {
                 let noted = self.note_first(fields, bytes);
-                self.settle(noted)
+                self.fail_for_good(noted)
             }
             Stage::Goes | Stage::Failed => {
                 self.patches.keep(bytes.len());

@@ -9,7 +9,7 @@ ghost use Rattle.capture3.specs.Kept.{IsLent};
 ghost use Rattle.capture3.specs.Entry.{items_of};
 
 use crate::message_writer::{MessageWriter, after_xid};
-use crate::verdict::{SameError, Which, wanting};
+use crate::verdict::{SameError, Which, out_of_memory_in};
 use capture3::{EntryRef, Error};
 use std::alloc::AllocError;
 use std::hash::BuildHasher;
@@ -103,10 +103,10 @@ fn have_same_bytes<S: BuildHasher + Drop>(
         return Ok(true);
     }
     let Ok(len) = writer.compose(body) else {
-        return Err(wanting(Which::First));
+        return Err(out_of_memory_in(Which::First));
     };
     let Ok(other_len) = other.compose(other_body) else {
-        return Err(wanting(Which::Second));
+        return Err(out_of_memory_in(Which::Second));
     };
     Ok(writer.room[..len] == other.room[..other_len])
 }

@@ -7,12 +7,12 @@ ghost use Rattle.capture3.specs.machinery.EntriesHistory.{entries_left, StandsFo
 ghost use Rattle.capture3.specs.Entry as spec;
 ghost use Rattle.capture3.specs.FirstFault.{FirstFault};
 ghost use Rattle.capture3.specs.Laws.{most_entries};
-ghost use Rattle.canon3.specs.Passed.{passed_steps};
+ghost use Rattle.canon3.specs.EntryCounts.{counted_steps};
 ghost use Rattle.canon3.specs.Summary.{ConcludesAll, ConcludesGiven, IsSummary};
 ghost use Rattle.canon3.specs.machinery.Sums.{Sums};
 ghost use Rattle.canon3.specs.machinery.Tally.{TalliesOn, TalliesToTheEnd, IsTallying, Tallies};
 
-use crate::passed::Passed;
+use crate::entry_counts::EntryCounts;
 use crate::waiting_handles::WaitingHandles;
 use capture3::{Entries, Error, Hashers, Source, new_block};
 use std::alloc::{AllocError, Global};
@@ -85,17 +85,17 @@ fn summed<R: Source, S: BuildHasher + Drop>(
 /// What was counted so far.
 #[derive(Drop)]
 struct Tally<S: BuildHasher + Drop> {
-    passed: Passed,
+    counts: EntryCounts,
     handles: WaitingHandles<S>,
 }
 
 impl<S: BuildHasher + Drop> Tally<S> {
     fn new(alloc: Global, hasher: S) -> Tally<S>
         ensures tallies { Tallies result [] }
-        ensures none { passed_steps result.passed ≡ 0 }
+        ensures none { counted_steps result.counts ≡ 0 }
     {
         Tally {
-            passed: Passed::new(),
+            counts: EntryCounts::new(),
             handles: WaitingHandles::new(alloc, hasher),
         }
     }
@@ -103,7 +103,7 @@ impl<S: BuildHasher + Drop> Tally<S> {
     /// Counts all entries that are left.
     fn add_all<R: Source>(&mut self, entries: &mut Entries<'_, R, S>) -> Result<(), Error>
         requires going { failure_of entries.old ≡ None }
-        requires room { passed_steps self.old.passed + entries_left entries.old ≤ most_entries }
+        requires room { counted_steps self.old.counts + entries_left entries.old ≤ most_entries }
         ensures over { (first : Told) → IsTallying R.told first entries.old self.old
             → TalliesToTheEnd R.told first entries.new self.new result }
         ensures read { CountsReads R.failures entries.old entries.new result }
@@ -117,21 +117,21 @@ impl<S: BuildHasher + Drop> Tally<S> {
     /// Counts the next entry. Returns `false` at the end.
     fn add_next<R: Source>(&mut self, entries: &mut Entries<'_, R, S>) -> Result<bool, Error>
         requires going { failure_of entries.old ≡ None }
-        requires room { passed_steps self.old.passed + entries_left entries.old ≤ most_entries }
+        requires room { counted_steps self.old.counts + entries_left entries.old ≤ most_entries }
         ensures goes_on { (first : Told) → IsTallying R.told first entries.old self.old
             → TalliesOn R.told first entries.new self.new result }
         ensures fewer { IfOk result (λ more. IsTrue more
             → entries_left entries.new < entries_left entries.old) }
         ensures going { OnOk result (failure_of entries.new ≡ None) }
         ensures room { IfOk result (λ more. IsTrue more
-            → passed_steps self.new.passed + entries_left entries.new ≤ most_entries) }
+            → counted_steps self.new.counts + entries_left entries.new ≤ most_entries) }
         ensures read { CountsReads R.failures entries.old entries.new result }
         ensures write { IfErr result (λ error. error ≢ Error.Write) }
         ensures same_reference { loan_of entries.new ≡ loan_of entries.old }
     {
         match entries.next(&mut self.handles)? {
             Some(kind) => {
-                self.passed.add(kind);
+                self.counts.add(kind);
                 Ok(true)
             }
             None => Ok(false),
@@ -143,6 +143,6 @@ impl<S: BuildHasher + Drop> Tally<S> {
             → IfOk result (λ summary. Sums summary entries) }
     {
         let handles = self.handles.count()?;
-        Ok(self.passed.summary(handles))
+        Ok(self.counts.summary(handles))
     }
 }

@@ -39,7 +39,7 @@ pub struct SameError {
 }
 
 /// Returns that memory ran out for this one.
-pub(crate) fn wanting(which: Which) -> SameError
+pub(crate) fn out_of_memory_in(which: Which) -> SameError
     ensures which { result.which ≡ which }
     ensures error { result.error ≡ Error.Memory }
 {

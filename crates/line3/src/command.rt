@@ -34,12 +34,12 @@ fn taken(alloc: Global, words: &[String]) -> Result<(), LineFault>
     };
     match command.try_get_matches_from(words) {
         Ok(_matches) => Ok(()),
-        Err(error) => Err(told(alloc, error)),
+        Err(error) => Err(line_fault_of(alloc, error)),
     }
 }
 
 /// Returns the fault of a line that clap does not take: the text that clap writes, or that memory ran out.
-pub fn told(alloc: Global, error: clap::Error) -> LineFault
+pub fn line_fault_of(alloc: Global, error: clap::Error) -> LineFault
     ensures usage { IsUsage result }
     ensures memory { kind_of error ≡ ErrorKind.OutOfMemory → result ≡ LineFault.Memory }
 {

@@ -56,7 +56,7 @@ impl LineText {
     }
 
     /// If something else failed, drops the text after its first `before` bytes.
-    pub(crate) fn settle(
+    pub(crate) fn truncate_on_error(
         &mut self,
         before: usize,
         written: Result<(), AllocError>,

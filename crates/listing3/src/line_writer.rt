@@ -12,7 +12,7 @@ ghost use Rattle.capture3.specs.Entry.{items_of};
 ghost use Rattle.capture3.specs.Kept.{IsOfKind};
 ghost use Rattle.canon3.specs.HandleTable.{Gathers};
 ghost use Rattle.canon3.specs.Laws.{AreFirst};
-ghost use Rattle.canon3.specs.Passed.{connections_in, passed_steps, records_in};
+ghost use Rattle.canon3.specs.EntryCounts.{connections_in, counted_steps, records_in};
 ghost use Rattle.canon3.specs.machinery.Sums.{all_items};
 ghost use Rattle.canon3.specs.WriteErrors.{CountsWriting, IsOfWriting};
 ghost use Rattle.canon3.specs.SinkWrites.{AppendsFront};
@@ -21,7 +21,7 @@ ghost use Rattle.listing3.specs.Listing.{entry_line, line, opening, prefix, proc
 
 use crate::line_text::LineText;
 use byteorder::{BigEndian, ByteOrder};
-use canon3::{EntryWriter, HandleTable, Passed, Sink, kind_of, write_all};
+use canon3::{EntryCounts, EntryWriter, HandleTable, Sink, kind_of, write_all};
 use capture3::{DeviceFailed, EntryRef, Error, Kind};
 use procs3::proc_name;
 use rpc_head::ProcId;
@@ -95,7 +95,7 @@ impl<S: BuildHasher + Drop> LineWriter<S> {
         let before = self.items.bytes().len();
         self.items.append_hex(name, bytes)?;
         let gathered = self.handles.handle(name, bytes);
-        self.items.settle(before, gathered)
+        self.items.truncate_on_error(before, gathered)
     }
 
     /// Takes the first field, which is the xid, and then the others at once.
@@ -121,22 +121,22 @@ impl<S: BuildHasher + Drop> LineWriter<S> {
     /// Composes the line of the message whose items were visited.
     fn compose(
         &mut self,
-        passed: &Passed,
+        counts: &EntryCounts,
         side: &'static str,
         xid: u32,
         id: ProcId,
     ) -> Result<(), AllocError>
-        requires { passed_steps passed.now + 1 < 2 ^ 32 }
+        requires { counted_steps counts.now + 1 < 2 ^ 32 }
         ensures handles { self.new.handles ≡ self.old.handles }
         ensures head { OnOk result
             (self.new.head ≡
-            prefix (connections_in passed.now) side.now (records_in passed.now + 1)
+            prefix (connections_in counts.now) side.now (records_in counts.now + 1)
             ++ ((opening (codes "xid") ++ decimal xid) ++ (32 ∷ procedure_name id))) }
         ensures items { OnOk result (self.new.items ≡ self.old.items ++ 10 ∷ []) }
     {
         self.head.forget();
         self.head
-            .append_prefix(passed.connections(), side, passed.records() + 1)?;
+            .append_prefix(counts.connections(), side, counts.records() + 1)?;
         self.head.append_xid_and_name(xid, name_of_procedure(id))?;
         self.items.end_line()
     }
@@ -161,24 +161,24 @@ impl<S: BuildHasher + Drop> LineWriter<S> {
     /// Writes the line of the message whose items were visited. Each message has an xid.
     fn write_line<W: Sink>(
         &mut self,
-        passed: &Passed,
+        counts: &EntryCounts,
         sink: &mut W,
         side: &'static str,
         id: ProcId,
     ) -> Result<(), Error>
-        requires { passed_steps passed.now + 1 < 2 ^ 32 }
+        requires { counted_steps counts.now + 1 < 2 ^ 32 }
         ensures handles { self.new.handles ≡ self.old.handles }
         ensures ok { (front rest : List Item) (n : ℕ)
             → LineStands self.old (after_front front (Word head_names.xid n ∷ rest))
             → OnOk result
             (Appends (W.written sink.old) (W.written sink.new)
-            (line (connections_in passed.now) side.now (records_in passed.now + 1) id
+            (line (connections_in counts.now) side.now (records_in counts.now + 1) id
             (Word head_names.xid n ∷ rest))) }
         ensures err { (front rest : List Item) (n : ℕ)
             → LineStands self.old (after_front front (Word head_names.xid n ∷ rest))
             → OnErr result
             (AppendsFront (W.written sink.old) (W.written sink.new)
-            (line (connections_in passed.now) side.now (records_in passed.now + 1) id
+            (line (connections_in counts.now) side.now (records_in counts.now + 1) id
             (Word head_names.xid n ∷ rest))) }
         ensures count { CountsWriting (W.failures sink.old) (W.failures sink.new) result }
         ensures error { IfErr result IsOfWriting }
@@ -186,7 +186,7 @@ impl<S: BuildHasher + Drop> LineWriter<S> {
         let Some(xid) = self.xid else {
             return Ok(());
         };
-        match self.compose(passed, side, xid, id) {
+        match self.compose(counts, side, xid, id) {
             Ok(()) => self.hand_over(sink),
             Err(_) => Err(Error::Memory),
         }
@@ -195,30 +195,30 @@ impl<S: BuildHasher + Drop> LineWriter<S> {
     /// Writes the line of an entry that is a message, and whose items were visited.
     fn write_entry<W: Sink>(
         &mut self,
-        passed: &Passed,
+        counts: &EntryCounts,
         sink: &mut W,
         kind: Kind,
     ) -> Result<(), Error>
-        requires { passed_steps passed.now + 1 < 2 ^ 32 }
+        requires { counted_steps counts.now + 1 < 2 ^ 32 }
         ensures handles { self.new.handles ≡ self.old.handles }
         ensures ok { (entries : List spec.Entry) (one : spec.Entry) → IsOfKind kind one
             → AreFirst (entries ++ one ∷ [])
             → LineStands self.old (after_front (all_items entries) (items_of one))
             → OnOk result
             (Appends (W.written sink.old) (W.written sink.new)
-            (entry_line (connections_in passed.now) (records_in passed.now) one)) }
+            (entry_line (connections_in counts.now) (records_in counts.now) one)) }
         ensures err { (entries : List spec.Entry) (one : spec.Entry) → IsOfKind kind one
             → AreFirst (entries ++ one ∷ [])
             → LineStands self.old (after_front (all_items entries) (items_of one))
             → OnErr result
             (AppendsFront (W.written sink.old) (W.written sink.new)
-            (entry_line (connections_in passed.now) (records_in passed.now) one)) }
+            (entry_line (connections_in counts.now) (records_in counts.now) one)) }
         ensures count { CountsWriting (W.failures sink.old) (W.failures sink.new) result }
         ensures error { IfErr result IsOfWriting }
     {
         match kind {
-            Kind::Call(id) => self.write_line(passed, sink, "client", id),
-            Kind::Reply(id) => self.write_line(passed, sink, "server", id),
+            Kind::Call(id) => self.write_line(counts, sink, "client", id),
+            Kind::Reply(id) => self.write_line(counts, sink, "server", id),
             Kind::Begin | Kind::Turn | Kind::Close | Kind::End => Ok(()),
         }
     }
@@ -289,11 +289,11 @@ impl<S: BuildHasher + Drop> EntryWriter for LineWriter<S> {
 
     fn write<W: Sink>(
         &mut self,
-        passed: &Passed,
+        counts: &EntryCounts,
         sink: &mut W,
         entry: EntryRef<'_>,
     ) -> Result<(), Error> {
-        let written = self.write_entry(passed, sink, kind_of(entry));
+        let written = self.write_entry(counts, sink, kind_of(entry));
         self.begin_message();
         written
     }

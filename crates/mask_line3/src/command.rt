@@ -7,7 +7,7 @@ ghost use Rattle.mask_line3.specs.MaskLine.{AreMaskWordsRefused, AsksForMask};
 use crate::asked::MaskJob;
 use crate::change::changed;
 use crate::grammar::command;
-use line3::{LineFault, told, usage};
+use line3::{LineFault, line_fault_of, usage};
 use std::alloc::{AllocError, Global};
 
 /// Reads the words of a command line, the program's name first: the names of a capture and of an output, and
@@ -39,7 +39,7 @@ fn taken(alloc: Global, words: &[String]) -> Result<(), LineFault>
     };
     match command.try_get_matches_from(words) {
         Ok(_matches) => Ok(()),
-        Err(error) => Err(told(alloc, error)),
+        Err(error) => Err(line_fault_of(alloc, error)),
     }
 }
 

@@ -6,7 +6,7 @@ ghost use Rattle.capture3.specs.Entries.{CountsReading};
 ghost use Rattle.capture3.specs.Told.{GavePrefix};
 ghost use Rattle.canon3.specs.EntryWriter.{WritesAll, WritesGiven};
 ghost use Rattle.canon3.specs.machinery.FormSteps.{magic_before};
-ghost use Rattle.canon3.specs.Passed.{connections_in};
+ghost use Rattle.canon3.specs.EntryCounts.{connections_in};
 ghost use Rattle.canon3.specs.WriteErrors.{CountsWriting};
 ghost use Rattle.canon3.specs.SinkWrites.{AppendsFront, IsFlushed};
 ghost use Rattle.masking3.specs.Masked.{masked_bytes};
@@ -14,7 +14,7 @@ ghost use Rattle.masking3.specs.Masked.{masked_bytes};
 use crate::hashers::MaskHashers;
 use crate::masking_writer::{MaskingWriter, Plan};
 use crate::ways::Ways;
-use canon3::{EntryWriter, Passed, Sink, Summary, kind_of, write_all, write_entries};
+use canon3::{EntryCounts, EntryWriter, Sink, Summary, kind_of, write_all, write_entries};
 use capture3::{EntryRef, Error, Source, pack_header};
 use std::alloc::Global;
 use std::hash::BuildHasher;
@@ -78,17 +78,17 @@ fn mask_by_plan<P: Plan, R: Source, W: Sink, S: BuildHasher + Drop>(
 }
 
 /// Writes the magic, if no connection began.
-fn open<W: Sink>(passed: &Passed, sink: &mut W) -> Result<(), Error>
+fn open<W: Sink>(counts: &EntryCounts, sink: &mut W) -> Result<(), Error>
     ensures ok { OnOk result
         (Appends (W.written sink.old) (W.written sink.new)
-        (magic_before (connections_in passed.now))) }
+        (magic_before (connections_in counts.now))) }
     ensures err { OnErr result
         (AppendsFront (W.written sink.old) (W.written sink.new)
-        (magic_before (connections_in passed.now))) }
+        (magic_before (connections_in counts.now))) }
     ensures count { CountsWriting (W.failures sink.old) (W.failures sink.new) result }
     ensures error { IfErr result (λ error. error ≡ Error.Write) }
 {
-    if passed.connections() > 0 {
+    if counts.connections() > 0 {
         return Ok(());
     }
     match write_all(sink, &pack_header()) {
@@ -109,14 +109,14 @@ impl<P: Plan, S: BuildHasher + Drop> EntryWriter for MaskingWriter<P, S> {
 
     fn write<W: Sink>(
         &mut self,
-        passed: &Passed,
+        counts: &EntryCounts,
         sink: &mut W,
         entry: EntryRef<'_>,
     ) -> Result<(), Error> {
         if self.failed {
             return Err(Error::Memory);
         }
-        open(passed, sink)?;
+        open(counts, sink)?;
         self.write_entry(sink, kind_of(entry))?;
         self.begin_message();
         Ok(())

@@ -131,7 +131,7 @@ impl<P: Plan, S: BuildHasher + Drop> MaskingWriter<P, S> {
     }
 
     /// Says nothing more of the tables after an error.
-    fn settle(&mut self, written: Result<(), AllocError>) -> Result<(), AllocError>
+    fn fail_for_good(&mut self, written: Result<(), AllocError>) -> Result<(), AllocError>
         ensures result { result ≡ written }
         ensures ok { OnOk written (self.new ≡ self.old) }
         ensures err { OnErr written (self.new.failed ≡ true) }
@@ -208,17 +208,17 @@ impl<P: Plan, S: BuildHasher + Drop> Visit for MaskingWriter<P, S> {
 
     fn word(&mut self, name: &'static str, n: u32) -> Result<(), AllocError> {
         let written = self.write_masked_word(name, n);
-        self.settle(written)
+        self.fail_for_good(written)
     }
 
     fn hyper(&mut self, name: &'static str, n: u64) -> Result<(), AllocError> {
         let written = self.write_masked_hyper(name, n);
-        self.settle(written)
+        self.fail_for_good(written)
     }
 
     fn fixed(&mut self, name: &'static str, bytes: &[u8; 8]) -> Result<(), AllocError> {
         let written = self.write_masked_fixed(name, bytes);
-        self.settle(written)
+        self.fail_for_good(written)
     }
 
     fn write_verf(&mut self, name: &'static str, bytes: &[u8; 8]) -> Result<(), AllocError> {
@@ -235,7 +235,7 @@ impl<P: Plan, S: BuildHasher + Drop> Visit for MaskingWriter<P, S> {
 
     fn handle(&mut self, name: &'static str, bytes: &[u8]) -> Result<(), AllocError> {
         let written = self.write_handle(name, bytes);
-        self.settle(written)
+        self.fail_for_good(written)
     }
 
     fn rest(&mut self, name: &'static str, bytes: &[u8]) -> Result<(), AllocError> {

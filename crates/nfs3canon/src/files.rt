@@ -14,7 +14,7 @@ use std::hash::BuildHasher;
 
 /// Checks the file of this name. The code cannot tell which files it has, so it says of the system's what
 /// it says of any that hold the same bytes.
-pub fn counted<F: Files, S: BuildHasher + Drop>(
+pub fn run_check<F: Files, S: BuildHasher + Drop>(
     alloc: Global,
     hashers: Hashers<S>,
     files: &F,
@@ -30,7 +30,7 @@ pub fn counted<F: Files, S: BuildHasher + Drop>(
 }
 
 /// Compares the files of these names in the same way. Both are open before either is read.
-pub fn compared<F: Files, S: BuildHasher + Drop>(
+pub fn run_same<F: Files, S: BuildHasher + Drop>(
     alloc: Global,
     hashers: Hashers<S>,
     other_hashers: Hashers<S>,

@@ -6,14 +6,14 @@ ghost use Rattle.program3.specs.Files.{RewritesFile};
 ghost use Rattle.nfs3canon.specs.Answers.{AnswersJob, AnswersLine};
 ghost use Rattle.nfs3canon.specs.Files.{ComparesFiles, CountsFile, ListsFile};
 
-use crate::files::{compared, counted};
+use crate::files::{run_check, run_same};
 use crate::forms::Canonical;
-use crate::listing::listed;
-use crate::packing::packed;
+use crate::listing::run_show;
+use crate::packing::run_pack;
 use canon3::{SameError, Which};
 use capture3::{Error, Hashers};
 use line3::{Job, job};
-use program3::{Ended, Files, Outcome, SecretHasher, hashers, rewritten};
+use program3::{Ended, Files, Outcome, SecretHasher, hashers, run_rewriting};
 use std::alloc::Global;
 use std::hash::BuildHasher;
 use std::io;
@@ -79,7 +79,7 @@ fn done<F: Files, H: Hashing, W: Write + Drop>(
             let outcome = same(alloc, hashing, files, first, second);
             (Ended::printing(outcome), Some(stdout))
         }
-        Job::Pack(output, streams) => (packed(alloc, files, output, streams), Some(stdout)),
+        Job::Pack(output, streams) => (run_pack(alloc, files, output, streams), Some(stdout)),
     }
 }
 
@@ -88,7 +88,7 @@ fn check<F: Files, H: Hashing>(alloc: Global, hashing: &H, files: &F, name: &str
         → CountsFile name.now bytes result }
 {
     match hashing.hashers() {
-        Ok(hashers) => counted(alloc, hashers, files, name),
+        Ok(hashers) => run_check(alloc, hashers, files, name),
         Err(_) => Outcome::Counted(Err(Error::Read)),
     }
 }
@@ -104,7 +104,7 @@ fn show<F: Files, H: Hashing, W: Write + Drop>(
         → ListsFile W.contents name.now bytes stdout result.0 result.1 }
 {
     match hashing.hashers() {
-        Ok(hashers) => listed(alloc, hashers, files, name, stdout),
+        Ok(hashers) => run_show(alloc, hashers, files, name, stdout),
         Err(_) => (Outcome::Listed(Err(Error::Read)), Some(stdout)),
     }
 }
@@ -121,7 +121,7 @@ fn canon<F: Files, H: Hashing>(
         (F.finished files.old) (F.finished files.new) result.outcome }
 {
     match hashing.hashers() {
-        Ok(hashers) => rewritten(alloc, Canonical { hashers }, files, input, output),
+        Ok(hashers) => run_rewriting(alloc, Canonical { hashers }, files, input, output),
         Err(_) => Ended::printing(Outcome::Counted(Err(Error::Read))),
     }
 }
@@ -139,7 +139,7 @@ fn same<F: Files, H: Hashing>(
 {
     match (hashing.hashers(), hashing.hashers()) {
         (Ok(hashers), Ok(other_hashers)) => {
-            compared(alloc, hashers, other_hashers, files, first, second)
+            run_same(alloc, hashers, other_hashers, files, first, second)
         }
         _ => Outcome::Compared(Err(SameError {
             which: Which::First,

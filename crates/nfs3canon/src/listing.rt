@@ -15,7 +15,7 @@ use std::io::Write;
 
 /// Lists the file of this name to a writer. The lines before a fault are written too. Returns the writer,
 /// unless memory ran out for what is gathered before it is written.
-pub fn listed<F: Files, W: Write + Drop, S: BuildHasher + Drop>(
+pub fn run_show<F: Files, W: Write + Drop, S: BuildHasher + Drop>(
     alloc: Global,
     hashers: Hashers<S>,
     files: &F,

@@ -14,7 +14,7 @@ use std::alloc::Global;
 
 /// Packs the streams of these names, pair by pair, into a capture of another name. The output is made first,
 /// and then each pair is opened in turn.
-pub fn packed<F: Files>(alloc: Global, files: &mut F, output: &str, streams: &[String]) -> Ended
+pub fn run_pack<F: Files>(alloc: Global, files: &mut F, output: &str, streams: &[String]) -> Ended
     ensures packs { let names = map string_bytes streams.now in (pairs : List Streams)
         → HoldStreams (F.holds files.old) names pairs
         → PacksFile output.now names pairs (F.finished files.old) (F.finished files.new)

@@ -7,7 +7,7 @@ use crate::jobs::answered;
 use crate::{files, listing, packing};
 use canon3::{Summary, Verdict};
 use capture3::{Error, Fault, Place};
-use program3::{Files, Made, OpenError, Outcome, hashers, rewritten, uncounted, unopened};
+use program3::{Files, Made, OpenError, Outcome, hashers, run_rewriting, uncounted, unopened};
 use std::alloc::Global;
 use std::io;
 use std::io::ErrorKind;
@@ -170,7 +170,7 @@ fn canonical(rt: &HostRuntime, files: &mut MemFiles<'_>) -> Result<Outcome, Fail
     let canonical = Canonical {
         hashers: hashers(rt)?,
     };
-    Ok(rewritten(rt.alloc(), canonical, files, "in", "out").outcome)
+    Ok(run_rewriting(rt.alloc(), canonical, files, "in", "out").outcome)
 }
 
 // What came of it if a call fails, and how many files are finished.
@@ -229,7 +229,7 @@ fn no_file_is_finished_for_a_refused_capture(rt: HostRuntime) -> Result<(), Fail
 #[test]
 fn a_capture_is_counted(rt: HostRuntime) -> Result<(), Fail> {
     let files = MemFiles::new(rt.alloc(), &NULL, None);
-    let outcome = files::counted(rt.alloc(), hashers(&rt)?, &files, "in");
+    let outcome = files::run_check(rt.alloc(), hashers(&rt)?, &files, "in");
     assert!(rt; matches!(&outcome, Outcome::Counted(Ok(counts)) if *counts == COUNTS));
     Ok(())
 }
@@ -252,7 +252,7 @@ fn a_line_is_answered(rt: HostRuntime) -> Result<(), Fail> {
 fn a_file_is_the_same_as_itself(rt: HostRuntime) -> Result<(), Fail> {
     let files = MemFiles::new(rt.alloc(), &NULL, None);
     let (first, second) = (hashers(&rt)?, hashers(&rt)?);
-    let outcome = files::compared(rt.alloc(), first, second, &files, "in", "other");
+    let outcome = files::run_same(rt.alloc(), first, second, &files, "in", "other");
     assert!(rt; matches!(&outcome, Outcome::Compared(Ok(Verdict::Same))));
     Ok(())
 }
@@ -261,7 +261,7 @@ fn a_file_is_the_same_as_itself(rt: HostRuntime) -> Result<(), Fail> {
 fn the_lines_of_a_file(rt: HostRuntime) -> Result<(), Fail> {
     let files = MemFiles::new(rt.alloc(), &NULL, None);
     let lines = Vec::new(rt.alloc());
-    let (outcome, lines) = listing::listed(rt.alloc(), hashers(&rt)?, &files, "in", lines);
+    let (outcome, lines) = listing::run_show(rt.alloc(), hashers(&rt)?, &files, "in", lines);
     assert!(rt; matches!(&outcome, Outcome::Listed(Ok(counts)) if *counts == COUNTS));
     let wanted = b"1 client 1 xid=3735928559 NFSPROC3_NULL";
     assert!(rt; matches!(&lines, Some(lines) if lines.as_slice().starts_with(wanted)));
@@ -272,7 +272,7 @@ fn the_lines_of_a_file(rt: HostRuntime) -> Result<(), Fail> {
 fn a_file_that_is_not_opened_has_no_lines(rt: HostRuntime) -> Result<(), Fail> {
     let files = MemFiles::new(rt.alloc(), &NULL, Some(Call::Open));
     let lines = Vec::new(rt.alloc());
-    let (outcome, lines) = listing::listed(rt.alloc(), hashers(&rt)?, &files, "in", lines);
+    let (outcome, lines) = listing::run_show(rt.alloc(), hashers(&rt)?, &files, "in", lines);
     assert!(rt; matches!(&outcome, Outcome::Unopened(name) if name.as_str() == "in"));
     assert!(rt; matches!(&lines, Some(lines) if lines.is_empty()));
     Ok(())
@@ -284,7 +284,7 @@ fn packed(rt: &HostRuntime, files: &mut MemFiles<'_>) -> Result<Outcome, Fail> {
         String::from_str(rt.alloc(), "client")?,
         String::from_str(rt.alloc(), "server")?,
     ];
-    Ok(packing::packed(rt.alloc(), files, "out", &streams).outcome)
+    Ok(packing::run_pack(rt.alloc(), files, "out", &streams).outcome)
 }
 
 #[test]

@@ -10,7 +10,7 @@ use canon3::{Sink, Summary};
 use capture3::{Error, Source};
 use mask_line3::{MaskJob, ways_told};
 use masking3::{MaskHashers, Ways, mask};
-use program3::{Ended, Files, Outcome, Rewriting, rewritten};
+use program3::{Ended, Files, Outcome, Rewriting, run_rewriting};
 use std::alloc::Global;
 use std::hash::BuildHasher;
 
@@ -38,7 +38,7 @@ impl<S: BuildHasher + Drop> Rewriting for MaskedForm<S> {
 
 /// Masks the capture of one name into the file of another. The output is made once the input is open, and
 /// there is memory for the words that tell the mask.
-pub fn masked<F: Files, S: BuildHasher + Drop>(
+pub fn run_mask<F: Files, S: BuildHasher + Drop>(
     alloc: Global,
     hashers: MaskHashers<S>,
     files: &mut F,
@@ -53,7 +53,7 @@ pub fn masked<F: Files, S: BuildHasher + Drop>(
         return Ended::printing(Outcome::Counted(Err(Error::Memory)));
     };
     let form = MaskedForm { hashers, ways };
-    let ended = rewritten(alloc, form, files, job.input, job.output);
+    let ended = run_rewriting(alloc, form, files, job.input, job.output);
     Ended {
         is_aside: ended.is_aside,
         outcome: with_mask_told(ended.outcome, told),

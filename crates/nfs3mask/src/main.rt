@@ -6,7 +6,7 @@ mod job;
 
 use capture3::Error;
 use hashers::mask_hashers;
-use job::masked;
+use job::run_mask;
 use mask_line3::{MaskJob, mask_job};
 use program3::{Ended, Outcome, System, print_ended, words};
 use std::process::ExitCode;
@@ -24,7 +24,7 @@ fn run(rt: &HostRuntime) -> Ended {
 
 fn done(rt: &HostRuntime, job: MaskJob<'_>) -> Ended {
     match mask_hashers(rt) {
-        Ok(hashers) => masked(rt.alloc(), hashers, &mut System::new(rt), job),
+        Ok(hashers) => run_mask(rt.alloc(), hashers, &mut System::new(rt), job),
         Err(_) => Ended::printing(Outcome::Counted(Err(Error::Read))),
     }
 }

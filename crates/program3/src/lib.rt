@@ -26,6 +26,6 @@ pub use opening::{OpenError, opened, uncounted, unopened};
 pub use outcome::{Ended, Outcome, Report};
 pub use place::Place;
 pub use printed::{on_standard_error, report};
-pub use rewriting::{Rewriting, form_written, named, rewritten};
+pub use rewriting::{Rewriting, form_written, named, run_rewriting};
 pub use system::System;
 pub use writing::{WRITTEN_AT_ONCE, written_out};

@@ -36,7 +36,7 @@ pub trait Rewriting {
 
 /// Reads the capture of one name, and writes the form of its entries to the file of another. The file gets
 /// its name once the form is whole and safe, and at no other end.
-pub fn rewritten<F: Files, J: Rewriting + Drop>(
+pub fn run_rewriting<F: Files, J: Rewriting + Drop>(
     alloc: Global,
     rewriting: J,
     files: &mut F,

@@ -10,13 +10,13 @@ use Rattle.capture3.specs.machinery.EntriesHistory.{StandsFor}
 use Rattle.capture3.specs.Entry.{Entry}
 use Rattle.capture3.specs.Typed.{Typed}
 use Rattle.canon3.specs.declared.summary.Tally.{Tally}
-use Rattle.canon3.specs.Passed.{ArePassed}
+use Rattle.canon3.specs.EntryCounts.{AreCounted}
 use Rattle.canon3.specs.machinery.Sums.{all_items}
 use Rattle.canon3.specs.machinery.WaitingHandles.{GathersAll}
 
 -- these entries came, and their handles were gathered
 pub record Tallies {S H : Type 0} (tally : Tally S H) (entries : List Entry) : Type 0 where
-  pub passed : ArePassed tally.passed entries
+  pub counts : AreCounted tally.counts entries
   pub handles : GathersAll tally.handles (all_items entries)
 
 -- the bytes met an error

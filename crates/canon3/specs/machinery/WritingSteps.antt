@@ -11,10 +11,10 @@ use Rattle.capture3.specs.Entries.{source_of}
 use Rattle.capture3.specs.machinery.EntriesHistory.{StandsFor}
 use Rattle.capture3.specs.Entry.{Entry, items_of}
 use Rattle.capture3.specs.Typed.{Typed}
-use Rattle.canon3.specs.declared.passed.Passed.{Passed}
+use Rattle.canon3.specs.declared.entry_counts.EntryCounts.{EntryCounts}
 use Rattle.capture3.specs.declared.reader.entry.EntryRef.{EntryRef}
 use Rattle.canon3.specs.Laws.{AreFirst}
-use Rattle.canon3.specs.Passed.{ArePassed}
+use Rattle.canon3.specs.EntryCounts.{AreCounted}
 use Rattle.capture3.specs.Kept.{IsLent}
 use Rattle.canon3.specs.SinkWrites.{AppendsFront}
 use Rattle.canon3.specs.EntryWriter.{IsStoppedBy}
@@ -23,26 +23,26 @@ use Rattle.canon3.specs.EntryWriter.{IsStoppedBy}
 module _ {T : Type 0} (form : List Entry → List ℕ) (before : List Entry → List Item)
     (stands : T → List Item → Type 0) (going : T → Type 0) where
   -- the writer stands for these entries, which came, and their form was written
-  pub record HasWritten (writer : T) (passed : Passed) (old new : Option (List ℕ))
+  pub record HasWritten (writer : T) (counts : EntryCounts) (old new : Option (List ℕ))
       (entries : List Entry) : Type 0 where
     pub goes : going writer
     pub stands_for : stands writer (before entries)
-    pub came : ArePassed passed entries
+    pub came : AreCounted counts entries
     pub written : Appends old new (form entries)
 
   -- the same, or a front of it was written
-  abbrev pub HasMore : {X : Type 0} → T → Passed → (old new : Option (List ℕ)) → List Entry
+  abbrev pub HasMore : {X : Type 0} → T → EntryCounts → (old new : Option (List ℕ)) → List Entry
       → Result X Error → Type 0
-  HasMore writer passed old new entries (Ok x) = HasWritten writer passed old new entries
-  HasMore writer passed old new entries (Err error) = AppendsFront old new (form entries)
+  HasMore writer counts old new entries (Ok x) = HasWritten writer counts old new entries
+  HasMore writer counts old new entries (Err error) = AppendsFront old new (form entries)
 
   -- one entry more is written, and came, or it is cut
-  abbrev pub WritesMore : (was now : T) → (passed after : Passed) → EntryRef
+  abbrev pub WritesMore : (was now : T) → (counts after : EntryCounts) → EntryRef
       → (between new : Option (List ℕ)) → {X : Type 0} → Result X Error → Type 0
-  WritesMore was now passed after lent between new result =
+  WritesMore was now counts after lent between new result =
       (old : Option (List ℕ)) (entries : List Entry) (one : Entry) → IsLent lent one
       → AreFirst (entries ++ one ∷ []) → length (entries ++ one ∷ []) < 2 ^ 32
-      → ArePassed passed entries
+      → AreCounted counts entries
       → stands was (before entries ++ items_of one) → Appends old between (form entries)
       → HasMore now after old new (entries ++ one ∷ []) result
 
@@ -58,21 +58,21 @@ module _ {T R S H : Type 0} {builds : BuildHasher.Ghosts S H} {hashes : Hasher.G
     (form : List Entry → List ℕ) (before : List Entry → List Item) (stands : T → List Item → Type 0)
     (going : T → Type 0) (told : R → Told) (first : Told) (old : Option (List ℕ)) where
   -- what it handed out was written
-  pub record IsWriting (reader : Entries R S H builds hashes) (writer : T) (passed : Passed)
+  pub record IsWriting (reader : Entries R S H builds hashes) (writer : T) (counts : EntryCounts)
       (new : Option (List ℕ)) : Type 0 where
     pub given : List ℕ
     pub handed : List Entry
     pub consumed : Gave first (told (source_of reader)) given
     pub reads : StandsFor told reader given handed
-    pub writes : HasWritten form before stands going writer passed old new handed
+    pub writes : HasWritten form before stands going writer counts old new handed
 
   -- all bytes were a capture's, and the form of all its entries was written
-  pub record HasWrittenAll (reader : Entries R S H builds hashes) (writer : T) (passed : Passed)
-      (new : Option (List ℕ)) : Type 0 where
+  pub record HasWrittenAll (reader : Entries R S H builds hashes) (writer : T)
+      (counts : EntryCounts) (new : Option (List ℕ)) : Type 0 where
     pub given : List ℕ
     pub handed : List Entry
     pub ended : IsEnded first (told (source_of reader)) given handed
-    pub writes : HasWritten form before stands going writer passed old new handed
+    pub writes : HasWritten form before stands going writer counts old new handed
 
   pub record HasStopped (reader : Entries R S H builds hashes) (new : Option (List ℕ))
       (error : Error) : Type 0 where
@@ -80,13 +80,13 @@ module _ {T R S H : Type 0} {builds : BuildHasher.Ghosts S H} {hashes : Hasher.G
     pub consumed : Gave first (told (source_of reader)) given
     pub stopped : IsStoppedBy form error (told (source_of reader)) given old new
 
-  abbrev pub WritesOn : Entries R S H builds hashes → T → Passed → Option (List ℕ)
+  abbrev pub WritesOn : Entries R S H builds hashes → T → EntryCounts → Option (List ℕ)
       → Result Bool Error → Type 0
-  WritesOn reader writer passed new (Ok true) = IsWriting reader writer passed new
-  WritesOn reader writer passed new (Ok false) = HasWrittenAll reader writer passed new
-  WritesOn reader writer passed new (Err error) = HasStopped reader new error
+  WritesOn reader writer counts new (Ok true) = IsWriting reader writer counts new
+  WritesOn reader writer counts new (Ok false) = HasWrittenAll reader writer counts new
+  WritesOn reader writer counts new (Err error) = HasStopped reader new error
 
-  abbrev pub WritesToTheEnd : {X : Type 0} → Entries R S H builds hashes → T → Passed
+  abbrev pub WritesToTheEnd : {X : Type 0} → Entries R S H builds hashes → T → EntryCounts
       → Option (List ℕ) → Result X Error → Type 0
-  WritesToTheEnd reader writer passed new (Ok x) = HasWrittenAll reader writer passed new
-  WritesToTheEnd reader writer passed new (Err error) = HasStopped reader new error
+  WritesToTheEnd reader writer counts new (Ok x) = HasWrittenAll reader writer counts new
+  WritesToTheEnd reader writer counts new (Err error) = HasStopped reader new error

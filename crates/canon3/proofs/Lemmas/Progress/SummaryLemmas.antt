@@ -12,13 +12,13 @@ use Rattle.capture3.specs.declared.fault.Error.TheVariants as errors
 use Rattle.capture3.specs.Entry.{Entry, Begin, Call, Turn, Reply, Close, End, items_of}
 use Rattle.capture3.specs.Typed.{Typed}
 use Rattle.capture3.proofs.Lemmas.Reached.EmittedEntries.{reached_by_machine}
-use Rattle.canon3.specs.declared.passed.Passed.{Passed}
+use Rattle.canon3.specs.declared.entry_counts.EntryCounts.{EntryCounts}
 use Rattle.canon3.specs.declared.summary.Summary.{Summary}
 use Rattle.capture3.specs.declared.reader.entry.Kind.{Kind}
 use Rattle.capture3.specs.declared.reader.entry.Kind.TheVariants as kinds
 use Rattle.canon3.specs.Rank.{distinct, number_limit}
 use Rattle.canon3.specs.Parting.{connections}
-use Rattle.canon3.specs.Passed.{ArePassed}
+use Rattle.canon3.specs.EntryCounts.{AreCounted}
 use Rattle.canon3.specs.machinery.CountedKinds.{calls, replies}
 use Rattle.canon3.specs.Progress.{HasPassed}
 use Rattle.canon3.specs.Summary.{ConcludesAll, ConcludesGiven, is_begin, is_call, is_reply, IsSummary}
@@ -55,9 +55,9 @@ reply_same kinds.Close entry is = sym (ap is_reply is)
 reply_same kinds.End entry is = sym (ap is_reply is)
 
 -- an entry is counted, after its place in the capture
-pub passed_more : (old new : Passed) (kind : Kind) (entry : Entry) (entries : List Entry) → IsOfKind kind entry → HasPassed new.progress (entries ++ entry ∷ [])
-    → new.calls ≡ old.calls + cond (calls kind) 1 0 → new.replies ≡ old.replies + cond (replies kind) 1 0 → ArePassed old entries → ArePassed new (entries ++ entry ∷ [])
-passed_more old new kind entry entries is progress called replied t = record {
+pub counted_more : (old new : EntryCounts) (kind : Kind) (entry : Entry) (entries : List Entry) → IsOfKind kind entry → HasPassed new.progress (entries ++ entry ∷ [])
+    → new.calls ≡ old.calls + cond (calls kind) 1 0 → new.replies ≡ old.replies + cond (replies kind) 1 0 → AreCounted old entries → AreCounted new (entries ++ entry ∷ [])
+counted_more old new kind entry entries is progress called replied t = record {
   progress = progress;
   calls_are = counts_after is_call old.calls new.calls entries entry (called ∙ ap (λ b. old.calls + cond b 1 0) (call_same kind entry is)) t.calls_are;
   replies_are = counts_after is_reply old.replies new.replies entries entry (replied ∙ ap (λ b. old.replies + cond b 1 0) (reply_same kind entry is)) t.replies_are;

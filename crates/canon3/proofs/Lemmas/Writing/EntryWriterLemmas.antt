@@ -20,7 +20,7 @@ use Rattle.capture3.specs.declared.reader.entry.Kind.{Kind}
 use Rattle.capture3.specs.Kept.{IsLent, IsOfKind, kind_of}
 use Rattle.capture3.specs.Reached.{AreFirstReached, Reached}
 use Rattle.capture3.proofs.Lemmas.Reached.EmittedEntries.{reached_by_machine}
-use Rattle.canon3.specs.declared.passed.Passed.{Passed}
+use Rattle.canon3.specs.declared.entry_counts.EntryCounts.{EntryCounts}
 use Rattle.capture3.specs.Typed.{Typed}
 use Rattle.canon3.specs.declared.summary.Summary.{Summary}
 use Rattle.canon3.specs.EntryWriter.{IsStoppedBy, KeepsPrefixes, WritesAll, WritesGiven}
@@ -75,11 +75,11 @@ module _ (form : List Entry → List ℕ) (prefixes : KeepsPrefixes form) where
 
   -- ---- along a reader
 
-  module _ {R S H T : Type 0} {builds : BuildHasher.Ghosts S H} {hashes : Hasher.Ghosts H} (before : List Entry → List Item) (stands : T → List Item → Type 0) (going : T → Type 0) (told : R → Told) (first : Told) (old : Option (List ℕ)) (reader : Entries R S H builds hashes) (writer : T) (passed : Passed) (new : Option (List ℕ)) where
+  module _ {R S H T : Type 0} {builds : BuildHasher.Ghosts S H} {hashes : Hasher.Ghosts H} (before : List Entry → List Item) (stands : T → List Item → Type 0) (going : T → Type 0) (told : R → Told) (first : Told) (old : Option (List ℕ)) (reader : Entries R S H builds hashes) (writer : T) (counts : EntryCounts) (new : Option (List ℕ)) where
     -- an entry was handed out and written, or cut
     pub written_goes_on : (given : List ℕ) (handed : List Entry) (one : Entry) (result : Result Bool Error) → IfOk result IsTrue → IfErr result IsOfWriting
         → Gave first (told (source_of reader)) given → AreFirstReached given (handed ++ one ∷ []) → StandsFor told reader given (handed ++ one ∷ [])
-        → HasMore form before stands going writer passed old new (handed ++ one ∷ []) result → WritesOn form before stands going told first old reader writer passed new result
+        → HasMore form before stands going writer counts old new (handed ++ one ∷ []) result → WritesOn form before stands going told first old reader writer counts new result
     written_goes_on given handed one (Ok true) more error consumed reached reads writes = record { given = given; handed = handed ++ one ∷ []; consumed = consumed; reads = reads; writes = writes }
     written_goes_on given handed one (Ok false) more error consumed reached reads writes = absurd (cc)
     written_goes_on given handed one (Err errors.Memory) more error consumed reached reads cut = record { given = given; consumed = consumed; stopped = cut_reached old new given (handed ++ one ∷ []) reached cut }

@@ -12,7 +12,7 @@ returns-in-Ended-clause-gave g c start other_start found =
     let left_other = g.B.Source.told in
     let first = c.args.first.now in
     let second = c.args.second.now in
-    let now = left (source_of c.read_out.new.entries) in
+    let now = left (source_of c.drain.new.entries) in
     let other_now = left_other (source_of c.read_second.new.entries) in
     let h = subst (IsFound left left_other start other_start first second) c.in-Ended.is found in
     ended_decides left left_other start other_start first second now other_now h c.read_second.result (c.in-Ok.ensures.out start h.a (given_on left start first h.a h.first_given)) (c.read_second.ensures.out other_start h.b h.second_given)
@@ -28,7 +28,7 @@ returns-in-Parted-clause-gave g c start other_start found =
     let left_other = g.B.Source.told in
     let first = c.args.first.now in
     let second = c.args.second.now in
-    let now = left (source_of c.read_out.new.entries) in
+    let now = left (source_of c.drain.new.entries) in
     let other_now = left_other (source_of c.read_second-in-Parted.new.entries) in
     let h = subst (IsFound left left_other start other_start first second) c.in-Parted.is found in
     parted_decides left left_other start other_start first second now other_now c.in-Parted.place h c.read_second-in-Parted.result (c.in-Ok.ensures.out start (h.a ++ h.e ∷ []) (given_on left start first (h.a ++ h.e ∷ []) h.first_given))
@@ -50,4 +50,4 @@ pub returns-in-Err-clause-gave : goal.returns-in-Err-clause-gave
 returns-in-Err-clause-gave g c start other_start found =
     let left = g.A.Source.told in
     let (a, given) = first_of left g.B.Source.told start other_start c.args.first.now c.args.second.now c.args.finding found in
-    first_stops start (left (source_of c.read_out.new.entries)) other_start (g.B.Source.told (source_of c.args.second.now)) c.in-Err.error (c.in-Err.ensures.out start a (given_on left start c.args.first.now a given))
+    first_stops start (left (source_of c.drain.new.entries)) other_start (g.B.Source.told (source_of c.args.second.now)) c.in-Err.error (c.in-Err.ensures.out start a (given_on left start c.args.first.now a given))

@@ -15,7 +15,7 @@ returns-clause-writes g c =
       handed = [];
       consumed = gave_none before;
       reads = c.requires.fresh;
-      writes = record { goes = c.requires.well; stands_for = c.requires.new; came = c.new-passed.ensures.passed; written = subst (λ (l : List ℕ). Appends old old l) (sym c.requires.empty) (Appends-nil old) };
+      writes = record { goes = c.requires.well; stands_for = c.requires.new; came = c.new-counts.ensures.counts; written = subst (λ (l : List ℕ). Appends old old l) (sym c.requires.empty) (Appends-nil old) };
     }) in
     c.close.ensures.writes before (g.R.Source.told (source_of c.write_rest.new.entries)) old done.given done.handed done.ended done.writes
 
@@ -28,6 +28,6 @@ returns-in_err-write_rest-clause-writes g c =
       handed = [];
       consumed = gave_none before;
       reads = c.requires.fresh;
-      writes = record { goes = c.requires.well; stands_for = c.requires.new; came = c.new-passed.ensures.passed; written = subst (λ (l : List ℕ). Appends old old l) (sym c.requires.empty) (Appends-nil old) };
+      writes = record { goes = c.requires.well; stands_for = c.requires.new; came = c.new-counts.ensures.counts; written = subst (λ (l : List ℕ). Appends old old l) (sym c.requires.empty) (Appends-nil old) };
     }) in
     rw (error_is _ _ c.from_residual.ensures) (s.given, s.consumed, s.stopped)

@@ -19,7 +19,7 @@ returns-in-Some-entry-clause-goes_on g c first old u =
     let order = first_reached (u.given ++ a.more) (u.handed ++ one ∷ []) reached in
     let few : length (u.handed ++ one ∷ []) < 2 ^ 32 = omega (arith, reads.few) in
     let stands = subst (λ writer. g.E.Visit.stands writer (g.E.EntryWriter.before u.handed ++ items_of one)) (sym c.expect.ensures) (adds (g.E.EntryWriter.before u.handed) u.writes.stands_for) in
-    written_goes_on g.E.EntryWriter.form c.requires.prefixes g.E.EntryWriter.before g.E.Visit.stands g.E.EntryWriter.going g.R.Source.told first old c.next.new.self c.write_one.new.writer c.write_one.new.passed (g.W.Sink.written c.write_one.new.sink) (u.given ++ a.more) u.handed one c.write_one.result c.write_one.ensures.more c.write_one.ensures.error
+    written_goes_on g.E.EntryWriter.form c.requires.prefixes g.E.EntryWriter.before g.E.Visit.stands g.E.EntryWriter.going g.R.Source.told first old c.next.new.self c.write_one.new.writer c.write_one.new.counts (g.W.Sink.written c.write_one.new.sink) (u.given ++ a.more) u.handed one c.write_one.result c.write_one.ensures.more c.write_one.ensures.error
     (gave_both first (g.R.Source.told (source_of c.args.entries.now)) (g.R.Source.told (source_of c.next.new.self)) u.given a.more u.consumed a.consumed) reached reads
     (c.write_one.ensures.writes old u.handed one (c.in-Some-entry.ensures.lent (u.given ++ a.more) u.handed one reads) order few u.writes.came stands u.writes.written)
 
@@ -35,7 +35,7 @@ returns-in-None-clause-goes_on g c first old u =
         ended = out.1;
         typed = out.0;
       };
-      writes = subst (λ writer. HasWritten g.E.EntryWriter.form g.E.EntryWriter.before g.E.Visit.stands g.E.EntryWriter.going writer c.args.passed.now old (g.W.Sink.written c.args.sink.now) u.handed) (sym (c.in_ok-next.ensures.untold c.in-None.is)) u.writes;
+      writes = subst (λ writer. HasWritten g.E.EntryWriter.form g.E.EntryWriter.before g.E.Visit.stands g.E.EntryWriter.going writer c.args.counts.now old (g.W.Sink.written c.args.sink.now) u.handed) (sym (c.in_ok-next.ensures.untold c.in-None.is)) u.writes;
     }
 
 pub returns-in_err-next-clause-goes_on : goal.returns-in_err-next-clause-goes_on

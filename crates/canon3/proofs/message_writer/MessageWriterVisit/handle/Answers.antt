@@ -11,4 +11,4 @@ returns-then-is_empty-clause-ok g c =
 
 pub returns-clause-ok : goal.returns-clause-ok
 returns-clause-ok g c =
-    settled (λ n. Adds (WriterStands {S = g.row.S.Denot} {H = g.row.S-Hasher.Denot}) c.args.self.now n (Opaque Handle c.args._name.now c.args.bytes.now ∷ [])) c.note_handle-noted.result c.settle.result c.note_handle-noted.new.self c.settle.new.self c.settle.ensures.result c.settle.ensures.ok (c.note_handle-noted.ensures.ok c.args._name.now)
+    settled (λ n. Adds (WriterStands {S = g.row.S.Denot} {H = g.row.S-Hasher.Denot}) c.args.self.now n (Opaque Handle c.args._name.now c.args.bytes.now ∷ [])) c.note_handle-noted.result c.fail_for_good.result c.note_handle-noted.new.self c.fail_for_good.new.self c.fail_for_good.ensures.result c.fail_for_good.ensures.ok (c.note_handle-noted.ensures.ok c.args._name.now)

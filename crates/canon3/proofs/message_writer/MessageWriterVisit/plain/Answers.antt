@@ -11,5 +11,5 @@ returns-in-Goes g c = record {
 
 pub returns-in-Begins : goal.returns-in-Begins
 returns-in-Begins g c = record {
-  ok = settled (λ n. Adds (WriterStands {S = g.row.S.Denot} {H = g.row.S-Hasher.Denot}) c.args.self.now n (run_items c.args.fields.now c.args.bytes.now)) c.note_first-noted.result c.settle.result c.note_first-noted.new.self c.settle.new.self c.settle.ensures.result c.settle.ensures.ok c.note_first-noted.ensures.ok;
+  ok = settled (λ n. Adds (WriterStands {S = g.row.S.Denot} {H = g.row.S-Hasher.Denot}) c.args.self.now n (run_items c.args.fields.now c.args.bytes.now)) c.note_first-noted.result c.fail_for_good.result c.note_first-noted.new.self c.fail_for_good.new.self c.fail_for_good.ensures.result c.fail_for_good.ensures.ok c.note_first-noted.ensures.ok;
 }

@@ -7,4 +7,4 @@ use Rattle.canon3.proofs.message_writer.MessageWriterVisit.var.Goals as goal
 
 pub returns-clause-ok : goal.returns-clause-ok
 returns-clause-ok g c =
-    settled (λ n. Adds (WriterStands {S = g.row.S.Denot} {H = g.row.S-Hasher.Denot}) c.args.self.now n (Opaque Var c.args._name.now c.args.bytes.now ∷ [])) c.note_run-noted.result c.settle.result c.note_run-noted.new.self c.settle.new.self c.settle.ensures.result c.settle.ensures.ok (c.note_run-noted.ensures Var c.args._name.now c.args.bytes.now tt refl)
+    settled (λ n. Adds (WriterStands {S = g.row.S.Denot} {H = g.row.S-Hasher.Denot}) c.args.self.now n (Opaque Var c.args._name.now c.args.bytes.now ∷ [])) c.note_run-noted.result c.fail_for_good.result c.note_run-noted.new.self c.fail_for_good.new.self c.fail_for_good.ensures.result c.fail_for_good.ensures.ok (c.note_run-noted.ensures Var c.args._name.now c.args.bytes.now tt refl)

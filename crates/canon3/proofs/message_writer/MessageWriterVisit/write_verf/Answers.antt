@@ -7,4 +7,4 @@ use Rattle.canon3.proofs.message_writer.MessageWriterVisit.write_verf.Goals as g
 
 pub returns-clause-ok : goal.returns-clause-ok
 returns-clause-ok g c =
-    settled (λ n. Adds (WriterStands {S = g.row.S.Denot} {H = g.row.S-Hasher.Denot}) c.args.self.now n (WriteVerf c.args._name.now c.args.bytes.now ∷ [])) c.note_verifier-noted.result c.settle.result c.note_verifier-noted.new.self c.settle.new.self c.settle.ensures.result c.settle.ensures.ok (c.note_verifier-noted.ensures.ok c.args._name.now)
+    settled (λ n. Adds (WriterStands {S = g.row.S.Denot} {H = g.row.S-Hasher.Denot}) c.args.self.now n (WriteVerf c.args._name.now c.args.bytes.now ∷ [])) c.note_verifier-noted.result c.fail_for_good.result c.note_verifier-noted.new.self c.fail_for_good.new.self c.fail_for_good.ensures.result c.fail_for_good.ensures.ok (c.note_verifier-noted.ensures.ok c.args._name.now)

@@ -21,7 +21,7 @@ returns-in-Some-clause-goes_on g c first u =
       consumed = gave_both first (g.R.Source.told (source_of c.args.entries.now)) (g.R.Source.told (source_of c.next.new.self)) u.given a.more u.consumed a.consumed;
       stands = stands;
       tallied = record {
-        passed = c.add.ensures.passed u.handed one is u.tallied.passed;
+        counts = c.add.ensures.counts u.handed one is u.tallied.counts;
         handles = subst (λ (l : List Item). GathersAll c.next.new.visitor l) (sym (items_with_last u.handed one)) (adds (all_items u.handed) u.tallied.handles);
       };
     }
@@ -47,7 +47,7 @@ returns-in-None-clause-goes_on g c first u =
       ended = ended;
       typed = typed;
       tallied = record {
-        passed = u.tallied.passed;
+        counts = u.tallied.counts;
         handles = rw (c.in_ok-kind.ensures.untold c.in-None.is) u.tallied.handles;
       };
     }

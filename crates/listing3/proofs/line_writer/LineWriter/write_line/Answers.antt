@@ -10,7 +10,7 @@ returns-in_default-clause-ok g c front rest n stands = absurd (no_xid c.args.sel
 
 pub returns-in-Ok-clause-ok : goal.returns-in-Ok-clause-ok
 returns-in-Ok-clause-ok g c front rest n stands =
-    let p = c.args.passed.now.progress in
+    let p = c.args.counts.now.progress in
     on_ok_weaker c.hand_over.result
     (subst (Appends (g.W.Sink.written c.args.sink.now) (g.W.Sink.written c.hand_over.new.sink))
     (is_line c.args.self.now p.connections c.args.side.now (p.records + 1) c.in-Some.xid c.args.id front rest n c.compose.new.self.head c.compose.new.self.items c.in-Some.is stands c.in-Ok.ensures.head c.in-Ok.ensures.items))
@@ -18,7 +18,7 @@ returns-in-Ok-clause-ok g c front rest n stands =
 
 pub returns-in-Ok-clause-err : goal.returns-in-Ok-clause-err
 returns-in-Ok-clause-err g c front rest n stands =
-    let p = c.args.passed.now.progress in
+    let p = c.args.counts.now.progress in
     on_err_weaker c.hand_over.result
     (subst (AppendsFront (g.W.Sink.written c.args.sink.now) (g.W.Sink.written c.hand_over.new.sink))
     (is_line c.args.self.now p.connections c.args.side.now (p.records + 1) c.in-Some.xid c.args.id front rest n c.compose.new.self.head c.compose.new.self.items c.in-Some.is stands c.in-Ok.ensures.head c.in-Ok.ensures.items))

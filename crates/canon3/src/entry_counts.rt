@@ -2,7 +2,7 @@
 
 ghost use Rattle.std.specs.Prelude.{◌≡◌, ◌<◌, ◌≤◌, ◌+◌, ◌^◌, ◌++◌, ◌∷◌, List, [], bytes_eq, if◌then◌else◌, length, min};
 ghost use Rattle.capture3.specs.Entry as spec;
-ghost use Rattle.canon3.specs.Passed.{ArePassed, connections_in, passed_steps, records_in};
+ghost use Rattle.canon3.specs.EntryCounts.{AreCounted, connections_in, counted_steps, records_in};
 ghost use Rattle.canon3.specs.machinery.CountedKinds.{calls, replies};
 ghost use Rattle.canon3.specs.Rank.{distinct, number_limit};
 ghost use Rattle.canon3.specs.machinery.Sums.{Sums};
@@ -15,19 +15,19 @@ use capture3::Kind;
 
 /// How many entries of each kind came, and the position of the next one.
 #[derive(Drop)]
-pub struct Passed {
+pub struct EntryCounts {
     progress: Progress,
     calls: u32,
     replies: u32,
 }
 
-impl Passed {
+impl EntryCounts {
     /// Returns the counts before any entry.
-    pub(crate) fn new() -> Passed
-        ensures passed { ArePassed result [] }
-        ensures none { passed_steps result ≡ 0 }
+    pub(crate) fn new() -> EntryCounts
+        ensures counts { AreCounted result [] }
+        ensures none { counted_steps result ≡ 0 }
     {
-        Passed {
+        EntryCounts {
             progress: Progress::new(),
             calls: 0,
             replies: 0,
@@ -50,10 +50,10 @@ impl Passed {
 
     /// Counts an entry.
     pub(crate) fn add(&mut self, kind: Kind)
-        requires { passed_steps self.old + 1 < 2 ^ 32 }
-        ensures few { passed_steps self.new ≤ passed_steps self.old + 1 }
-        ensures passed { (entries : List spec.Entry) (one : spec.Entry) → IsOfKind kind one
-            → ArePassed self.old entries → ArePassed self.new (entries ++ one ∷ []) }
+        requires { counted_steps self.old + 1 < 2 ^ 32 }
+        ensures few { counted_steps self.new ≤ counted_steps self.old + 1 }
+        ensures counts { (entries : List spec.Entry) (one : spec.Entry) → IsOfKind kind one
+            → AreCounted self.old entries → AreCounted self.new (entries ++ one ∷ []) }
     {
         self.progress.pass(kind);
         self.count(kind);
@@ -75,7 +75,7 @@ impl Passed {
 
     /// Returns the counts so far, with the given number of distinct handles.
     pub(crate) fn summary(&self, handles: u32) -> Summary
-        ensures { (entries : List spec.Entry) → ArePassed self.now entries
+        ensures { (entries : List spec.Entry) → AreCounted self.now entries
             → handles ≡ min (length (distinct bytes_eq (values.handles entries))) number_limit
             → Sums result entries }
     {

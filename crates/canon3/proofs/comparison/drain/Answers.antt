@@ -1,7 +1,7 @@
 use Rattle.std.proofs.Common.{Ok, subst}
 use Rattle.capture3.proofs.Lemmas.Reader.PassedOn.{error_is}
 use Rattle.canon3.specs.machinery.ComparisonSteps.{ReadsOn}
-use Rattle.canon3.proofs.comparison.read_out.Goals as goal
+use Rattle.canon3.proofs.comparison.drain.Goals as goal
 
 pub returns-clause-out : goal.returns-clause-out
 returns-clause-out g c start handed h =

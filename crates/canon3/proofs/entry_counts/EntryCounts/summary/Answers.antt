@@ -1,6 +1,6 @@
 use Rattle.std.proofs.Common.{◌∙◌}
 use Rattle.canon3.proofs.Lemmas.Progress.SummaryLemmas.{connections_counted}
-use Rattle.canon3.proofs.passed.Passed.summary.Goals as goal
+use Rattle.canon3.proofs.entry_counts.EntryCounts.summary.Goals as goal
 
 pub returns : goal.returns
 returns c entries are handles = record {

@@ -4,7 +4,7 @@ use Rattle.capture3.specs.Entries.{failure_of, loan_of, source_of}
 use Rattle.capture3.specs.machinery.EntriesHistory.{entries_left}
 use Rattle.capture3.specs.Entry.{Entry}
 use Rattle.canon3.specs.machinery.ComparisonSteps.{HasGivenOn}
-use Rattle.canon3.proofs.comparison.read_out.Given as goal
+use Rattle.canon3.proofs.comparison.drain.Given as goal
 
 abbrev pub invariant-loop : goal.invariant-loop
 invariant-loop g l = record {

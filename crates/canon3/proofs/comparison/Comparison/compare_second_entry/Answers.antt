@@ -3,7 +3,7 @@ use Rattle.capture3.specs.Entry.{items_of}
 use Rattle.canon3.specs.machinery.ComparisonSteps.{IsTold, Meets}
 use Rattle.canon3.specs.machinery.MessageWriter.{WriterStands}
 use Rattle.canon3.proofs.Lemmas.Comparison.ComparisonLemmas.{compared_meets, Hands, hands, not_ended, refused_meets, told_second, with_second}
-use Rattle.canon3.proofs.comparison.Comparison.meet.Goals as goal
+use Rattle.canon3.proofs.comparison.Comparison.compare_second_entry.Goals as goal
 
 pub returns-in_ok-compare-in-Some-clause-meets : goal.returns-in_ok-compare-in-Some-clause-meets
 returns-in_ok-compare-in-Some-clause-meets g c first now start a b e of order few so_far h =
