@@ -7,3 +7,4 @@ pub mod Digits
 pub mod Texts
 pub mod LineTexts
 pub mod Telling
+pub mod Halves

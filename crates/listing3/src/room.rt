@@ -1,13 +1,14 @@
 //! Text of values, written into a buffer that is long enough. A position is a count of bytes from
 //! the buffer's start, and each function returns the position after what it wrote.
 
-ghost use Rattle.std.specs.Prelude.{◌≡◌, ◌<◌, ◌≤◌, ◌+◌, ◌*◌, ◌/◌, ◌++◌, ◌∷◌, [], length, take, decimal, slice_index, vec_len, true, IfOk};
+ghost use Rattle.std.specs.Prelude.{◌≡◌, ◌<◌, ◌≤◌, ◌+◌, ◌*◌, ◌/◌, ◌++◌, ◌∷◌, [], length, map, take, decimal, slice_index, vec_len, true, IfOk};
 ghost use Rattle.std.specs.List.{flat_map};
-ghost use Rattle.hex.specs.Hex.{encode_lower, lower_digits};
+ghost use Rattle.hex.specs.Hex.{encode_lower, encode_with, lower_digits};
 ghost use Rattle.xdr3.specs.Plain.{plain_item, run_items, run_size, width};
 ghost use Rattle.xdr3.specs.Visit.{body_limit};
 ghost use Rattle.listing3.specs.Listing.{is_plain, opening, quoted, quoted_byte, shown_item, shown_items};
 ghost use Rattle.listing3.specs.machinery.Digits.{eight_digits, four_digits, two_digits};
+ghost use Rattle.listing3.specs.machinery.Halves.{halves_in_order, AreHalves};
 
 use byteorder::{BigEndian, ByteOrder};
 use std::alloc::AllocError;
@@ -19,6 +20,10 @@ pub(crate) const DIGITS: usize = 20;
 
 /// How many bytes of a string are tested at once.
 const PIECE: usize = 8;
+
+/// How many bytes are spelled by each of two loops before the next, so that their digits stay in the
+/// nearest cache.
+const SPELLED: usize = 512;
 
 /// The two digits of each number below 100.
 static PAIRS: [u8; 200] =
@@ -305,32 +310,71 @@ pub(crate) fn put_hex(room: &mut [u8], at: usize, bytes: &[u8]) -> usize
     ensures kept { take at room.new ≡ take at room.old }
     ensures len { length room.new ≡ length room.old }
 {
+    let mut end = at;
+    for piece in bytes.chunks(SPELLED) {
+        end = put_spelled(room, end, piece);
+    }
+    end
+}
+
+/// Writes two lower-case hexadecimal digits for each byte of a piece.
+#[inline(always)]
+fn put_spelled(room: &mut [u8], at: usize, bytes: &[u8]) -> usize
+    requires { at + 2 * length bytes.now ≤ length room.old }
+    ensures end { result ≡ at + 2 * length bytes.now }
+    ensures written { take result room.new ≡ take at room.old ++ encode_lower bytes.now }
+    ensures kept { take at room.new ≡ take at room.old }
+    ensures len { length room.new ≡ length room.old }
+{
     let end = at + 2 * bytes.len();
     encode(bytes, &mut room[at..end]);
     end
 }
 
-/// Writes two lower-case hexadecimal digits for each byte. Because the digits are computed and not looked
-/// up, the compiler writes those of 16 bytes at once.
+/// Writes two lower-case hexadecimal digits for each byte. The compiler makes each of two short loops
+/// take 16 bytes at once.
+#[inline(always)]
 fn encode(bytes: &[u8], digits: &mut [u8])
     requires { length digits.old ≡ 2 * length bytes.now }
     ensures { digits.new ≡ encode_lower bytes.now }
 {
+    split(bytes, digits);
+    spell(digits);
+}
+
+/// Writes the high four bits and then the low four bits of each byte.
+#[inline(always)]
+fn split(bytes: &[u8], halves: &mut [u8])
+    requires { length halves.old ≡ 2 * length bytes.now }
+    ensures { halves.new ≡ encode_with halves_in_order bytes.now }
+{
     'bytes: for i in 0..bytes.len() {
         let byte = bytes[i];
-        digits[2 * i] = hex_digit(byte >> 4);
-        digits[2 * i + 1] = hex_digit(byte & 0x0f);
+        halves[2 * i] = byte >> 4;
+        halves[2 * i + 1] = byte & 0x0f;
     }
 }
 
-/// Returns the lower-case hexadecimal digit of a number below 16.
+/// Puts its digit in the place of each number.
+#[inline(always)]
+fn spell(digits: &mut [u8])
+    requires { AreHalves digits.old }
+    ensures { digits.new ≡ map (slice_index lower_digits) digits.old }
+{
+    for i in 0..digits.len() {
+        digits[i] = hex_digit(digits[i]);
+    }
+}
+
+/// Returns the lower-case hexadecimal digit of a number below 16. Signed numbers are compared by fewer
+/// instructions.
 #[inline(always)]
 #[tactic(auto, using(crate::proofs::Rooms::low_digit, crate::proofs::Rooms::high_digit))]
 fn hex_digit(n: u8) -> u8
     requires { n < 16 }
     ensures { result ≡ slice_index lower_digits n }
 {
-    if n < 10 { b'0' + n } else { b'a' - 10 + n }
+    b'0' + n + if n as i8 > 9 { b'a' - 10 - b'0' } else { 0 }
 }
 
 /// Writes text between quotation marks, with each byte that is not plain as `\x` and two digits,

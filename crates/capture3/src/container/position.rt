@@ -361,6 +361,10 @@ impl Position {
         self.fault_in(side, self.records + 1, byte, reason)
     }
 
+    // A fault that is not built in line stays in memory, and the loop over messages does not move
+    // the parts of one that is not there.
+    #[cold]
+    #[inline(never)]
     fn fault_in(self, side: Side, rec_no: u32, byte: u32, reason: Reason) -> Error
         ensures { result ≡ Error.Refused
             (record { place = Place.Record self.connections side rec_no byte; reason = reason }) }
@@ -514,6 +518,8 @@ impl Position {
 }
 
 /// Returns a fault at a byte of the file.
+#[cold]
+#[inline(never)]
 pub(crate) fn file_fault(at: u64, reason: Reason) -> Error
     ensures { result ≡ Error.Refused (record { place = Place.File at; reason = reason }) }
 {

@@ -1,13 +1,12 @@
-use Rattle.std.proofs.Common.{ℕ, arith, slice_index, ap, ◌∙◌}
-use Rattle.std.proofs.lemmas.Nat.{and_mask}
+use Rattle.std.proofs.Common.{rules, sym, ap, subst, ◌∙◌}
+use Rattle.std.specs.Prelude.{map, slice_index}
 use Rattle.hex.specs.Hex.{lower_digits}
-use Rattle.hex.proofs.Pairs.{encode_step, encode_done}
+use Rattle.listing3.specs.machinery.Halves.{AreHalves}
+use Rattle.listing3.proofs.Halves.{digits_of_halves, halves_below}
 use Rattle.listing3.proofs.room.encode.Goals as goal
 
-pub bytes-preserved : goal.bytes-preserved
-bytes-preserved c =
-    let byte : ℕ = slice_index c.args.bytes.now c.bytes.i in
-    encode_step lower_digits c.args.bytes.now c.bytes.digits c.bytes.i _ _ (omega arith) (omega arith) c.hex_digit.ensures (c.hex_digit-in-bytes.ensures ∙ ap (λ (k : ℕ). slice_index lower_digits k) (and_mask byte 4)) c.bytes.invariant
+pub spell-requires : goal.spell-requires
+spell-requires c = subst AreHalves (sym c.split.ensures) (halves_below c.args.bytes.now (search rules))
 
 pub returns : goal.returns
-returns c = encode_done _ _ _ c.bytes.i (omega arith) (omega arith) c.bytes.invariant
+returns c = c.spell.ensures ∙ ap (map (slice_index lower_digits)) c.split.ensures ∙ digits_of_halves c.args.bytes.now (search rules)

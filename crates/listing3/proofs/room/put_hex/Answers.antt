@@ -1,0 +1,24 @@
+use Rattle.std.proofs.Common.{take, ◌∙◌, arith, rules}
+use Rattle.std.specs.Slice.Iter.{chunks_rest}
+use Rattle.listing3.proofs.Halves.{all_spelled, left_over, piece_spelled}
+use Rattle.listing3.proofs.Rooms.{kept_below}
+use Rattle.listing3.proofs.room.put_hex.Goals as goal
+
+pub loop-piece-preserved : goal.loop-piece-preserved
+loop-piece-preserved c =
+    let so_far = c.loop-piece.invariant in
+    let steps = c.in-Some.ensures.steps in
+    let put = c.put_spelled-end.ensures in
+    record {
+      next = search rules;
+      finite = tt;
+      size = steps.0 ∙ so_far.size;
+      text = piece_spelled (take c.loop-piece.end c.loop-piece.room) _ _ (chunks_rest c.loop-piece.piece-iterator) c.in-Some.piece.now (chunks_rest c.next.new.self) steps.1.0 put.written so_far.text;
+      kept = kept_below c.args.at c.loop-piece.end _ _ so_far.after put.kept ∙ so_far.kept;
+      after = omega (arith, so_far.after, put.end);
+      left = left_over c.loop-piece.end _ (chunks_rest c.loop-piece.piece-iterator) c.in-Some.piece.now (chunks_rest c.next.new.self) _ steps.1.0 put.end so_far.left;
+      len = put.len ∙ so_far.len;
+    }
+
+pub returns-clause-written : goal.returns-clause-written
+returns-clause-written c = all_spelled (take c.loop-piece.end c.loop-piece.room) _ (chunks_rest c.loop-piece.piece-iterator) c.in-None.ensures.steps.1.0 c.loop-piece.invariant.text
