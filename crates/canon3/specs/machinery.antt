@@ -2,6 +2,7 @@
 pub mod FormSteps
 pub mod OpenXids
 pub mod ComparisonSteps
+pub mod Reading
 pub mod WritingSteps
 pub mod MessageWriter
 pub mod CountedKinds

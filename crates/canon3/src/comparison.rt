@@ -2,12 +2,13 @@
 
 ghost use Rattle.std.specs.Prelude.{◌≡◌, ◌≢◌, ◌<◌, ◌≤◌, ◌+◌, ◌^◌, ◌++◌, ◌∷◌, ℕ, List, [], length, None, Some, IfErr, IfOk, IsTrue, OnOk};
 ghost use Rattle.capture3.specs.Told.{GavePrefix, Told};
-ghost use Rattle.capture3.specs.Entries.{CountsReads, failure_of, loan_of, source_of};
+ghost use Rattle.capture3.specs.Entries.{failure_of, source_of};
 ghost use Rattle.capture3.specs.machinery.EntriesHistory.{entries_left, StandsFor};
 ghost use Rattle.capture3.specs.Entry as spec;
 ghost use Rattle.capture3.specs.Laws.{most_entries};
 ghost use Rattle.canon3.specs.Comparison.{CountsReadingOf, DecidesGiven, DecidesSame};
-ghost use Rattle.canon3.specs.machinery.ComparisonSteps.{Compares, CountsReadsOf, FindsOut, HasGiven, HasGivenOn, IsCompared, IsFound, IsReadAfter, IsReadOut, IsTold, IsComparing, Meets, met_second, ReadsOn, refusal_in, StepsOn};
+ghost use Rattle.canon3.specs.machinery.ComparisonSteps.{Compares, FindsOut, HasGiven, HasGivenOn, IsCompared, IsFound, IsReadAfter, IsReadOut, IsTold, IsComparing, Meets, met_second, ReadsOn, refusal_in, StepsOn};
+ghost use Rattle.canon3.specs.machinery.Reading.{ReadsBoth, ReadsOne, ReadsSecond};
 ghost use Rattle.canon3.specs.Laws.{AreFirst};
 ghost use Rattle.canon3.specs.Progress.{steps_of};
 ghost use Rattle.capture3.specs.Kept.{IsLent};
@@ -98,11 +99,8 @@ fn compared<A: Source, B: Source, S: BuildHasher + Drop>(
     requires going_second { failure_of second.old ≡ None }
     ensures gave { DecidesGiven (A.told (source_of first.old)) (A.told (source_of first.new))
         (B.told (source_of second.old)) (B.told (source_of second.new)) result }
-    ensures read_first { CountsReadsOf Which.First A.failures first.old first.new result }
-    ensures read_second { CountsReadsOf Which.Second B.failures second.old second.new result }
-    ensures write { IfErr result (λ error. error.error ≢ Error.Write) }
-    ensures same_first { loan_of first.new ≡ loan_of first.old }
-    ensures same_second { loan_of second.new ≡ loan_of second.old }
+    ensures reads { ReadsBoth A.failures B.failures first.old first.new
+        second.old second.new result }
 {
     let finding = comparison.find(first, second)?;
     conclude(finding, first, second)
@@ -131,11 +129,8 @@ fn conclude<A: Source, B: Source, S: BuildHasher + Drop>(
         → IsFound A.told B.told start other_start first.old second.old finding
         → DecidesGiven start (A.told (source_of first.new))
         other_start (B.told (source_of second.new)) result }
-    ensures read_first { CountsReadsOf Which.First A.failures first.old first.new result }
-    ensures read_second { CountsReadsOf Which.Second B.failures second.old second.new result }
-    ensures write { IfErr result (λ error. error.error ≢ Error.Write) }
-    ensures same_first { loan_of first.new ≡ loan_of first.old }
-    ensures same_second { loan_of second.new ≡ loan_of second.old }
+    ensures reads { ReadsBoth A.failures B.failures first.old first.new
+        second.old second.new result }
 {
     match drain(first) {
         Ok(()) => match finding {
@@ -162,10 +157,7 @@ fn read_second<R: Source, S: BuildHasher + Drop>(
     ensures out { (start : Told) (handed : List spec.Entry)
         → HasGiven R.told start entries.old handed
         → IsReadAfter start (R.told (source_of entries.new)) handed verdict result }
-    ensures read { CountsReadsOf Which.Second R.failures entries.old entries.new result }
-    ensures never_first { (old : ℕ) → CountsReadingOf Which.First old old result }
-    ensures write { IfErr result (λ error. error.error ≢ Error.Write) }
-    ensures same_reference { loan_of entries.new ≡ loan_of entries.old }
+    ensures reads { ReadsSecond R.failures entries.old entries.new result }
 {
     match drain(entries) {
         Ok(()) => Ok(verdict),
@@ -182,9 +174,7 @@ fn drain<R: Source, S: BuildHasher + Drop>(entries: &mut Entries<'_, R, S>) -> R
     ensures out { (start : Told) (handed : List spec.Entry)
         → HasGivenOn R.told start entries.old handed
         → IsReadOut start (R.told (source_of entries.new)) handed result }
-    ensures read { CountsReads R.failures entries.old entries.new result }
-    ensures write { IfErr result (λ error. error ≢ Error.Write) }
-    ensures same_reference { loan_of entries.new ≡ loan_of entries.old }
+    ensures reads { ReadsOne R.failures entries.old entries.new result }
 {
     while read_next(entries)? {}
     Ok(())
@@ -201,9 +191,7 @@ fn read_next<R: Source, S: BuildHasher + Drop>(
     ensures fewer { IfOk result (λ more. IsTrue more
         → entries_left entries.new < entries_left entries.old) }
     ensures going { OnOk result (failure_of entries.new ≡ None) }
-    ensures read { CountsReads R.failures entries.old entries.new result }
-    ensures write { IfErr result (λ error. error ≢ Error.Write) }
-    ensures same_reference { loan_of entries.new ≡ loan_of entries.old }
+    ensures reads { ReadsOne R.failures entries.old entries.new result }
 {
     Ok(entries.next(&mut Silent)?.is_some())
 }
@@ -232,11 +220,8 @@ impl<S: BuildHasher + Drop> Comparison<S> {
         ensures going_first { OnOk result (failure_of first.new ≡ None) }
         ensures going_second { IfOk result
             (λ finding. failure_of second.new ≡ refusal_in (Some finding)) }
-        ensures read_first { CountsReadsOf Which.First A.failures first.old first.new result }
-        ensures read_second { CountsReadsOf Which.Second B.failures second.old second.new result }
-        ensures write { IfErr result (λ error. error.error ≢ Error.Write) }
-        ensures same_first { loan_of first.new ≡ loan_of first.old }
-        ensures same_second { loan_of second.new ≡ loan_of second.old }
+        ensures reads { ReadsBoth A.failures B.failures first.old first.new
+            second.old second.new result }
     {
         loop {
             if let Some(finding) = self.step(first, second)? {
@@ -264,11 +249,8 @@ impl<S: BuildHasher + Drop> Comparison<S> {
         ensures room { IfOk result
             (λ next. next ≡ None → steps_of self.new.progress + entries_left first.new ≤
             most_entries) }
-        ensures read_first { CountsReadsOf Which.First A.failures first.old first.new result }
-        ensures read_second { CountsReadsOf Which.Second B.failures second.old second.new result }
-        ensures write { IfErr result (λ error. error.error ≢ Error.Write) }
-        ensures same_first { loan_of first.new ≡ loan_of first.old }
-        ensures same_second { loan_of second.new ≡ loan_of second.old }
+        ensures reads { ReadsBoth A.failures B.failures first.old first.new
+            second.old second.new result }
     {
         match first.next(&mut self.first) {
             Ok(Some(_)) => {
@@ -301,10 +283,7 @@ impl<S: BuildHasher + Drop> Comparison<S> {
             → Meets B.told first now start second.new self.new a b e result }
         ensures going { IfOk result (λ next. failure_of second.new ≡ refusal_in next) }
         ensures few { steps_of self.new.progress ≤ steps_of self.old.progress + 1 }
-        ensures read { CountsReadsOf Which.Second B.failures second.old second.new result }
-        ensures never_first { (old : ℕ) → CountsReadingOf Which.First old old result }
-        ensures write { IfErr result (λ error. error.error ≢ Error.Write) }
-        ensures same_reference { loan_of second.new ≡ loan_of second.old }
+        ensures reads { ReadsSecond B.failures second.old second.new result }
     {
         match second.next(&mut self.second) {
             Ok(Some(_)) => {

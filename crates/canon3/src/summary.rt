@@ -2,13 +2,14 @@
 
 ghost use Rattle.std.specs.Prelude.{◌≡◌, ◌≢◌, ◌<◌, ◌≤◌, ◌+◌, ℕ, List, [], Option, None, Some, IfErr, IfOk, IsTrue, OnOk};
 ghost use Rattle.capture3.specs.Told.{GavePrefix, Told};
-ghost use Rattle.capture3.specs.Entries.{CountsReading, CountsReads, failure_of, loan_of, OnRefused, source_of};
+ghost use Rattle.capture3.specs.Entries.{CountsReading, failure_of, OnRefused, source_of};
 ghost use Rattle.capture3.specs.machinery.EntriesHistory.{entries_left, StandsFor};
 ghost use Rattle.capture3.specs.Entry as spec;
 ghost use Rattle.capture3.specs.FirstFault.{FirstFault};
 ghost use Rattle.capture3.specs.Laws.{most_entries};
 ghost use Rattle.canon3.specs.EntryCounts.{counted_steps};
 ghost use Rattle.canon3.specs.Summary.{ConcludesAll, ConcludesGiven, IsSummary};
+ghost use Rattle.canon3.specs.machinery.Reading.{ReadsOne};
 ghost use Rattle.canon3.specs.machinery.Sums.{Sums};
 ghost use Rattle.canon3.specs.machinery.Tally.{TalliesOn, TalliesToTheEnd, IsTallying, Tallies};
 
@@ -73,9 +74,7 @@ fn summed<R: Source, S: BuildHasher + Drop>(
     requires going { failure_of entries.old ≡ None }
     ensures concludes { ConcludesGiven (R.told (source_of entries.old))
         (R.told (source_of entries.new)) result }
-    ensures read { CountsReads R.failures entries.old entries.new result }
-    ensures write { IfErr result (λ error. error ≢ Error.Write) }
-    ensures same_reference { loan_of entries.new ≡ loan_of entries.old }
+    ensures reads { ReadsOne R.failures entries.old entries.new result }
 {
     let mut tally = Tally::new(alloc, hasher);
     tally.add_all(entries)?;
@@ -106,9 +105,7 @@ impl<S: BuildHasher + Drop> Tally<S> {
         requires room { counted_steps self.old.counts + entries_left entries.old ≤ most_entries }
         ensures over { (first : Told) → IsTallying R.told first entries.old self.old
             → TalliesToTheEnd R.told first entries.new self.new result }
-        ensures read { CountsReads R.failures entries.old entries.new result }
-        ensures write { IfErr result (λ error. error ≢ Error.Write) }
-        ensures same_reference { loan_of entries.new ≡ loan_of entries.old }
+        ensures reads { ReadsOne R.failures entries.old entries.new result }
     {
         while self.add_next(entries)? {}
         Ok(())
@@ -125,9 +122,7 @@ impl<S: BuildHasher + Drop> Tally<S> {
         ensures going { OnOk result (failure_of entries.new ≡ None) }
         ensures room { IfOk result (λ more. IsTrue more
             → counted_steps self.new.counts + entries_left entries.new ≤ most_entries) }
-        ensures read { CountsReads R.failures entries.old entries.new result }
-        ensures write { IfErr result (λ error. error ≢ Error.Write) }
-        ensures same_reference { loan_of entries.new ≡ loan_of entries.old }
+        ensures reads { ReadsOne R.failures entries.old entries.new result }
     {
         match entries.next(&mut self.handles)? {
             Some(kind) => {

@@ -2,3 +2,4 @@
 pub mod ComparisonLemmas
 pub mod PartingLemmas
 pub mod Places
+pub mod Reading

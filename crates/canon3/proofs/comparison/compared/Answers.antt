@@ -2,6 +2,7 @@ use Rattle.std.proofs.Common.{[]}
 use Rattle.capture3.specs.Entries.{source_of}
 use Rattle.capture3.proofs.Lemmas.Reader.PassedOn.{error_is}
 use Rattle.canon3.proofs.Lemmas.Comparison.ComparisonLemmas.{fresh}
+use Rattle.canon3.proofs.Lemmas.Comparison.Reading.{both_passed_on}
 use Rattle.canon3.proofs.comparison.compared.Goals as goal
 
 pub returns-clause-gave : goal.returns-clause-gave
@@ -28,11 +29,5 @@ returns-in_err-finding-clause-gave g c =
       compared = c.requires.new;
     }))
 
-pub returns-in_err-finding-clause-read_first : goal.returns-in_err-finding-clause-read_first
-returns-in_err-finding-clause-read_first g c = rw (error_is _ _ c.from_residual.ensures) c.in_err-finding.ensures.read_first
-
-pub returns-in_err-finding-clause-read_second : goal.returns-in_err-finding-clause-read_second
-returns-in_err-finding-clause-read_second g c = rw (error_is _ _ c.from_residual.ensures) c.in_err-finding.ensures.read_second
-
-pub returns-in_err-finding-clause-write : goal.returns-in_err-finding-clause-write
-returns-in_err-finding-clause-write g c = rw (error_is _ _ c.from_residual.ensures) c.in_err-finding.ensures.write
+pub returns-in_err-finding-clause-reads : goal.returns-in_err-finding-clause-reads
+returns-in_err-finding-clause-reads g c = rw (error_is _ _ c.from_residual.ensures) (both_passed_on c.in_err-finding.ensures.reads)

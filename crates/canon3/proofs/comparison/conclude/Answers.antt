@@ -1,9 +1,8 @@
-use Rattle.std.proofs.Common.{[], ◌∷◌, ◌++◌, subst, sym}
+use Rattle.std.proofs.Common.{[], ◌∷◌, ◌++◌, subst}
 use Rattle.capture3.specs.Entries.{source_of}
-use Rattle.canon3.specs.declared.verdict.Which.TheVariants.{First}
-use Rattle.canon3.specs.Comparison.{CountsReadingOf}
 use Rattle.canon3.specs.machinery.ComparisonSteps.{IsFound}
 use Rattle.canon3.proofs.Lemmas.Comparison.ComparisonLemmas.{ended_decides, first_of, first_stops, given_on, parted_decides}
+use Rattle.canon3.proofs.Lemmas.Comparison.Reading.{both_read}
 use Rattle.canon3.proofs.comparison.conclude.Goals as goal
 
 pub returns-in-Ended-clause-gave : goal.returns-in-Ended-clause-gave
@@ -17,10 +16,8 @@ returns-in-Ended-clause-gave g c start other_start found =
     let h = subst (IsFound left left_other start other_start first second) c.in-Ended.is found in
     ended_decides left left_other start other_start first second now other_now h c.read_second.result (c.in-Ok.ensures.out start h.a (given_on left start first h.a h.first_given)) (c.read_second.ensures.out other_start h.b h.second_given)
 
-pub returns-in-Ended-clause-read_first : goal.returns-in-Ended-clause-read_first
-returns-in-Ended-clause-read_first g c =
-    let old = g.A.Source.failures (source_of c.args.first.now) in
-    subst (λ n. CountsReadingOf First old n c.read_second.result) (sym c.in-Ok.ensures.read) (c.read_second.ensures.never_first old)
+pub returns-in-Ended-clause-reads : goal.returns-in-Ended-clause-reads
+returns-in-Ended-clause-reads g c = both_read c.in-Ok.ensures.reads c.read_second.ensures.reads
 
 pub returns-in-Parted-clause-gave : goal.returns-in-Parted-clause-gave
 returns-in-Parted-clause-gave g c start other_start found =
@@ -34,10 +31,8 @@ returns-in-Parted-clause-gave g c start other_start found =
     parted_decides left left_other start other_start first second now other_now c.in-Parted.place h c.read_second-in-Parted.result (c.in-Ok.ensures.out start (h.a ++ h.e ∷ []) (given_on left start first (h.a ++ h.e ∷ []) h.first_given))
     (c.read_second-in-Parted.ensures.out other_start (h.b ++ h.f ∷ []) h.second_given)
 
-pub returns-in-Parted-clause-read_first : goal.returns-in-Parted-clause-read_first
-returns-in-Parted-clause-read_first g c =
-    let old = g.A.Source.failures (source_of c.args.first.now) in
-    subst (λ n. CountsReadingOf First old n c.read_second-in-Parted.result) (sym c.in-Ok.ensures.read) (c.read_second-in-Parted.ensures.never_first old)
+pub returns-in-Parted-clause-reads : goal.returns-in-Parted-clause-reads
+returns-in-Parted-clause-reads g c = both_read c.in-Ok.ensures.reads c.read_second-in-Parted.ensures.reads
 
 pub returns-in-Refused-clause-gave : goal.returns-in-Refused-clause-gave
 returns-in-Refused-clause-gave g c start other_start found =
