@@ -12,7 +12,7 @@ ghost use Rattle.canon3.specs.SinkWrites.{AppendsFront};
 use crate::message_writer::MessageWriter;
 use crate::sink::Sink;
 use crate::spelling::Spelling;
-use crate::whole_writes::{write_all, write_record};
+use crate::whole_writes::{write_all, write_both, write_record};
 use capture3::{Error, pack_chunk};
 use record_mark::BODY_LIMIT;
 use std::hash::BuildHasher;
@@ -42,10 +42,15 @@ pub(crate) fn write_spelling<W: Sink, S: BuildHasher + Drop>(
     match form {
         Spelling::Zero => write_word(sink, 0),
         Spelling::One => write_word(sink, 1),
-        Spelling::Message(body) => match message_writer.compose_front(body) {
-            Ok((len, rest)) => write_in_two(sink, &message_writer.room[..len], rest),
-            Err(_) => Err(Error::Memory),
-        },
+        Spelling::Message(body) => {
+            let Ok((len, rest)) = message_writer.compose_chunk(body) else {
+                return Err(Error::Memory);
+            };
+            match write_both(sink, &message_writer.room[..len], rest) {
+                Ok(()) => Ok(()),
+                Err(_) => Err(Error::Write),
+            }
+        }
     }
 }
 
@@ -85,24 +90,10 @@ pub fn write_message<W: Sink>(sink: &mut W, message: &[u8]) -> Result<(), Error>
     ensures count { CountsWriting (W.failures sink.old) (W.failures sink.new) result }
     ensures error { IfErr result IsOfWriting }
 {
-    write_in_two(sink, message, &[])
-}
-
-/// Writes a message of two parts as `write_message` does.
-fn write_in_two<W: Sink>(sink: &mut W, front: &[u8], rest: &[u8]) -> Result<(), Error>
-    ensures ok { OnOk result
-        (Appends (W.written sink.old) (W.written sink.new)
-        (chunk_bytes (record_bytes (front.now ++ rest.now)))) }
-    ensures err { OnErr result
-        (AppendsFront (W.written sink.old) (W.written sink.new)
-        (chunk_bytes (record_bytes (front.now ++ rest.now)))) }
-    ensures count { CountsWriting (W.failures sink.old) (W.failures sink.new) result }
-    ensures error { IfErr result IsOfWriting }
-{
-    if front.len().saturating_add(rest.len()) > BODY_LIMIT as usize {
+    if message.len() > BODY_LIMIT as usize {
         return Err(Error::Memory);
     }
-    match write_record(sink, front, rest) {
+    match write_record(sink, message) {
         Ok(()) => Ok(()),
         Err(_) => Err(Error::Write),
     }

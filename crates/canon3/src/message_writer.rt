@@ -4,17 +4,20 @@ ghost use Rattle.std.specs.Prelude.{◌≡◌, ◌≢◌, ◌≤◌, ◌++◌, �
 ghost use Rattle.xdr3.specs.Item.{Handle as HandleKind, Item, Kind, Opaque, Word, WriteVerf, residue, word_bytes};
 ghost use Rattle.xdr3.specs.Plain.{run_items, run_size};
 ghost use Rattle.xdr3.specs.Visit.{Adds, body_limit};
+ghost use Rattle.canon3.specs.Bytes.{chunk_bytes, record_bytes};
 ghost use Rattle.canon3.specs.HandleTable.{HoldsHandles};
 ghost use Rattle.canon3.specs.machinery.MessageWriter.{Before, HoldsBefore, IsGoing, WriterStands, message_of, told_after, values_of};
 ghost use Rattle.canon3.specs.Rank.{number_limit, rank};
 ghost use Rattle.canon3.specs.Renaming.{IsPlain};
 
 use crate::numbers::Numbers;
+use crate::whole_writes::{HEAD, chunk_head};
 use crate::xid_numbers::XidNumbers;
 use byteorder::{BigEndian, ByteOrder};
 use capture3::pack_chunk;
 use nfs3_types::Handle;
 use patches::Patches;
+use record_mark::BODY_LIMIT;
 use std::alloc::{AllocError, Global};
 use std::hash::BuildHasher;
 use xdr3::room::{make_room, put_bytes};
@@ -86,6 +89,14 @@ fn spelled_number(number: u32) -> [u8; 8]
     run[..4].copy_from_slice(&pack_chunk(4));
     run[4..].copy_from_slice(&pack_chunk(number));
     run
+}
+
+/// Overwrites the first bytes of a buffer.
+fn set_head(room: &mut [u8], head: [u8; HEAD])
+    requires { HEAD ≤ length room.old }
+    ensures { room.new ≡ head ++ drop HEAD room.old }
+{
+    room[..HEAD].copy_from_slice(&head);
 }
 
 impl<S: BuildHasher + Drop> MessageWriter<S> {
@@ -162,21 +173,45 @@ impl<S: BuildHasher + Drop> MessageWriter<S> {
         self.patches.write(after_xid(body), &mut self.room, end)
     }
 
-    /// Puts the message with this body into `room`, with numbers, as `compose` does. If many bytes
-    /// stay after the last replacement, they are not put there. Returns the length of what is in
-    /// `room`, and the bytes that follow it.
-    pub(crate) fn compose_front<'b>(
+    /// Puts the chunk of the message with this body into `room`, with numbers: a record of one
+    /// fragment. If many bytes stay after the last replacement, they are not put there. Returns the
+    /// length of what is in `room`, and the bytes that follow it.
+    ///
+    /// # Errors
+    ///
+    /// `AllocError` if an allocation fails, or if the message has more than 16,777,216 bytes.
+    pub(crate) fn compose_chunk<'b>(
         &mut self,
         body: &'b [u8],
     ) -> Result<(usize, &'b [u8]), AllocError>
         ensures within { IfOk result (λ r. r.0 ≤ vec_len self.new.room) }
-        ensures message { IfOk result (λ r. take r.0 self.new.room.items ++ r.1.now
+        ensures chunk { IfOk result (λ r. take r.0 self.new.room.items ++ r.1.now
+            ≡ chunk_bytes (record_bytes (message_of self.old body.now))) }
+        ensures holds { (before : Before) → HoldsBefore self.old before
+            → HoldsBefore self.new before }
+    {
+        let (end, rest) = self.compose_behind_head(body)?;
+        let len = (end - HEAD).saturating_add(rest.len());
+        if len > BODY_LIMIT as usize {
+            return Err(AllocError);
+        }
+        set_head(&mut self.room, chunk_head(len as u32));
+        Ok((end, rest))
+    }
+
+    /// Puts the message with this body into `room` after the bytes of a head, as `compose_chunk`
+    /// does.
+    fn compose_behind_head<'b>(&mut self, body: &'b [u8]) -> Result<(usize, &'b [u8]), AllocError>
+        ensures within { IfOk result (λ r. r.0 ≤ vec_len self.new.room) }
+        ensures from { IfOk result (λ r. HEAD ≤ r.0) }
+        ensures message { IfOk result
+            (λ r. drop HEAD (take r.0 self.new.room.items ++ r.1.now)
             ≡ message_of self.old body.now) }
         ensures holds { (before : Before) → HoldsBefore self.old before
             → HoldsBefore self.new before }
     {
-        make_room(&mut self.room, 0, 4)?;
-        let start = put_bytes(&mut self.room, 0, &pack_chunk(self.xid));
+        make_room(&mut self.room, 0, HEAD + 4)?;
+        let start = put_bytes(&mut self.room, HEAD, &pack_chunk(self.xid));
         let (end, rest) = self
             .patches
             .write_front(after_xid(body), &mut self.room, start)?;

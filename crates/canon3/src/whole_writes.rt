@@ -12,6 +12,9 @@ use crate::sink::Sink;
 use capture3::{DeviceFailed, pack_chunk};
 use record_mark::{BODY_LIMIT, header};
 
+/// How many bytes are before the body in the chunk of a record of one fragment.
+pub(crate) const HEAD: usize = 8;
+
 /// Writes all of the bytes, in as many pieces as the sink takes them. After an error a prefix of
 /// them was written.
 pub fn write_all<W: Sink>(sink: &mut W, bytes: &[u8]) -> Result<(), DeviceFailed>
@@ -28,7 +31,11 @@ pub fn write_all<W: Sink>(sink: &mut W, bytes: &[u8]) -> Result<(), DeviceFailed
 }
 
 /// Writes both, one after the other. After an error a prefix of both was written.
-fn write_both<W: Sink>(sink: &mut W, first: &[u8], second: &[u8]) -> Result<(), DeviceFailed>
+pub(crate) fn write_both<W: Sink>(
+    sink: &mut W,
+    first: &[u8],
+    second: &[u8],
+) -> Result<(), DeviceFailed>
     ensures ok { OnOk result (Appends (W.written sink.old) (W.written sink.new)
         (first.now ++ second.now)) }
     ensures err { OnErr result (AppendsFront (W.written sink.old) (W.written sink.new)
@@ -39,30 +46,25 @@ fn write_both<W: Sink>(sink: &mut W, first: &[u8], second: &[u8]) -> Result<(), 
     write_all(sink, second)
 }
 
-/// Writes a record's body as one chunk that is one last fragment. The body is in two parts, which
-/// have at most 16,777,216 bytes. After an error a prefix of the chunk was written.
-pub(crate) fn write_record<W: Sink>(
-    sink: &mut W,
-    body: &[u8],
-    rest: &[u8],
-) -> Result<(), DeviceFailed>
-    requires { length body.now + length rest.now ≤ max_body }
+/// Writes a record's body, of at most 16,777,216 bytes, as one chunk that is one last fragment. After
+/// an error a prefix of the chunk was written.
+pub(crate) fn write_record<W: Sink>(sink: &mut W, body: &[u8]) -> Result<(), DeviceFailed>
+    requires { length body.now ≤ max_body }
     ensures ok { OnOk result (Appends (W.written sink.old) (W.written sink.new)
-        (chunk_bytes (record_bytes (body.now ++ rest.now)))) }
+        (chunk_bytes (record_bytes body.now))) }
     ensures err { OnErr result (AppendsFront (W.written sink.old) (W.written sink.new)
-        (chunk_bytes (record_bytes (body.now ++ rest.now)))) }
+        (chunk_bytes (record_bytes body.now))) }
     ensures count { Counts (W.failures sink.old) (W.failures sink.new) result }
 {
-    write_all(sink, &front((body.len() + rest.len()) as u32))?;
-    write_both(sink, body, rest)
+    write_both(sink, &chunk_head(body.len() as u32), body)
 }
 
 /// Returns the length of the chunk of a body of `len` bytes, and the body's header.
-fn front(len: u32) -> [u8; 8]
+pub(crate) fn chunk_head(len: u32) -> [u8; HEAD]
     requires { len ≤ BODY_LIMIT }
     ensures { result ≡ word_bytes (4 + len) ++ word_bytes (2 ^ 31 + len) }
 {
-    let mut front = [0u8; 8];
+    let mut front = [0u8; HEAD];
     front[..4].copy_from_slice(&pack_chunk(4 + len));
     front[4..].copy_from_slice(&header(len));
     front

@@ -1,6 +1,7 @@
 -- What a sink has taken of bytes, piece by piece.
-use Rattle.std.proofs.Common.{◌≡◌, ℕ, List, [], ◌++◌, ◌∙◌, ap, append_assoc, append-nil, drop, sym, length, length-append, length-drop, take, take-append-drop, arith, ◌+◌, ◌^◌, ◌≤◌}
-use Rattle.std.proofs.lemmas.List.{take_all}
+use Rattle.std.proofs.Common.{◌≡◌, ℕ, List, [], ◌++◌, ◌∙◌, ap, append_assoc, append-nil, drop, subst, sym, length, length-append, length-drop, length-take, take, take-append-drop, arith, ◌+◌, ◌-◌, ◌^◌, ◌≤◌}
+use Rattle.std.proofs.lemmas.List.{drop-append-le, drop-take, take_all}
+use Rattle.std.proofs.Math.Seq.{take-append-add}
 use Rattle.std.specs.Prelude.{Option}
 use Rattle.std.specs.Io.KnownBytes.{Appends}
 use Rattle.std.proofs.KnownBytes.{Appends-trans}
@@ -37,5 +38,20 @@ record_split front body is =
     let size : length (record_bytes body) ≡ 4 + length body = omega arith in
     ap (λ n. word_bytes n ++ record_bytes body) size ∙ ap (λ (l : List ℕ). l ++ body) (sym is)
 
-pub record_split_of_two : (front body rest : List ℕ) → front ≡ word_bytes (4 + (length body + length rest)) ++ word_bytes (2 ^ 31 + (length body + length rest)) → chunk_bytes (record_bytes (body ++ rest)) ≡ front ++ (body ++ rest)
-record_split_of_two front body rest is = record_split front (body ++ rest) (is ∙ ap (λ (n : ℕ). word_bytes (4 + n) ++ word_bytes (2 ^ 31 + n)) (sym (length-append body rest)))
+head_set : (count end : ℕ) (head room rest : List ℕ) → length head ≡ count → count ≤ end → end ≤ length room → take end (head ++ drop count room) ++ rest ≡ head ++ drop count (take end room ++ rest)
+head_set count end head room rest size from within =
+    let more = end - count in
+    let all : length head + more ≡ end = omega (arith, size, from) in
+    let whole : count + more ≡ end = omega (arith, from) in
+    let first = subst (λ n. take n (head ++ drop count room) ≡ head ++ take more (drop count room)) all (take-append-add head (drop count room) more) in
+    let cut = subst (λ n. drop count (take n room) ≡ take more (drop count room)) whole (drop-take count more room) in
+    let fits : count ≤ length (take end room) = omega (arith, length-take end room, from, within) in
+    ap (λ (l : List ℕ). l ++ rest) (first ∙ ap (λ (l : List ℕ). head ++ l) (sym cut))
+    ∙ append_assoc head (drop count (take end room)) rest
+    ∙ ap (λ (l : List ℕ). head ++ l) (sym (drop-append-le count (take end room) rest fits))
+
+-- a head that is put in front of a message makes it a chunk
+pub chunk_of_head : (head room rest message : List ℕ) (end : ℕ) → 8 ≤ end → end ≤ length room → drop 8 (take end room ++ rest) ≡ message
+    → head ≡ word_bytes (4 + length message) ++ word_bytes (2 ^ 31 + length message) → take end (head ++ drop 8 room) ++ rest ≡ chunk_bytes (record_bytes message)
+chunk_of_head head room rest message end from within is spelled =
+    head_set 8 end head room rest (ap length spelled) from within ∙ ap (λ (l : List ℕ). head ++ l) is ∙ sym (record_split head message spelled)
