@@ -144,11 +144,11 @@ fn a_front_where_room_is_wanting(rt: HostRuntime) {
     assert_same!(rt; sink.bytes(), numbered.as_slice());
 }
 
-// Nine writes come before it.
+// Seven writes come before it.
 #[test]
 fn a_failed_flush(rt: HostRuntime) {
     let (bytes, numbered) = ok(&rt, commits(rt.alloc()));
-    let mut sink = ok(&rt, MemSink::new(rt.alloc(), 999, 999, 10));
+    let mut sink = ok(&rt, MemSink::new(rt.alloc(), 999, 999, 8));
     assert_same!(rt; canon_of(&rt, &bytes, 0, &mut sink), Err(Error::Write));
     assert_same!(rt; sink.bytes(), numbered.as_slice());
 }

@@ -81,11 +81,11 @@ fn canon_into(rt: &HostRuntime, file: &[u8], writer: Faulty) -> Result<Summary, 
     )
 }
 
-// Nine writes and the flush, each of which fails once.
+// Seven writes and the flush, each of which fails once.
 #[test]
 fn each_call_of_a_writer_fails(rt: HostRuntime) {
     let (bytes, _) = ok(&rt, commits(rt.alloc()));
-    for fails_at in 1..11u64 {
+    for fails_at in 1..9u64 {
         let writer = Faulty::at(fails_at, Failing::WithAnError);
         let answer = canon_into(&rt, &bytes, writer);
         assert_same!(rt; (fails_at, answer), (fails_at, Err(Error::Write)));
