@@ -1,13 +1,17 @@
 -- Numbers by first appearance.
-use Rattle.std.specs.Prelude.{◌≡◌, ℕ, ◌+◌, ◌-◌, ◌^◌, Bool, List, [], ◌∷◌, length, if◌then◌else◌}
-use Rattle.key_table.specs.Keys.{with_key}
+use Rattle.std.specs.Prelude.{◌≡◌, ℕ, ◌+◌, ◌-◌, ◌^◌, Bool, List, [], ◌∷◌, ◌++◌, length, if◌then◌else◌}
+use Rattle.std.specs.List.{list_any}
 use Rattle.canon3.specs.Pairing.{Member}
 
 module _ {K : Type 0} (same : K → K → Bool) where
+  -- the keys, with k at the end if it is not among them
+  abbrev pub with_key : List K → K → List K
+  with_key keys k = if list_any (same k) keys then keys else keys ++ k ∷ []
+
   -- the keys after each member of l was added in turn
   abbrev pub with_keys : List K → List K → List K
   with_keys keys [] = keys
-  with_keys keys (x ∷ l) = with_keys (with_key same keys x) l
+  with_keys keys (x ∷ l) = with_keys (with_key keys x) l
 
   -- the distinct members, in the order of their first places
   abbrev pub distinct : List K → List K

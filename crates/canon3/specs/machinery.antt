@@ -11,5 +11,4 @@ pub mod PartialWrites
 pub mod Spelling
 pub mod Sums
 pub mod Tally
-pub mod WaitingHandles
 pub mod XidNumbers

@@ -20,7 +20,6 @@ mod spelling;
 mod summary;
 mod traced;
 mod verdict;
-mod waiting_handles;
 mod whole_writes;
 mod xid_numbers;
 

@@ -4,7 +4,7 @@ ghost use Rattle.std.specs.Prelude.{◌≡◌, ◌+◌, ◌-◌, ◌^◌, ◌++�
 ghost use Rattle.std.specs.List.{list_any};
 ghost use Rattle.canon3.specs.Rank.{rank, distinct, HoldsDistinct, number_limit};
 
-use key_table::KeyTable;
+use indexmap::IndexSet;
 use std::alloc::{AllocError, Global};
 use std::hash::{BuildHasher, Hash};
 use std::marker::Model;
@@ -13,7 +13,7 @@ use std::marker::Model;
 /// The hasher does not affect the numbers.
 #[derive(Drop)]
 pub struct Numbers<K: Copy + Eq + Hash, S: BuildHasher + Drop> {
-    keys: KeyTable<K, S>,
+    keys: IndexSet<K, S>,
 }
 
 impl<K: Copy + Eq + Hash, S: BuildHasher + Drop> Model for Numbers<K, S> {
@@ -24,7 +24,7 @@ impl<K: Copy + Eq + Hash, S: BuildHasher + Drop> Model for Numbers<K, S> {
 
     ghost coded = { coded_list K.code };
 
-    ghost view = { λ n. n.keys };
+    ghost view = { λ n. n.keys.keys };
 }
 
 impl<K: Copy + Eq + Hash, S: BuildHasher + Drop> Numbers<K, S> {
@@ -33,7 +33,7 @@ impl<K: Copy + Eq + Hash, S: BuildHasher + Drop> Numbers<K, S> {
         ensures { HoldsDistinct K.eq result [] }
     {
         Numbers {
-            keys: KeyTable::new(alloc, hasher),
+            keys: IndexSet::with_hasher(alloc, hasher),
         }
     }
 
@@ -42,7 +42,7 @@ impl<K: Copy + Eq + Hash, S: BuildHasher + Drop> Numbers<K, S> {
     ///
     /// # Errors
     ///
-    /// `AllocError` if an allocation fails, or if the table has 4,294,967,295 keys. It is unchanged
+    /// `AllocError` if an allocation fails, or if the table has 2,415,919,104 keys. It is unchanged
     /// then. A key that was given before never fails.
     #[inline(always)]
     pub fn number_of(&mut self, key: K) -> Result<u32, AllocError>
@@ -54,7 +54,7 @@ impl<K: Copy + Eq + Hash, S: BuildHasher + Drop> Numbers<K, S> {
             → list_any (K.eq key) given ≡ true → IsOk result }
         ensures err { OnErr result (self.new ≡ self.old) }
     {
-        let index = self.keys.index_of_or_add(key)?;
+        let (index, _) = self.keys.insert_full(key)?;
         Ok(u32::try_from(index).unwrap_or(u32::MAX).saturating_add(1))
     }
 
@@ -66,18 +66,11 @@ impl<K: Copy + Eq + Hash, S: BuildHasher + Drop> Numbers<K, S> {
         u32::try_from(self.keys.len()).unwrap_or(u32::MAX)
     }
 
-    /// Loads what `number_of` reads for each of these keys, of which all but the first
-    /// `MOST_WARMED` of a `KeyTable` are left out. It changes no number.
-    pub fn warm(&mut self, keys: &[K])
-        ensures { self.new ≡ self.old }
-    {
-        self.keys.warm(keys);
-    }
-
-    /// Drops the keys, and keeps the hasher. Its cost follows what the table holds, not its capacity.
+    /// Drops the keys, and keeps the hasher and the memory. Its cost follows what the table holds,
+    /// not its capacity.
     pub fn clear(&mut self)
         ensures { HoldsDistinct K.eq self.new [] }
     {
-        self.keys.clear();
+        self.keys.truncate(0);
     }
 }

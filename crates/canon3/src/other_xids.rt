@@ -2,8 +2,7 @@
 
 ghost use Rattle.std.specs.Prelude.{◌≡◌, ◌+◌, ◌↔◌, [], IfOk, IsTrue, OnOk, min, nat_eq};
 ghost use Rattle.std.specs.List.{position_or_len};
-ghost use Rattle.canon3.specs.Rank.{number_limit};
-ghost use Rattle.key_table.specs.Keys.{with_key};
+ghost use Rattle.canon3.specs.Rank.{number_limit, with_key};
 
 use std::alloc::{AllocError, Global};
 use std::hash::BuildHasher;

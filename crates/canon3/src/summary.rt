@@ -14,9 +14,9 @@ ghost use Rattle.canon3.specs.machinery.Sums.{Sums};
 ghost use Rattle.canon3.specs.machinery.Tally.{TalliesOn, TalliesToTheEnd, IsTallying, Tallies};
 
 use crate::entry_counts::EntryCounts;
-use crate::waiting_handles::WaitingHandles;
+use crate::handles::HandleTable;
 use capture3::{Entries, Error, Hashers, Source, new_block};
-use std::alloc::{AllocError, Global};
+use std::alloc::Global;
 use std::hash::BuildHasher;
 
 /// What a capture has of each kind.
@@ -78,14 +78,14 @@ fn summed<R: Source, S: BuildHasher + Drop>(
 {
     let mut tally = Tally::new(alloc, hasher);
     tally.add_all(entries)?;
-    Ok(tally.summary()?)
+    Ok(tally.summary())
 }
 
 /// What was counted so far.
 #[derive(Drop)]
 struct Tally<S: BuildHasher + Drop> {
     counts: EntryCounts,
-    handles: WaitingHandles<S>,
+    handles: HandleTable<S>,
 }
 
 impl<S: BuildHasher + Drop> Tally<S> {
@@ -95,7 +95,7 @@ impl<S: BuildHasher + Drop> Tally<S> {
     {
         Tally {
             counts: EntryCounts::new(),
-            handles: WaitingHandles::new(alloc, hasher),
+            handles: HandleTable::new(alloc, hasher),
         }
     }
 
@@ -133,11 +133,9 @@ impl<S: BuildHasher + Drop> Tally<S> {
         }
     }
 
-    fn summary(&mut self) -> Result<Summary, AllocError>
-        ensures { (entries : List spec.Entry) → Tallies self.old entries
-            → IfOk result (λ summary. Sums summary entries) }
+    fn summary(&self) -> Summary
+        ensures { (entries : List spec.Entry) → Tallies self.now entries → Sums result entries }
     {
-        let handles = self.handles.count()?;
-        Ok(self.counts.summary(handles))
+        self.counts.summary(self.handles.len())
     }
 }

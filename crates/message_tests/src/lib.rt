@@ -11,8 +11,6 @@ mod heads;
 #[cfg(test)]
 mod items;
 #[cfg(test)]
-mod keys;
-#[cfg(test)]
 mod parts;
 #[cfg(test)]
 mod procedures;

@@ -11,13 +11,13 @@ use Rattle.capture3.specs.Entry.{Entry}
 use Rattle.capture3.specs.Typed.{Typed}
 use Rattle.canon3.specs.declared.summary.Tally.{Tally}
 use Rattle.canon3.specs.EntryCounts.{AreCounted}
+use Rattle.canon3.specs.HandleTable.{Gathers}
 use Rattle.canon3.specs.machinery.Sums.{all_items}
-use Rattle.canon3.specs.machinery.WaitingHandles.{GathersAll}
 
 -- these entries came, and their handles were gathered
 pub record Tallies {S H : Type 0} (tally : Tally S H) (entries : List Entry) : Type 0 where
   pub counts : AreCounted tally.counts entries
-  pub handles : GathersAll tally.handles (all_items entries)
+  pub handles : Gathers tally.handles (all_items entries)
 
 -- the bytes met an error
 pub record HasFailed {R S H : Type 0} {builds : BuildHasher.Ghosts S H} {hashes : Hasher.Ghosts H}

@@ -15,11 +15,8 @@ use Rattle.nfs3_types.specs.declared.values.handle.Handle as handles
 use Rattle.nfs3_types.specs.Handle.{handle_bytes}
 use Rattle.capture3.specs.Entry.{Entry, items_of}
 use Rattle.canon3.specs.HandleTable.{Gathers, same_handle}
-use Rattle.canon3.specs.Rank.{before, distinct, rank, with_keys, HoldsDistinct}
-use Rattle.key_table.specs.Keys.{with_key}
+use Rattle.canon3.specs.Rank.{before, distinct, rank, with_key, with_keys, HoldsDistinct}
 use Rattle.canon3.specs.machinery.Sums.{all_items}
-use Rattle.canon3.specs.machinery.WaitingHandles.{GathersAll}
-use Rattle.canon3.specs.declared.waiting_handles.WaitingHandles.{WaitingHandles}
 use Rattle.canon3.specs.Values.{handle_in, handles, handles_in}
 
 -- ---- distinct ones by what they hold
@@ -85,28 +82,6 @@ pub gathers_one : (old new : List handles.Handle) (handle : handles.Handle) (nam
     → ((given : List handles.Handle) → HoldsDistinct same_handle old given → HoldsDistinct same_handle new (given ++ handle ∷ []))
     → Gathers old items → Gathers new (items ++ Opaque Handle name bytes ∷ [])
 gathers_one old new handle name bytes items is some step (given, stands, are) = (given ++ handle ∷ [], step given stands, one_more given handle name bytes items is some are)
-
--- ---- of handles that wait
-
-pub waits_none : {S H : Type 0} (gathering : WaitingHandles S H) (items more : List Item) → handles_in more ≡ [] → GathersAll gathering items → GathersAll gathering (items ++ more)
-waits_none gathering items more none (given, stands, are) = (given, stands, are ∙ none_more items more none)
-
--- one of them is looked up
-pub waits_looked_up : (given waiting : List handles.Handle) (i : ℕ) (d : handles.Handle) (hs : List (List ℕ)) → i < length waiting → map handle_bytes (given ++ drop i waiting) ≡ hs
-    → map handle_bytes ((given ++ get_or waiting i d ∷ []) ++ drop (i + 1) waiting) ≡ hs
-waits_looked_up given waiting i d hs within are =
-    ap (map handle_bytes) (append_assoc given (get_or waiting i d ∷ []) (drop (i + 1) waiting) ∙ ap (λ (l : List handles.Handle). given ++ l) (sym (drop_more waiting i d within))) ∙ are
-
--- all of them were
-pub waits_no_more : (given waiting : List handles.Handle) (i : ℕ) (hs : List (List ℕ)) → length waiting ≤ i → map handle_bytes (given ++ drop i waiting) ≡ hs → map handle_bytes given ≡ hs
-waits_no_more given waiting i hs past are =
-    ap (map handle_bytes) (sym (append-nil given) ∙ ap (λ (l : List handles.Handle). given ++ l) (sym (drop_all i waiting past))) ∙ are
-
--- one more waits
-pub waits_one : (given waiting : List handles.Handle) (handle : handles.Handle) (name bytes : List ℕ) (items : List Item) → handle_bytes handle ≡ bytes → bytes ≢ [] → map handle_bytes (given ++ waiting) ≡ handles_in items
-    → map handle_bytes (given ++ (waiting ++ handle ∷ [])) ≡ handles_in (items ++ Opaque Handle name bytes ∷ [])
-waits_one given waiting handle name bytes items is some are =
-    ap (map handle_bytes) (sym (append_assoc given waiting (handle ∷ []))) ∙ one_more (given ++ waiting) handle name bytes items is some are
 
 -- as many handles as bytes of them
 pub distinct_held : {hs : List (List ℕ)} (given : List handles.Handle) → map handle_bytes given ≡ hs → length (distinct same_handle given) ≡ length (distinct bytes_eq hs)

@@ -4,8 +4,7 @@ use Rattle.std.specs.Bool.{Decides}
 use Rattle.std.specs.Cmp.{IsEquivalence}
 use Rattle.std.specs.List.{list_any, position_or_len}
 use Rattle.std.proofs.lemmas.Bool.{false_from_ne_true}
-use Rattle.canon3.specs.Rank.{with_keys, distinct, before, rank, IsInjectiveOn}
-use Rattle.key_table.specs.Keys.{with_key}
+use Rattle.canon3.specs.Rank.{before, distinct, rank, with_key, with_keys, IsInjectiveOn}
 use Rattle.canon3.specs.Pairing.{Member, here, there}
 use Rattle.canon3.specs.Renaming.{Pairwise, none, more}
 

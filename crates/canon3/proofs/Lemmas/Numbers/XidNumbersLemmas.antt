@@ -7,8 +7,7 @@ use Rattle.std.proofs.lemmas.Bool.Decides.{Decides-eqb}
 use Rattle.std.proofs.lemmas.List.Folds.{list_any-append}
 use Rattle.std.proofs.lemmas.Nat.{be_bytes_4, from_be_bytes-to_be_bytes_4}
 use Rattle.canon3.specs.machinery.XidNumbers.{counted_from, placed}
-use Rattle.canon3.specs.Rank.{distinct, number_limit, rank}
-use Rattle.key_table.specs.Keys.{with_key}
+use Rattle.canon3.specs.Rank.{distinct, number_limit, rank, with_key}
 use Rattle.canon3.proofs.Lemmas.Numbers.RankLemmas.{by_test, distinct-push, equivalence, rank-push}
 
 -- ---- four bytes in reverse

@@ -1,7 +1,6 @@
-use Rattle.std.proofs.Common.{[], append-nil, inl, subst, sym}
+use Rattle.std.proofs.Common.{[]}
 use Rattle.capture3.proofs.Lemmas.Reader.ToldLemmas.{gave_none}
 use Rattle.capture3.specs.Entries.{source_of}
-use Rattle.capture3.specs.Typed.{Typed}
 use Rattle.capture3.proofs.Lemmas.Reader.PassedOn.{error_is}
 use Rattle.canon3.proofs.Lemmas.Progress.SummaryLemmas.{summary_is}
 use Rattle.canon3.proofs.summary.summed.Goals as goal
@@ -10,14 +9,7 @@ pub returns-clause-concludes : goal.returns-clause-concludes
 returns-clause-concludes g c =
     let before = g.R.Source.told (source_of c.args.entries.now) in
     let done = c.in_ok-add_all.ensures.over before (record { given = []; handed = []; consumed = gave_none before; stands = c.requires.fresh; tallied = c.new-tally.ensures.tallies }) in
-    (done.given, done.consumed, (done.ended, summary_is done.given c.in_ok-summary.field-0 done.handed done.typed (c.in_ok-summary.ensures done.handed done.tallied)))
-
--- all entries were reached, but their handles could not be counted
-pub returns-in_err-summary-clause-concludes : goal.returns-in_err-summary-clause-concludes
-returns-in_err-summary-clause-concludes g c =
-    let before = g.R.Source.told (source_of c.args.entries.now) in
-    let done = c.in_ok-add_all.ensures.over before (record { given = []; handed = []; consumed = gave_none before; stands = c.requires.fresh; tallied = c.new-tally.ensures.tallies }) in
-    rw (error_is _ _ c.from_residual-in_err-summary.ensures) (done.given, done.consumed, (done.handed, ([], inl (subst (Typed done.given) (sym (append-nil done.handed)) done.typed))))
+    (done.given, done.consumed, (done.ended, summary_is done.given c.summary.result done.handed done.typed (c.summary.ensures done.handed done.tallied)))
 
 pub returns-in_err-add_all-clause-concludes : goal.returns-in_err-add_all-clause-concludes
 returns-in_err-add_all-clause-concludes g c =

@@ -1,8 +1,7 @@
 use Rattle.std.proofs.Common.{◌≡◌, ap, ◌∙◌, sym, min, arith, rules, true, []}
 use Rattle.std.proofs.lemmas.Grind.{common_steps}
 use Rattle.std.specs.List.{list_any, position_or_len}
-use Rattle.canon3.specs.Rank.{distinct}
-use Rattle.key_table.specs.Keys.{with_key}
+use Rattle.canon3.specs.Rank.{distinct, with_key}
 use Rattle.canon3.proofs.Lemmas.Numbers.RankLemmas.{rank-push, distinct-push, any-distinct}
 use Rattle.canon3.proofs.numbers.Numbers.number_of.Goals as goal
 

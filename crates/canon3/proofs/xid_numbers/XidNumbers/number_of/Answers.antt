@@ -1,8 +1,7 @@
 use Rattle.std.proofs.Common.{◌≡◌, ◌++◌, ◌∷◌, [], List, ℕ, ◌+◌, length, min, nat_eq, ap, refl, sym, ◌∙◌}
 use Rattle.std.specs.List.{position_or_len}
 use Rattle.std.proofs.lemmas.Result.{IfOk-weaker, on_ok_weaker}
-use Rattle.canon3.specs.Rank.{number_limit, rank}
-use Rattle.key_table.specs.Keys.{with_key}
+use Rattle.canon3.specs.Rank.{number_limit, rank, with_key}
 use Rattle.canon3.proofs.Lemmas.Numbers.XidNumbersLemmas.{known_held, next_held, number_known, number_next, number_other, other_held}
 use Rattle.canon3.proofs.xid_numbers.XidNumbers.number_of.Goals as goal
 

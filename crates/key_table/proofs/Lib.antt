@@ -1,2 +1,0 @@
--- Lemmas of tables of keys.
-pub mod FindingLemmas

@@ -1,4 +1,0 @@
--- Distinct keys in the order of their first appearance.
-pub mod Keys
-pub mod Finding
-pub mod machinery
