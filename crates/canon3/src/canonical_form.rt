@@ -133,11 +133,6 @@ impl<S: BuildHasher + Drop> EntryWriter for MessageWriter<S> {
         write_after_magic(self, sink, entry)
     }
 
-    #[inline(always)]
-    fn expect(&mut self, xids: &[u32]) {
-        self.expect_xids(xids);
-    }
-
     fn handles(&self) -> u32 {
         self.handles.len()
     }

@@ -253,14 +253,11 @@ impl<S: BuildHasher + Drop> Comparison<S> {
             second.old second.new result }
     {
         match first.next(&mut self.first) {
-            Ok(Some(_)) => {
-                self.first.expect_xids(first.upcoming_xids());
-                match first.entry() {
-                    Some(entry) => self.compare_second_entry(entry, second),
-                    // An entry was just returned.
-                    None => unreachable!(),
-                }
-            }
+            Ok(Some(_)) => match first.entry() {
+                Some(entry) => self.compare_second_entry(entry, second),
+                // An entry was just returned.
+                None => unreachable!(),
+            },
             Ok(None) => Ok(Some(Finding::Ended)),
             Err(error) => Err(SameError {
                 which: Which::First,
@@ -286,14 +283,11 @@ impl<S: BuildHasher + Drop> Comparison<S> {
         ensures reads { ReadsSecond B.failures second.old second.new result }
     {
         match second.next(&mut self.second) {
-            Ok(Some(_)) => {
-                self.second.expect_xids(second.upcoming_xids());
-                match second.entry() {
-                    Some(other) => Ok(self.compare(entry, other)?.map(Finding::Parted)),
-                    // An entry was just returned.
-                    None => unreachable!(),
-                }
-            }
+            Ok(Some(_)) => match second.entry() {
+                Some(other) => Ok(self.compare(entry, other)?.map(Finding::Parted)),
+                // An entry was just returned.
+                None => unreachable!(),
+            },
             Ok(None) => Ok(Some(Finding::Ended)),
             Err(error) => refused(error),
         }

@@ -56,11 +56,6 @@ pub trait EntryWriter: Visit {
         ensures count { CountsWriting (W.failures sink.old) (W.failures sink.new) result }
         ensures error { IfErr result IsOfWriting };
 
-    /// Prepares for these xids, which probably come next. They are a guess: it changes nothing but
-    /// the time that visits take.
-    fn expect(&mut self, xids: &[u32])
-        ensures { self.new ≡ self.old };
-
     /// Returns how many distinct file handles that are not empty there were, at most 4,294,967,295.
     fn handles(&self) -> u32
         ensures { (entries : List spec.Entry) → going self.now
@@ -206,14 +201,11 @@ fn write_next<R: Source, W: Sink, E: EntryWriter, S: BuildHasher + Drop>(
     ensures same_reference { loan_of entries.new ≡ loan_of entries.old }
 {
     match entries.next(writer)? {
-        Some(_) => {
-            writer.expect(entries.upcoming_xids());
-            match entries.entry() {
-                Some(entry) => write_one(counts, sink, writer, entry),
-                // An entry was just returned.
-                None => unreachable!(),
-            }
-        }
+        Some(_) => match entries.entry() {
+            Some(entry) => write_one(counts, sink, writer, entry),
+            // An entry was just returned.
+            None => unreachable!(),
+        },
         None => Ok(false),
     }
 }

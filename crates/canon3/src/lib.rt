@@ -13,7 +13,6 @@ pub mod laws;
 mod mem_sink;
 mod message_writer;
 mod numbers;
-mod other_xids;
 mod progress;
 mod sink;
 mod spelling;

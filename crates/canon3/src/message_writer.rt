@@ -129,16 +129,6 @@ impl<S: BuildHasher + Drop> MessageWriter<S> {
         self.xids.clear();
     }
 
-    /// Makes the numbers of these xids take less time. It changes no number.
-    #[inline(always)]
-    pub(crate) fn expect_xids(&mut self, xids: &[u32])
-        ensures { self.new ≡ self.old }
-    {
-        if !xids.is_empty() {
-            self.xids.touch(xids);
-        }
-    }
-
     /// Begins a message in place of the one before.
     pub(crate) fn begin_message(&mut self)
         ensures stands { (before : Before) → HoldsBefore self.old before

@@ -6,7 +6,7 @@ ghost use Rattle.std.specs.List.{list_any, position_or_len};
 ghost use Rattle.canon3.specs.Rank.{rank, HoldsDistinct, number_limit, with_key};
 ghost use Rattle.canon3.specs.machinery.XidNumbers.{placed};
 
-use crate::other_xids::OtherXids;
+use indexmap::IndexSet;
 use std::alloc::{AllocError, Global};
 use std::hash::BuildHasher;
 use std::marker::Model;
@@ -132,7 +132,7 @@ impl CountedXids {
 #[derive(Drop)]
 pub(crate) struct XidNumbers<S: BuildHasher + Drop> {
     counted: CountedXids,
-    others: OtherXids<S>,
+    others: IndexSet<u32, S>,
 }
 
 impl<S: BuildHasher + Drop> Model for XidNumbers<S> {
@@ -140,21 +140,31 @@ impl<S: BuildHasher + Drop> Model for XidNumbers<S> {
 
     ghost Value = { List ℕ };
 
-    ghost view = { λ n. n.counted ++ n.others };
+    ghost view = { λ n. n.counted ++ n.others.keys };
 }
 
 /// Returns the number of an xid that is not counted, and adds it to the others if it is new.
 fn number_among<S: BuildHasher + Drop>(
     counted: u32,
-    others: &mut OtherXids<S>,
+    others: &mut IndexSet<u32, S>,
     xid: u32,
 ) -> Result<u32, AllocError>
     ensures number { IfOk result (λ n. n
-        ≡ min (1 + (counted + position_or_len (nat_eq xid) others.old)) number_limit) }
-    ensures given { OnOk result (others.new ≡ with_key nat_eq others.old xid) }
+        ≡ min (1 + (counted + position_or_len (nat_eq xid) others.old.keys)) number_limit) }
+    ensures given { OnOk result (others.new.keys ≡ with_key nat_eq others.old.keys xid) }
 {
-    let number = others.number_of(xid)?;
-    Ok(number.saturating_add(counted))
+    let (index, _) = others.insert_full(xid)?;
+    Ok(number_after(counted, index))
+}
+
+/// Returns the number of an xid at this position among the others, after so many that are counted.
+fn number_after(counted: u32, index: usize) -> u32
+    ensures { result ≡ min (1 + (counted + index)) number_limit }
+{
+    u32::try_from(index)
+        .unwrap_or(u32::MAX)
+        .saturating_add(counted)
+        .saturating_add(1)
 }
 
 impl<S: BuildHasher + Drop> XidNumbers<S> {
@@ -164,7 +174,7 @@ impl<S: BuildHasher + Drop> XidNumbers<S> {
     {
         XidNumbers {
             counted: CountedXids::none(),
-            others: OtherXids::new(alloc, hasher),
+            others: IndexSet::with_hasher(alloc, hasher),
         }
     }
 
@@ -188,18 +198,12 @@ impl<S: BuildHasher + Drop> XidNumbers<S> {
         number_among(self.counted.len(), &mut self.others, xid)
     }
 
-    /// Makes `number_of` take less time for these xids, if there are many. It changes no number.
-    pub(crate) fn touch(&mut self, xids: &[u32])
-        ensures { self.new ≡ self.old }
-    {
-        self.others.touch(xids);
-    }
-
-    /// Drops the xids, and keeps the hasher. Its cost does not depend on them.
+    /// Drops the xids, and keeps the hasher and the memory. Its cost follows what the table holds,
+    /// not its capacity.
     pub(crate) fn clear(&mut self)
         ensures { HoldsDistinct nat_eq self.new [] }
     {
         self.counted = CountedXids::none();
-        self.others.clear();
+        self.others.truncate(0);
     }
 }

@@ -6,7 +6,6 @@ pub mod EntriesHistory
 pub mod EntryParser
 pub mod ScannedMessages
 pub mod Messages
-pub mod OtherCalls
 pub mod Position
 pub mod KeptStreams
 pub mod StreamsInMemory

@@ -65,18 +65,6 @@ impl Container {
         self.joiner.body()
     }
 
-    /// Returns the bytes in which the next records are expected, and how many of them are before the
-    /// head of the next chunk. Kept streams are in no chunks.
-    pub(crate) fn upcoming<'a>(&'a self, piece: &'a [u8]) -> (&'a [u8], usize) {
-        match self.cursor {
-            Some(cursor) => match self.streams.of_side(cursor.side).get(cursor.taken..) {
-                Some(rest) => (rest, usize::MAX),
-                None => (piece, 0),
-            },
-            None => (piece, self.position.left()),
-        }
-    }
-
     /// If a record is whole, makes room for the next one.
     pub(crate) fn release(&mut self)
         ensures joiner { self.new.joiner.taking ≡ released self.old.joiner.taking }

@@ -3,7 +3,6 @@
 pub(crate) mod calls;
 pub(crate) mod counted_calls;
 pub(crate) mod counting;
-pub(crate) mod other_calls;
 pub(crate) mod scan;
 pub(crate) mod silent;
 

@@ -1,6 +1,5 @@
 //! Readers of captures: their entries one by one, or all at once.
 
-mod ahead;
 pub(crate) mod entries;
 pub(crate) mod entry;
 pub(crate) mod entry_parser;

@@ -298,9 +298,6 @@ impl<S: BuildHasher + Drop> EntryWriter for LineWriter<S> {
         written
     }
 
-    // Xids stay as they are.
-    fn expect(&mut self, _xids: &[u32]) {}
-
     fn handles(&self) -> u32 {
         self.handles.len()
     }

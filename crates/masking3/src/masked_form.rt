@@ -122,9 +122,6 @@ impl<P: Plan, S: BuildHasher + Drop> EntryWriter for MaskingWriter<P, S> {
         Ok(())
     }
 
-    // Xids stay as they are.
-    fn expect(&mut self, _xids: &[u32]) {}
-
     fn handles(&self) -> u32 {
         self.handles.len()
     }

@@ -16,5 +16,3 @@ mod parts;
 mod procedures;
 #[cfg(test)]
 mod records;
-#[cfg(test)]
-mod words;

@@ -3,4 +3,3 @@ pub mod RankLemmas
 pub mod Tables
 pub mod HandleTableLemmas
 pub mod XidNumbersLemmas
-pub mod OtherXidsLemmas

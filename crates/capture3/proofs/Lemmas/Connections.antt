@@ -3,4 +3,3 @@ pub mod ConnectionMachineLemmas
 pub mod JudgedInTurn
 pub mod HashedCallsLemmas
 pub mod LineLemmas
-pub mod OtherCallsLemmas

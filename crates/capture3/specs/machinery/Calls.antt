@@ -1,5 +1,5 @@
 -- A list of calls by their xids.
-use Rattle.std.specs.Prelude.{◌≡◌, ℕ, ◌<◌, ◌==◌, if◌then◌else◌, is_some, slice_get, List, [], ◌∷◌, ◌++◌, Option, Some, None}
+use Rattle.std.specs.Prelude.{◌≡◌, ℕ, ◌<◌, ◌==◌, if◌then◌else◌, is_some, map, slice_get, List, [], ◌∷◌, ◌++◌, Option, Some, None}
 use Rattle.rpc_head.specs.declared.values.call.ProcId.{ProcId}
 use Rattle.capture3.specs.declared.message.calls.NumberedCall.{NumberedCall}
 
@@ -30,6 +30,14 @@ FindsSame old new = (q : ℕ) → found new q ≡ found old q
 abbrev pub AreAtHome : (ℕ → ℕ) → List NumberedCall → Type 0
 AreAtHome home line = (i : ℕ) → (call : NumberedCall)
     → slice_get line i ≡ Some call → slice_get line (home call.xid) ≡ Some call
+
+-- the pairs of a table as calls
+abbrev pub numbered_calls : List (ℕ × ProcId) → List NumberedCall
+numbered_calls pairs = map (λ pair. record { xid = pair.0; id = pair.1 }) pairs
+
+-- the calls of a line, and the others
+abbrev pub all_calls : List NumberedCall → List (ℕ × ProcId) → List NumberedCall
+all_calls line pairs = line ++ numbered_calls pairs
 
 -- no xid with a home below this has a call
 abbrev pub AreAbove : (ℕ → ℕ) → ℕ → List NumberedCall → Type 0

@@ -95,15 +95,6 @@ pub(crate) struct Transition {
 }
 
 impl Position {
-    /// Returns how many bytes of a chunk of version 1 are to come.
-    #[inline(always)]
-    pub(crate) fn left(self) -> usize {
-        match self.spot {
-            Spot::Chunk(_, left) => left as usize,
-            _ => 0,
-        }
-    }
-
     /// Returns the position before the first byte.
     pub(crate) fn start() -> Position
         ensures sound { IsSoundPosition result }

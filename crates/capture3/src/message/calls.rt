@@ -1,6 +1,6 @@
 //! The calls of a connection.
 
-ghost use Rattle.std.specs.Prelude.{◌≡◌, ◌≤◌, [], IfOk, IsTrue};
+ghost use Rattle.std.specs.Prelude.{◌≡◌, [], IfOk, IsTrue};
 ghost use Rattle.capture3.specs.machinery.Calls.{found, Gains};
 ghost use Rattle.capture3.specs.BodyProgram.{agrees};
 
@@ -9,9 +9,6 @@ use rpc_head::ProcId;
 use std::alloc::{AllocError, Global};
 use std::hash::BuildHasher;
 use std::marker::Model;
-
-/// How many records are looked ahead to at most.
-pub(crate) const MOST_AHEAD: usize = 128;
 
 #[derive(Clone, Copy)]
 pub(crate) struct NumberedCall {
@@ -27,10 +24,9 @@ pub(crate) trait KnownCalls {
     // The xids, each with its procedure. Their order has no meaning, and one may be there twice.
     ghost calls: { Self → List NumberedCall };
 
-    /// Returns the procedure of the calls with this xid. The calls stay.
-    fn procedure_of(&mut self, xid: u32) -> Option<ProcId>
-        ensures found { result ≡ found (calls self.old) xid }
-        ensures stay { calls self.new ≡ calls self.old };
+    /// Returns the procedure of the calls with this xid.
+    fn procedure_of(&self, xid: u32) -> Option<ProcId>
+        ensures { result ≡ found (calls self.now) xid };
 }
 
 /// The calls of a connection, in the order in which they come.
@@ -85,7 +81,7 @@ impl CallList {
 impl KnownCalls for CallList {
     ghost calls = { λ list. list };
 
-    fn procedure_of(&mut self, xid: u32) -> Option<ProcId> {
+    fn procedure_of(&self, xid: u32) -> Option<ProcId> {
         self.find(xid)
     }
 }
@@ -110,20 +106,16 @@ impl CallTable for CallList {
 #[derive(Drop)]
 pub(crate) struct HashedCalls<S: BuildHasher + Drop> {
     table: CountedCalls<S>,
-    // The xids of the look-ups whose slots were loaded last, by guess.
-    touched: [u32; MOST_AHEAD],
-    touched_count: usize,
-    // How many of those look-ups are left after the next one.
-    ahead: usize,
 }
 
 impl<S: BuildHasher + Drop> Model for HashedCalls<S> {
-    ghost use Rattle.std.specs.Prelude.{◌++◌, List};
+    ghost use Rattle.std.specs.Prelude.{List};
+    ghost use Rattle.capture3.specs.machinery.Calls.{all_calls};
     ghost use Rattle.capture3.specs.declared.message.calls.NumberedCall.{NumberedCall};
 
     ghost Value = { List NumberedCall };
 
-    ghost view = { λ calls. calls.table.line.items ++ calls.table.others };
+    ghost view = { λ calls. all_calls calls.table.line.items calls.table.others.entries };
 }
 
 impl<S: BuildHasher + Drop> HashedCalls<S> {
@@ -132,48 +124,6 @@ impl<S: BuildHasher + Drop> HashedCalls<S> {
     {
         HashedCalls {
             table: CountedCalls::new(alloc, hasher),
-            touched: [0; MOST_AHEAD],
-            touched_count: 0,
-            ahead: 0,
-        }
-    }
-
-    /// Counts a look-up. Returns whether it is time to touch the calls of the next ones: there are
-    /// many calls, and those that were touched are used up.
-    #[inline(always)]
-    pub(crate) fn is_due(&mut self) -> bool
-        ensures { self.new ≡ self.old }
-    {
-        if self.ahead == 0 {
-            return self.table.are_many();
-        }
-        self.ahead -= 1;
-        false
-    }
-
-    /// Loads what look-ups of the first of these xids read first: of so many. The loads do not wait
-    /// for one another. It changes no result.
-    pub(crate) fn touch(&mut self, xids: &[u32; MOST_AHEAD], count: usize)
-        requires { count ≤ MOST_AHEAD }
-        ensures { self.new ≡ self.old }
-    {
-        self.touched = *xids;
-        self.touched_count = count;
-        self.table.touch(&self.touched[..count]);
-        // The first is the look-up that was counted.
-        self.ahead = count.saturating_sub(1);
-    }
-
-    /// Returns the xids that were touched for the last look-up and the next ones, or none if they
-    /// were touched for an earlier look-up.
-    #[inline(always)]
-    pub(crate) fn just_touched(&self) -> &[u32] {
-        if self.ahead.saturating_add(1) != self.touched_count {
-            return &[];
-        }
-        match self.touched.get(..self.touched_count) {
-            Some(xids) => xids,
-            None => &[],
         }
     }
 }
@@ -182,7 +132,7 @@ impl<S: BuildHasher + Drop> KnownCalls for HashedCalls<S> {
     ghost calls = { λ table. table };
 
     #[inline(always)]
-    fn procedure_of(&mut self, xid: u32) -> Option<ProcId> {
+    fn procedure_of(&self, xid: u32) -> Option<ProcId> {
         self.table.procedure_of(xid)
     }
 }
@@ -204,7 +154,7 @@ impl KnownCalls for Option<NumberedCall> {
 
     ghost calls = { one_or_none };
 
-    fn procedure_of(&mut self, xid: u32) -> Option<ProcId> {
+    fn procedure_of(&self, xid: u32) -> Option<ProcId> {
         match self {
             Some(call) if call.xid == xid => Some(call.id),
             _ => None,

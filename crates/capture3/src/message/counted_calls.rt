@@ -1,19 +1,29 @@
 //! The calls of a connection, whose xids mostly count up.
 
-ghost use Rattle.std.specs.Prelude.{◌≡◌, ◌≤◌, ◌<◌, ◌++◌, [], None, IfOk, IfSome, IsFalse, IsTrue, OnOk, Some, length};
-ghost use Rattle.capture3.specs.machinery.Calls.{found, AreAbove, FindsSame, Gains, AreAtHome, Puts};
+ghost use Rattle.std.specs.Prelude.{◌≡◌, ◌≤◌, ◌<◌, [], None, IfOk, IfSome, IsFalse, IsTrue, OnOk, Some, length};
+ghost use Rattle.capture3.specs.machinery.Calls.{all_calls, found, numbered_calls, AreAbove, FindsSame, Gains, AreAtHome, Puts};
 ghost use Rattle.capture3.specs.machinery.Counting.{home_of};
 ghost use Rattle.capture3.specs.BodyProgram.{agrees};
 
 use crate::message::calls::NumberedCall;
 use crate::message::counting::Counting;
-use crate::message::other_calls::OtherCalls;
+use indexmap::IndexMap;
 use rpc_head::ProcId;
 use std::alloc::{AllocError, Global};
 use std::hash::BuildHasher;
 
 /// How many homes of a line may be empty, besides a quarter of its length.
 const FEW: usize = 16;
+
+/// Returns whether there is no procedure, or it is this one.
+fn is_none_or(other: Option<ProcId>, id: ProcId) -> bool
+    ensures { result ≡ agrees other id }
+{
+    match other {
+        None => true,
+        Some(other) => other == id,
+    }
+}
 
 /// Calls, most of them in a line, and the others hashed by their xids. The hasher affects no
 /// result.
@@ -23,22 +33,22 @@ pub(crate) struct CountedCalls<S: BuildHasher + Drop> {
     // Each call is at the home of its xid. An empty home has a copy of the first call.
     line: Vec<NumberedCall>,
     empty_homes: usize,
-    others: OtherCalls<S>,
-    // No other call has its home below. If there is none, it is `usize::MAX`.
+    others: IndexMap<u32, ProcId, S>,
+    // No other call has its home below.
     nearest: usize,
     ghost lined: { AreAtHome (home_of counting) line.items },
-    ghost above: { AreAbove (home_of counting) nearest others },
+    ghost above: { AreAbove (home_of counting) nearest (numbered_calls others.entries) },
 }
 
 impl<S: BuildHasher + Drop> CountedCalls<S> {
     pub(crate) fn new(alloc: Global, hasher: S) -> CountedCalls<S>
-        ensures { result.line.items ++ result.others ≡ [] }
+        ensures { all_calls result.line.items result.others.entries ≡ [] }
     {
         CountedCalls {
             counting: Counting::from(0, false),
             line: Vec::new(alloc),
             empty_homes: 0,
-            others: OtherCalls::new(alloc, hasher),
+            others: IndexMap::with_hasher(alloc, hasher),
             nearest: usize::MAX,
         }
     }
@@ -54,26 +64,28 @@ impl<S: BuildHasher + Drop> CountedCalls<S> {
         }
     }
 
-    /// Adds a call that is not in the line to the others, as `admit` does.
+    /// Adds a call that is not in the line to the others, as `admit` does. It takes the place of one
+    /// with its xid, which is the same unless they are at odds, so one look-up is enough.
     fn admit_other(&mut self, xid: u32, id: ProcId) -> Result<bool, AllocError>
         requires new { found self.old.line.items xid ≡ None }
         ensures agrees { IfOk result (λ is. is ≡ agrees (found
-            (self.old.line.items ++ self.old.others) xid) id) }
+            (all_calls self.old.line.items self.old.others.entries) xid) id) }
         ensures added { IfOk result (λ is. IsTrue is
-            → Gains (self.old.line.items ++ self.old.others) xid id
-            (self.new.line.items ++ self.new.others)) }
+            → Gains (all_calls self.old.line.items self.old.others.entries) xid id
+            (all_calls self.new.line.items self.new.others.entries)) }
     {
         self.nearest = self.nearest.min(self.counting.home(xid));
-        self.others.admit(xid, id)
+        let other = self.others.insert(xid, id)?;
+        Ok(is_none_or(other, id))
     }
 
     /// Counts from the first call on, which is this one if there is none. The second tells the
     /// order of bytes.
     fn start_with(&mut self, xid: u32)
         ensures line { self.new.line.items ≡ self.old.line.items }
-        ensures others { self.new.others ≡ self.old.others }
+        ensures others { self.new.others.entries ≡ self.old.others.entries }
     {
-        if self.nearest != usize::MAX {
+        if !self.others.is_empty() {
             return;
         }
         match self.line.len() {
@@ -102,7 +114,7 @@ impl<S: BuildHasher + Drop> CountedCalls<S> {
         ensures same { FindsSame self.old.line.items self.new.line.items }
         ensures len { IfOk result (λ is. IsTrue is → length self.new.line.items ≡ home) }
         ensures counting { self.new.counting ≡ self.old.counting }
-        ensures others { self.new.others ≡ self.old.others }
+        ensures others { self.new.others.entries ≡ self.old.others.entries }
     {
         let Some(first) = self.line.first() else {
             return Ok(home == 0);
@@ -119,7 +131,7 @@ impl<S: BuildHasher + Drop> CountedCalls<S> {
         requires within { home < length self.old.line.items }
         ensures puts { IsTrue result → Puts self.old.line.items xid id self.new.line.items }
         ensures same { IsFalse result → self.new.line.items ≡ self.old.line.items }
-        ensures others { self.new.others ≡ self.old.others }
+        ensures others { self.new.others.entries ≡ self.old.others.entries }
     {
         let other = self.line[home];
         if self.counting.home(other.xid) == home {
@@ -137,7 +149,7 @@ impl<S: BuildHasher + Drop> CountedCalls<S> {
             → Puts self.old.line.items xid id self.new.line.items) }
         ensures same { IfOk result (λ is. IsFalse is
             → FindsSame self.old.line.items self.new.line.items) }
-        ensures others { self.new.others ≡ self.old.others }
+        ensures others { self.new.others.entries ≡ self.old.others.entries }
     {
         let home = self.counting.home(xid);
         if home < self.line.len() {
@@ -158,10 +170,10 @@ impl<S: BuildHasher + Drop> CountedCalls<S> {
     fn admit_aside(&mut self, xid: u32, id: ProcId) -> Result<bool, AllocError>
         requires new { found self.old.line.items xid ≡ None }
         ensures agrees { IfOk result (λ is. is ≡ agrees (found
-            (self.old.line.items ++ self.old.others) xid) id) }
+            (all_calls self.old.line.items self.old.others.entries) xid) id) }
         ensures added { IfOk result (λ is. IsTrue is
-            → Gains (self.old.line.items ++ self.old.others) xid id
-            (self.new.line.items ++ self.new.others)) }
+            → Gains (all_calls self.old.line.items self.old.others.entries) xid id
+            (all_calls self.new.line.items self.new.others.entries)) }
     {
         self.start_with(xid);
         if self.counting.home(xid) >= self.nearest {
@@ -174,40 +186,24 @@ impl<S: BuildHasher + Drop> CountedCalls<S> {
         }
     }
 
-    /// Returns the procedure of the calls with this xid. The calls stay.
-    pub(crate) fn procedure_of(&mut self, xid: u32) -> Option<ProcId>
-        ensures found { result
-            ≡ found (self.old.line.items ++ self.old.others) xid }
-        ensures line { self.new.line.items ≡ self.old.line.items }
-        ensures others { self.new.others ≡ self.old.others }
+    /// Returns the procedure of the calls with this xid.
+    pub(crate) fn procedure_of(&self, xid: u32) -> Option<ProcId>
+        ensures { result ≡ found (all_calls self.now.line.items self.now.others.entries) xid }
     {
         match self.in_line(xid) {
             Some(id) => Some(id),
-            None => self.others.procedure_of(xid),
+            None => self.others.get(&xid).copied(),
         }
     }
 
-    /// Returns whether so many calls are hashed that `touch` is worth its cost.
-    #[inline(always)]
-    pub(crate) fn are_many(&self) -> bool {
-        self.others.are_many()
-    }
-
-    /// Loads what look-ups of these xids among the hashed calls read first. It changes no result.
-    pub(crate) fn touch(&mut self, xids: &[u32])
-        ensures line { self.new.line.items ≡ self.old.line.items }
-        ensures others { self.new.others ≡ self.old.others }
-    {
-        self.others.touch(xids);
-    }
-
-    /// Forgets all calls. A connection of few calls may follow one of a million.
+    /// Forgets all calls. `IndexMap::clear` costs what the table has room for, `truncate` what it
+    /// holds. A connection of few calls may follow one of a million.
     pub(crate) fn clear(&mut self)
-        ensures { self.new.line.items ++ self.new.others ≡ [] }
+        ensures { all_calls self.new.line.items self.new.others.entries ≡ [] }
     {
         self.line.clear();
         self.empty_homes = 0;
-        self.others.clear();
+        self.others.truncate(0);
         self.nearest = usize::MAX;
     }
 
@@ -215,13 +211,13 @@ impl<S: BuildHasher + Drop> CountedCalls<S> {
     /// another procedure. Most calls go to the end of the line.
     pub(crate) fn admit(&mut self, xid: u32, id: ProcId) -> Result<bool, AllocError>
         ensures agrees { IfOk result (λ is. is ≡ agrees (found
-            (self.old.line.items ++ self.old.others) xid) id) }
+            (all_calls self.old.line.items self.old.others.entries) xid) id) }
         ensures added { IfOk result (λ is. IsTrue is
-            → Gains (self.old.line.items ++ self.old.others) xid id
-            (self.new.line.items ++ self.new.others)) }
+            → Gains (all_calls self.old.line.items self.old.others.entries) xid id
+            (all_calls self.new.line.items self.new.others.entries)) }
     {
         if let Some(other) = self.in_line(xid) {
-            return Ok(other == id);
+            return Ok(is_none_or(Some(other), id));
         }
         let home = self.counting.home(xid);
         if home == self.line.len() && home < self.nearest {

@@ -42,15 +42,14 @@ pub(crate) fn scan_call<V: Visit>(body: &[u8], visitor: &mut V) -> Result<Number
 /// to the visitor. Returns the procedure of its call. After an error the contents of the visitor
 /// are unspecified.
 pub(crate) fn scan_reply<C: KnownCalls, V: Visit>(
-    calls: &mut C,
+    calls: &C,
     body: &[u8],
     visitor: &mut V,
 ) -> Result<ProcId, GetError>
     requires { length body.now ≤ body_limit }
     ensures ok { IfOk result
-        (λ id. ScansReply V.stands (C.calls calls.old) body.now id visitor.old visitor.new) }
-    ensures stay { C.calls calls.new ≡ C.calls calls.old }
-    ensures err { (before : List (List Item)) → IsTableOf (C.calls calls.old) before
+        (λ id. ScansReply V.stands (C.calls calls.now) body.now id visitor.old visitor.new) }
+    ensures err { (before : List (List Item)) → IsTableOf (C.calls calls.now) before
         → IfErr result (λ error. StopsMessage error (spec.judge_reply before body.now)) }
 {
     let mut input = Input::new(body);

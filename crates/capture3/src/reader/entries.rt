@@ -168,14 +168,6 @@ impl<'r, R: Source, S: BuildHasher + Drop> Entries<'r, R, S> {
         }
     }
 
-    /// Returns the xids that probably come next, the last entry's among them. They are a guess, on
-    /// which no result may depend: a table of xids can load what it needs for them. Most calls
-    /// return none, and all do while the connection has few calls or its xids count up.
-    #[inline(always)]
-    pub fn upcoming_xids(&self) -> &[u32] {
-        self.parser.upcoming_xids()
-    }
-
     /// Reads the next entry of a capture whose end was not returned.
     fn next_entry<V: Visit>(&mut self, visitor: &mut V) -> Result<Option<Kind>, Error>
         requires reading { self.old.stage ≡ Stage.Reading }
@@ -320,7 +312,6 @@ impl<'r, R: Source, S: BuildHasher + Drop> Entries<'r, R, S> {
         ensures same_reference { loan_of self.new ≡ loan_of self.old }
     {
         let piece = &self.block[self.start..self.end];
-        self.parser.look_ahead(piece);
         match self.parser.next(piece, visitor) {
             Ok((count, kind)) => {
                 self.start += count;

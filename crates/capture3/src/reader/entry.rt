@@ -146,7 +146,7 @@ impl<'a> ReplyRef<'a> {
         ensures { OnOk result
             (TellsReply V.stands self.now.body.now self.now.id visitor.old visitor.new) }
     {
-        match scan_reply(&mut Some(self.answered()), self.body, visitor) {
+        match scan_reply(&Some(self.answered()), self.body, visitor) {
             Ok(_) => Ok(()),
             Err(GetError::Memory) => Err(AllocError),
             // The body was read as a message before.

@@ -223,23 +223,21 @@ impl<C: CallTable + Drop> EntryParser<C> {
     }
 
     /// Returns the procedure of the reply that is whole.
-    fn reply<V: Visit>(&mut self, visitor: &mut V) -> Result<ProcId, Error>
-        requires { IsWhole self.old.container.joiner.taking }
-        ensures container { self.new.container ≡ self.old.container }
-        ensures calls { C.calls self.new.calls ≡ C.calls self.old.calls }
+    fn reply<V: Visit>(&self, visitor: &mut V) -> Result<ProcId, Error>
+        requires { IsWhole self.now.container.joiner.taking }
         ensures spells { IfOk result
-            (λ id. ∥ SpellsReply id (body_of self.old.container.joiner.taking) ∥₁) }
-        ensures ok { (calls : List (List Item)) → IsTableOf (C.calls self.old.calls) calls
+            (λ id. ∥ SpellsReply id (body_of self.now.container.joiner.taking) ∥₁) }
+        ensures ok { (calls : List (List Item)) → IsTableOf (C.calls self.now.calls) calls
             → IfOk result
             (JudgesReply V.stands visitor.old visitor.new calls
-            (body_of self.old.container.joiner.taking)) }
-        ensures err { (calls : List (List Item)) → IsTableOf (C.calls self.old.calls) calls
+            (body_of self.now.container.joiner.taking)) }
+        ensures err { (calls : List (List Item)) → IsTableOf (C.calls self.now.calls) calls
             → IfErr result
-            (RefusesBody self.old.container.position Side.Server
-            (judge_reply calls (body_of self.old.container.joiner.taking))) }
+            (RefusesBody self.now.container.position Side.Server
+            (judge_reply calls (body_of self.now.container.joiner.taking))) }
         ensures device { IfErr result IsOfBytes }
     {
-        match scan_reply(&mut self.calls, self.container.body(), visitor) {
+        match scan_reply(&self.calls, self.container.body(), visitor) {
             Ok(id) => Ok(id),
             Err(error) => Err(self.record_error(Side::Server, error)),
         }

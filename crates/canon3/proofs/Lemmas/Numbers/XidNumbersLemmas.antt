@@ -79,11 +79,11 @@ module _ (r : Bool) (x : ℕ) (small : x < 2 ^ 32) where
 
 -- ---- the others after them
 
-pub place_in_front : (x : ℕ) (l m : List ℕ) → list_any (nat_eq x) l ≡ true → position_or_len (nat_eq x) (l ++ m) ≡ position_or_len (nat_eq x) l
+place_in_front : (x : ℕ) (l m : List ℕ) → list_any (nat_eq x) l ≡ true → position_or_len (nat_eq x) (l ++ m) ≡ position_or_len (nat_eq x) l
 place_in_front x [] m e = absurd cc
 place_in_front x (y ∷ l) m e = by_test (nat_eq x y) (λ t. rw t refl) (λ f. ap (λ n. cond (not (nat_eq x y)) (1 + n) 0) (place_in_front x l m (rw f at e)))
 
-pub place_behind : (x : ℕ) (l m : List ℕ) → list_any (nat_eq x) l ≡ false → position_or_len (nat_eq x) (l ++ m) ≡ length l + position_or_len (nat_eq x) m
+place_behind : (x : ℕ) (l m : List ℕ) → list_any (nat_eq x) l ≡ false → position_or_len (nat_eq x) (l ++ m) ≡ length l + position_or_len (nat_eq x) m
 place_behind x [] m e = omega arith
 place_behind x (y ∷ l) m e =
     by_test (nat_eq x y)
@@ -108,6 +108,10 @@ module _ (x : ℕ) (counted others : List ℕ) where
         (λ t. let there : list_any (nat_eq x) (counted ++ others) ≡ true = same ∙ t in rw (there, t) refl)
         (λ f. let none : list_any (nat_eq x) (counted ++ others) ≡ false = same ∙ f in rw (none, f) (append_assoc counted others (x ∷ []))),
   )
+
+pub no_others : (l : List ℕ) → length l ≡ 0 → l ≡ []
+no_others [] e = refl
+no_others (x ∷ l) e = absurd (omega (arith, e))
 
 -- ---- the numbers of those given, and of one more
 

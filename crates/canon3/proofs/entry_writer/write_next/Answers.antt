@@ -2,7 +2,6 @@ use Rattle.std.proofs.Common.{Ok, [], ◌∷◌, ◌++◌, length, arith, subst,
 use Rattle.capture3.proofs.Lemmas.Reader.ToldLemmas.{gave_both}
 use Rattle.xdr3.specs.Visit.{Adds}
 use Rattle.capture3.specs.Entries.{source_of}
-use Rattle.capture3.specs.Entry.{items_of}
 use Rattle.capture3.specs.Handing.{HandsOut}
 use Rattle.capture3.proofs.Lemmas.Reader.PassedOn.{error_is}
 use Rattle.canon3.specs.machinery.WritingSteps.{HasWritten}
@@ -18,10 +17,9 @@ returns-in-Some-entry-clause-goes_on g c first old u =
     let (one, is, reached, adds, reads) = out in
     let order = first_reached (u.given ++ a.more) (u.handed ++ one ∷ []) reached in
     let few : length (u.handed ++ one ∷ []) < 2 ^ 32 = omega (arith, reads.few) in
-    let stands = subst (λ writer. g.E.Visit.stands writer (g.E.EntryWriter.before u.handed ++ items_of one)) (sym c.expect.ensures) (adds (g.E.EntryWriter.before u.handed) u.writes.stands_for) in
     written_goes_on g.E.EntryWriter.form c.requires.prefixes g.E.EntryWriter.before g.E.Visit.stands g.E.EntryWriter.going g.R.Source.told first old c.next.new.self c.write_one.new.writer c.write_one.new.counts (g.W.Sink.written c.write_one.new.sink) (u.given ++ a.more) u.handed one c.write_one.result c.write_one.ensures.more c.write_one.ensures.error
     (gave_both first (g.R.Source.told (source_of c.args.entries.now)) (g.R.Source.told (source_of c.next.new.self)) u.given a.more u.consumed a.consumed) reached reads
-    (c.write_one.ensures.writes old u.handed one (c.in-Some-entry.ensures.lent (u.given ++ a.more) u.handed one reads) order few u.writes.came stands u.writes.written)
+    (c.write_one.ensures.writes old u.handed one (c.in-Some-entry.ensures.lent (u.given ++ a.more) u.handed one reads) order few u.writes.came (adds (g.E.EntryWriter.before u.handed) u.writes.stands_for) u.writes.written)
 
 pub returns-in-None-clause-goes_on : goal.returns-in-None-clause-goes_on
 returns-in-None-clause-goes_on g c first old u =

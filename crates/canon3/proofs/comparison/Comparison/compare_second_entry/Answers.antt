@@ -1,6 +1,6 @@
 use Rattle.std.proofs.Common.{Ok, Err, subst, sym}
 use Rattle.capture3.specs.Entry.{items_of}
-use Rattle.canon3.specs.machinery.ComparisonSteps.{IsTold, Meets}
+use Rattle.canon3.specs.machinery.ComparisonSteps.{Meets}
 use Rattle.canon3.specs.machinery.MessageWriter.{WriterStands}
 use Rattle.canon3.proofs.Lemmas.Comparison.ComparisonLemmas.{compared_meets, Hands, hands, not_ended, refused_meets, told_second, with_second}
 use Rattle.canon3.proofs.comparison.Comparison.compare_second_entry.Goals as goal
@@ -13,8 +13,7 @@ returns-in_ok-compare-in-Some-clause-meets g c first now start a b e of order fe
     let was = c.args.self.now.second in
     let visitor = c.next.new.visitor in
     let (f, is, second, other_few, adds, given) = subst (λ next. Hands left (WriterStands {S = g.row.S.Denot} {H = g.row.S-Hasher.Denot}) start old new was visitor b (Ok next)) c.in-Ok-Some.field-0-is (hands left (WriterStands {S = g.row.S.Denot} {H = g.row.S-Hasher.Denot}) start old new was visitor b h (Ok c.in-Ok-Some.field-0) (c.in-Ok-Some.ensures.answers h.given b h.stands)) in
-    let told = told_second c.args.self.now a b visitor (items_of e) (items_of f) adds so_far in
-    let both = subst (λ writer. IsTold {S = g.row.S.Denot} {H = g.row.S-Hasher.Denot} (with_second c.args.self.now writer) a b (items_of e) (items_of f)) (sym c.expect_xids.ensures) told in
+    let both = told_second c.args.self.now a b visitor (items_of e) (items_of f) adds so_far in
     compared_meets left first now start new c.compare.new.self a b e f given c.in_ok-compare-in-Some.field-0 c.map.result c.map.ensures.cases (c.in_ok-compare-in-Some.ensures.compares a b e f of (c.in-Some.ensures.lent given.given b f given.stands) order second few other_few both)
 
 pub returns-in-Ok-None-clause-meets : goal.returns-in-Ok-None-clause-meets

@@ -1,9 +1,8 @@
 use Rattle.std.proofs.Common.{Ok, Err, [], subst, sym}
 use Rattle.capture3.specs.Entries.{source_of}
 use Rattle.capture3.specs.Entry.{items_of}
-use Rattle.canon3.specs.machinery.ComparisonSteps.{IsTold}
 use Rattle.canon3.specs.machinery.MessageWriter.{WriterStands}
-use Rattle.canon3.proofs.Lemmas.Comparison.ComparisonLemmas.{first_stops, Hands, hands, stepped, told_first, with_first}
+use Rattle.canon3.proofs.Lemmas.Comparison.ComparisonLemmas.{first_stops, Hands, hands, stepped, told_first}
 use Rattle.canon3.proofs.comparison.Comparison.step.Goals as goal
 
 pub returns-in-Some-clause-steps : goal.returns-in-Some-clause-steps
@@ -14,8 +13,7 @@ returns-in-Some-clause-steps g c start other_start u =
     let was = c.args.self.now.first in
     let now = c.next.new.visitor in
     let (e, is, first, few, adds, given) = subst (λ next. Hands left (WriterStands {S = g.row.S.Denot} {H = g.row.S-Hasher.Denot}) start old new was now u.a (Ok next)) c.in-Ok-Some.field-0-is (hands left (WriterStands {S = g.row.S.Denot} {H = g.row.S-Hasher.Denot}) start old new was now u.a u.first_given (Ok c.in-Ok-Some.field-0) (c.in-Ok-Some.ensures.answers u.first_given.given u.a u.first_given.stands)) in
-    let told = told_first c.args.self.now u.a u.b now (items_of e) adds u.compared in
-    let so_far = subst (λ writer. IsTold {S = g.row.S.Denot} {H = g.row.S-Hasher.Denot} (with_first c.args.self.now writer) u.a u.b (items_of e) []) (sym c.expect_xids.ensures) told in
+    let so_far = told_first c.args.self.now u.a u.b now (items_of e) adds u.compared in
     stepped left g.B.Source.told start other_start new c.compare_second_entry.new.second c.compare_second_entry.new.self u.a u.b e given c.compare_second_entry.result (c.compare_second_entry.ensures.meets start (left (source_of new)) other_start u.a u.b e (c.in-Some.ensures.lent given.given u.a e given.stands) first few so_far u.second_given)
 
 pub returns-in-Ok-None-clause-steps : goal.returns-in-Ok-None-clause-steps

@@ -22,7 +22,7 @@ returns-then-not-start-clause-err g c before table =
 pub returns-in_default-clause-err : goal.returns-in_default-clause-err
 returns-in_default-clause-err g c before table =
     let start = rw (c.new-input.ensures.body, c.new-input.ensures.start) at c.in_ok-start.ensures.read in
-    let none : procedure_of before c.in_ok-start.start.xid ≡ None = sym (table c.in_ok-start.start.xid) ∙ sym c.procedure_of.ensures.found ∙ c.in_default.is in
+    let none : procedure_of before c.in_ok-start.start.xid ≡ None = sym (table c.in_ok-start.start.xid) ∙ sym c.procedure_of.ensures ∙ c.in_default.is in
     refusal_judged c.stop-in_default.result (judge_reply before c.args.body.now) (record { at = 0; reason = NoCall }) c.stop-in_default.ensures
     (reply_unasked before c.args.body.now c.in_ok-start.start c.start.new.input.at start (not_false c.in_ok-start.start.is_reply c.if-not-start.false) none)
 
@@ -31,7 +31,7 @@ returns-in_err-success-clause-err g c before table =
     let start = rw (c.new-input.ensures.body, c.new-input.ensures.start) at c.in_ok-start.ensures.read in
     let begun : StartRead c.args.body.now c.in_ok-start.start true c.start.new.input =
     record { start = start; side = not_false c.in_ok-start.start.is_reply c.if-not-start.false; same_body = c.in_ok-start.ensures.moves.same_body ∙ c.new-input.ensures.body } in
-    let asked : procedure_of before c.in_ok-start.start.xid ≡ Some c.in-Some.id = sym (table c.in_ok-start.start.xid) ∙ sym c.procedure_of.ensures.found ∙ c.in-Some.is in
+    let asked : procedure_of before c.in_ok-start.start.xid ≡ Some c.in-Some.id = sym (table c.in_ok-start.start.xid) ∙ sym c.procedure_of.ensures ∙ c.in-Some.is in
     error_stops c.from_residual-in_err-success.result (judge_reply before c.args.body.now) c.in_err-success.field-0.0 c.from_residual-in_err-success.ensures.1
     (reply_head_stops before c.args.body.now c.in_ok-start.start c.in-Some.id c.start.new.input c.in_err-success.field-0.0 begun asked c.in_err-success.ensures.err)
 
@@ -40,7 +40,7 @@ returns-in_err-scan_results_after-clause-err g c before table =
     let start = rw (c.new-input.ensures.body, c.new-input.ensures.start) at c.in_ok-start.ensures.read in
     let begun : StartRead c.args.body.now c.in_ok-start.start true c.start.new.input =
     record { start = start; side = not_false c.in_ok-start.start.is_reply c.if-not-start.false; same_body = c.in_ok-start.ensures.moves.same_body ∙ c.new-input.ensures.body } in
-    let asked : procedure_of before c.in_ok-start.start.xid ≡ Some c.in-Some.id = sym (table c.in_ok-start.start.xid) ∙ sym c.procedure_of.ensures.found ∙ c.in-Some.is in
+    let asked : procedure_of before c.in_ok-start.start.xid ≡ Some c.in-Some.id = sym (table c.in_ok-start.start.xid) ∙ sym c.procedure_of.ensures ∙ c.in-Some.is in
     error_stops c.from_residual-in_err-scan_results_after.result (judge_reply before c.args.body.now) c.in_err-scan_results_after.field-0.0 c.from_residual-in_err-scan_results_after.ensures.1
     (results_stop g.V.Visit.stands before c.args.body.now c.in_ok-start.start c.in-Some.id c.in_ok-success.success c.start.new.input c.scan_reply_head.new.input c.tell_start.new.visitor c.scan_reply_head.new.visitor
     c.in_err-scan_results_after.field-0.0 begun asked c.in_ok-success.ensures.ok c.in_err-scan_results_after.ensures.err)
@@ -50,7 +50,7 @@ returns-in_err-end-clause-err g c before table =
     let start = rw (c.new-input.ensures.body, c.new-input.ensures.start) at c.in_ok-start.ensures.read in
     let begun : StartRead c.args.body.now c.in_ok-start.start true c.start.new.input =
     record { start = start; side = not_false c.in_ok-start.start.is_reply c.if-not-start.false; same_body = c.in_ok-start.ensures.moves.same_body ∙ c.new-input.ensures.body } in
-    let asked : procedure_of before c.in_ok-start.start.xid ≡ Some c.in-Some.id = sym (table c.in_ok-start.start.xid) ∙ sym c.procedure_of.ensures.found ∙ c.in-Some.is in
+    let asked : procedure_of before c.in_ok-start.start.xid ≡ Some c.in-Some.id = sym (table c.in_ok-start.start.xid) ∙ sym c.procedure_of.ensures ∙ c.in-Some.is in
     let r = reply_told g.V.Visit.stands c.args.body.now c.in_ok-start.start c.in-Some.id c.in_ok-success.success c.start.new.input c.scan_reply_head.new.input c.scan_results_after.new.input c.args.visitor.now c.tell_start.new.visitor
     c.scan_reply_head.new.visitor c.scan_results_after.new.visitor begun c.in_ok-tell_start.ensures c.in_ok-success.ensures.ok c.in_ok-scan_results_after.ensures.ok in
     let other : c.scan_results_after.new.input.at ≢ length c.args.body.now = λ e. false≢true (c.in_err-end.ensures.ok.1 (e ∙ ap length (sym r.same_body))) in
@@ -67,4 +67,4 @@ returns-clause-ok g c =
     let r = reply_told g.V.Visit.stands c.args.body.now c.in_ok-start.start c.in-Some.id c.in_ok-success.success c.start.new.input c.scan_reply_head.new.input c.scan_results_after.new.input c.args.visitor.now c.tell_start.new.visitor
     c.scan_reply_head.new.visitor c.scan_results_after.new.visitor begun c.in_ok-tell_start.ensures c.in_ok-success.ensures.ok c.in_ok-scan_results_after.ensures.ok in
     reply_scans g.V.Visit.stands (g.C.KnownCalls.calls c.args.calls.now) c.args.body.now c.in_ok-start.start c.in-Some.id c.in_ok-success.success c.start.new.input.at c.scan_reply_head.new.input.at c.scan_results_after.new.input
-    c.args.visitor.now c.scan_results_after.new.visitor (λ i. omega (arith, c.type_inv.body i)) r (c.in_ok-end.ensures.ok.0 refl ∙ ap length r.same_body) (sym c.procedure_of.ensures.found ∙ c.in-Some.is)
+    c.args.visitor.now c.scan_results_after.new.visitor (λ i. omega (arith, c.type_inv.body i)) r (c.in_ok-end.ensures.ok.0 refl ∙ ap length r.same_body) (sym c.procedure_of.ensures ∙ c.in-Some.is)

@@ -1,25 +1,23 @@
 use Rattle.std.proofs.Common.{◌++◌, ◌∷◌, [], ap, sym, ◌∙◌, refl, is_some, Option, List, arith}
 use Rattle.rpc_head.specs.declared.values.call.ProcId.{ProcId}
 use Rattle.capture3.specs.declared.message.calls.NumberedCall.{NumberedCall}
-use Rattle.capture3.specs.machinery.Calls.{found}
+use Rattle.capture3.specs.machinery.Calls.{found, numbered_calls}
 use Rattle.capture3.specs.machinery.Counting.{home_of}
 use Rattle.capture3.specs.BodyProgram.{agrees}
 use Rattle.capture3.proofs.Lemmas.Connections.HashedCallsLemmas.{none_anywhere}
 use Rattle.capture3.proofs.Lemmas.Connections.LineLemmas.{found_before, gains_put, gains_known, lined_either, lined_push, puts_before, puts_push}
-use Rattle.capture3.proofs.Lemmas.Connections.OtherCallsLemmas.{eq-same}
 use Rattle.capture3.proofs.message.counted_calls.CountedCalls.admit.Goals as goal
 
 pub returns-in-Some-clause-agrees : goal.returns-in-Some-clause-agrees
 returns-in-Some-clause-agrees g c =
-    c.eq.ensures
-    ∙ eq-same c.in-Some.other c.args.id
+    c.is_none_or.ensures
     ∙ ap (λ (o : Option ProcId). agrees o c.args.id)
-    (sym (found_before c.args.self.now.line.items c.args.self.now.others c.args.xid c.in-Some.other (sym c.in-Some.ensures)))
+    (sym (found_before c.args.self.now.line.items (numbered_calls c.args.self.now.others.entries) c.args.xid c.in-Some.other (sym c.in-Some.ensures)))
 
 pub returns-in-Some-clause-added : goal.returns-in-Some-clause-added
 returns-in-Some-clause-added g c is =
-    let all = c.args.self.now.line.items ++ c.args.self.now.others in
-    gains_known all all c.args.xid c.args.id (ap is_some (found_before c.args.self.now.line.items c.args.self.now.others c.args.xid c.in-Some.other (sym c.in-Some.ensures))) (λ q. refl)
+    let all = c.args.self.now.line.items ++ numbered_calls c.args.self.now.others.entries in
+    gains_known all all c.args.xid c.args.id (ap is_some (found_before c.args.self.now.line.items (numbered_calls c.args.self.now.others.entries) c.args.xid c.in-Some.other (sym c.in-Some.ensures))) (λ q. refl)
 
 pub invariant_of-self-clause-lined : goal.invariant_of-self-clause-lined
 invariant_of-self-clause-lined g c =
@@ -33,13 +31,13 @@ invariant_of-self-clause-lined g c =
 pub returns-then-home-self-clause-agrees : goal.returns-then-home-self-clause-agrees
 returns-then-home-self-clause-agrees g c =
     let line = c.args.self.now.line.items in
-    let others = c.args.self.now.others in
+    let others = numbered_calls c.args.self.now.others.entries in
     sym (ap (λ (o : Option ProcId). agrees o c.args.id) (none_anywhere line others c.args.xid (sym c.in_default.ensures) (c.args.self.now.above c.args.xid (omega arith))))
 
 pub returns-then-home-self-clause-added : goal.returns-then-home-self-clause-added
 returns-then-home-self-clause-added g c is q =
     let line = c.args.self.now.line.items in
-    let others = c.args.self.now.others in
+    let others = numbered_calls c.args.self.now.others.entries in
     let one : NumberedCall = record { xid = c.args.xid; id = c.args.id } in
     ap (λ (l : List NumberedCall). found (l ++ others) q) c.in_ok-push.ensures.items
     ∙ gains_put (line ++ others) ((line ++ one ∷ []) ++ others) c.args.xid c.args.id (none_anywhere line others c.args.xid (sym c.in_default.ensures) (c.args.self.now.above c.args.xid (omega arith)))

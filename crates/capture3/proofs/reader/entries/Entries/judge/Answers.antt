@@ -1,19 +1,16 @@
-use Rattle.std.proofs.Common.{ap, arith, refl, subst, sym, List, ℕ, ◌-◌, ◌+◌, ◌++◌, ◌≤◌, take, drop, slice_range, length, length-take}
-use Rattle.record_mark.specs.Taking.{released}
-use Rattle.capture3.specs.machinery.Container.{IsReady, IsStored, room_in}
-use Rattle.capture3.specs.machinery.Position.{IsSoundPosition}
-use Rattle.capture3.specs.machinery.EntryParser.{FailsAt, GoesTo, HasCome, entry_cost}
+use Rattle.std.proofs.Common.{ap, arith, refl, subst, List, ℕ, ◌-◌, ◌+◌, ◌++◌, ◌≤◌, take, drop, slice_range, length, length-take}
+use Rattle.capture3.specs.machinery.EntryParser.{FailsAt, GoesTo}
 use Rattle.capture3.proofs.Lemmas.Reader.EntriesLemmas.{failed_not_write, judged_failed, judged_on, not_read, ready_joiner, sound_position, stored_container}
 use Rattle.capture3.proofs.reader.entries.Entries.judge.Goals as goal
 
 pub next-requires-clause-sound : goal.next-requires-clause-sound
-next-requires-clause-sound g c = subst (λ p. IsSoundPosition p.container.position) (sym c.look_ahead.ensures) (sound_position _ (c.args.self.now.sound c.requires.reading))
+next-requires-clause-sound g c = sound_position _ (c.args.self.now.sound c.requires.reading)
 
 pub next-requires-clause-stored : goal.next-requires-clause-stored
-next-requires-clause-stored g c = subst (λ p. IsStored p.container) (sym c.look_ahead.ensures) (stored_container c.args.self.now.parser.container (c.args.self.now.stored c.requires.reading))
+next-requires-clause-stored g c = stored_container c.args.self.now.parser.container (c.args.self.now.stored c.requires.reading)
 
 pub next-requires-clause-ready : goal.next-requires-clause-ready
-next-requires-clause-ready g c = subst (λ p. IsReady p.container.cursor (released p.container.joiner.taking)) (sym c.look_ahead.ensures) (ready_joiner c.args.self.now.parser.container.cursor _ (c.args.self.now.ready c.requires.reading))
+next-requires-clause-ready g c = ready_joiner c.args.self.now.parser.container.cursor _ (c.args.self.now.ready c.requires.reading)
 
 pub invariant_of-self-in-Err-clause-never_writes : goal.invariant_of-self-in-Err-clause-never_writes
 invariant_of-self-in-Err-clause-never_writes g c = failed_not_write c.in-Err.error c.in-Err.ensures.device
@@ -23,16 +20,15 @@ returns-in-Ok-clause-goes_on g c given handed s =
     let inner = length-take (c.args.self.now.end - c.args.self.now.start) (drop c.args.self.now.start c.deref.result.now) in
     let fits : c.args.self.now.start + c.in-Ok.count ≤ c.args.self.now.end = omega (arith, c.in-Ok.ensures.within, inner, c.args.self.now.ordered) in
     let within : c.args.self.now.end ≤ length c.args.self.now.block.items = omega (arith, c.args.self.now.within, c.deref.ensures.len, ap length c.deref.ensures.value) in
-    let room = subst (λ p. room_in c.next.new.self.container + entry_cost c.in-Ok.kind ≤ room_in p.container) c.look_ahead.ensures c.in-Ok.ensures.room in
-    judged_on g.R.Source.told g.V.Visit.stands c.args.visitor.now c.next.new.visitor c.args.self.now _ c.in-Ok.count given handed c.in-Ok.kind c.requires.reading c.requires.reading refl refl refl refl fits within room s
+    judged_on g.R.Source.told g.V.Visit.stands c.args.visitor.now c.next.new.visitor c.args.self.now _ c.in-Ok.count given handed c.in-Ok.kind c.requires.reading c.requires.reading refl refl refl refl fits within c.in-Ok.ensures.room s
     (λ judged at. subst
     (λ (items : List ℕ). GoesTo g.V.Visit.stands c.args.visitor.now c.next.new.visitor c.in-Ok.kind c.next.new.self.container c.next.new.self.calls (judged ++ take c.in-Ok.count (slice_range items c.args.self.now.start c.args.self.now.end)) handed)
-    c.deref.ensures.value (c.in-Ok.ensures.machine judged handed (subst (λ p. HasCome p.container p.calls judged handed) (sym c.look_ahead.ensures) at)))
+    c.deref.ensures.value (c.in-Ok.ensures.machine judged handed at))
 
 pub returns-in-Err-clause-goes_on : goal.returns-in-Err-clause-goes_on
 returns-in-Err-clause-goes_on g c given handed s =
     judged_failed g.R.Source.told c.args.self.now _ c.in-Err.error given handed c.requires.reading refl refl refl s
-    (λ judged at. subst (λ (items : List ℕ). FailsAt (judged ++ slice_range items c.args.self.now.start c.args.self.now.end) handed c.in-Err.error) c.deref.ensures.value (c.in-Err.ensures.fault judged handed (subst (λ p. HasCome p.container p.calls judged handed) (sym c.look_ahead.ensures) at)))
+    (λ judged at. subst (λ (items : List ℕ). FailsAt (judged ++ slice_range items c.args.self.now.start c.args.self.now.end) handed c.in-Err.error) c.deref.ensures.value (c.in-Err.ensures.fault judged handed at))
 
 pub returns-in-Err-clause-never_reads : goal.returns-in-Err-clause-never_reads
 returns-in-Err-clause-never_reads g c = not_read c.in-Err.error c.in-Err.ensures.device

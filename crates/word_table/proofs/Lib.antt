@@ -1,3 +1,0 @@
--- Lemmas of tables of words.
-pub mod SlotsLemmas
-pub mod Refilling

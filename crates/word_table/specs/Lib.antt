@@ -1,4 +1,0 @@
--- Words, each with a value.
-pub mod Words
-pub mod Slots
-pub mod machinery
