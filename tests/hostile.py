@@ -714,10 +714,10 @@ def linear_in_version_2(make: Callable[[int], bytes], count: int) -> Test:
     return is_linear(make.__name__, lambda number: version_2(make(number)), count)
 
 
-def records_of(count: int, before: bytes = b'') -> bytes:
-    """NULL calls with different xids, each after these bytes."""
+def records_of(count: int, before: bytes = b'', step: int = 1) -> bytes:
+    """NULL calls with different xids, which are so far apart, each after these bytes."""
     calls = call(0, NFS, 3, 0)[4:]
-    return b''.join(b'%b\x80\0\0\x28%b%b' % (before, word(number), calls) for number in range(count))
+    return b''.join(b'%b\x80\0\0\x28%b%b' % (before, word(number * step % (1 << 32)), calls) for number in range(count))
 
 
 def connection(count: int) -> bytes:
@@ -725,8 +725,13 @@ def connection(count: int) -> bytes:
     return word(1) + records_of(count, word(44)) + word(0) + word(0)
 
 
+def connection_in_no_order(count: int) -> bytes:
+    """The same with xids in no order, which are hashed."""
+    return word(1) + records_of(count, word(44), 0x9e3779b1) + word(0) + word(0)
+
+
 def connection_2(count: int) -> bytes:
-    """The same in version 2."""
+    """A connection of NULL calls, in version 2."""
     return word(1) + (word(1) + word(44 * count) + records_of(count) if count else b'') + word(0)
 
 
@@ -760,6 +765,7 @@ def after_a_large_connection(count: int, small: int, make: Callable[[int], bytes
 TESTS: list[Test] = [
     after_a_large_connection(1_000_000, 0), after_a_large_connection(1_000_000, 1),
     after_a_large_connection(1_000_000, 1, connection_2, MAGIC_2), after_a_large_connection(2_000_000, 0, commands=('canon',)),
+    after_a_large_connection(1_000_000, 5, connection_in_no_order),
     handles_chosen_against_a_known_word,
     linear(xids, 1_000_000), linear(handles, 1_000_000), linear(empty_fragments, 2_000_000), linear(single_bytes, 2_000_000),
     linear_in_version_2(in_turns, 500_000), linear_in_version_2(bytes_in_turns, 2_000_000),
