@@ -16,7 +16,7 @@ ghost use Rattle.record_mark.specs.Taking.{IsRunning, IsWhole, body_of, joining_
 
 use crate::container::kept_streams::Streams;
 use crate::container::position::{Event, Position, Spot, Transition, file_fault};
-use crate::fault::{Error, Place, Side};
+use crate::fault::{Error, Noted, Place, Side};
 use record_mark::{JoinError, Joiner, Step};
 use std::alloc::Global;
 use xdr3::Reason;
@@ -88,9 +88,13 @@ impl Container {
     }
 
     /// Returns what is whole next, and how many bytes of `piece` were taken for it: none if it is
-    /// of kept streams, and all of them if nothing is whole.
+    /// of kept streams, and all of them if nothing is whole. If it fails, it puts the error into `error`.
     #[inline(always)]
-    pub(crate) fn next(&mut self, piece: &[u8]) -> Result<(usize, Option<Event>), Error>
+    pub(crate) fn next(
+        &mut self,
+        piece: &[u8],
+        error: &mut Error,
+    ) -> Result<(usize, Option<Event>), Noted>
         requires sound { IsSoundPosition self.old.position }
         requires stored { IsStored self.old }
         requires ready { IsReady self.old.cursor self.old.joiner.taking }
@@ -102,29 +106,68 @@ impl Container {
         ensures opened { IfOk result (λ r. r.1 ≢ Some Event.Streams) }
         ensures comes { IfOk result (λ r. Comes self.old self.new (take r.0 piece.now) r.1) }
         ensures joiner { IfOk result (λ r. Leaves r.1 self.new.joiner.taking) }
-        ensures fault { IfErr result (ComesToFault self.old piece.now) }
+        ensures fault { OnErr result (ComesToFault self.old piece.now error.new) }
         ensures sound { OnOk result (IsSoundPosition self.new.position) }
         ensures stored { OnOk result (IsStored self.new) }
         ensures ready { OnOk result (IsReady self.new.cursor (released self.new.joiner.taking)) }
         ensures room { IfOk result
             (λ r. room_in self.new + cost_of r.1 self.new.streams.kept ≤ room_in self.old) }
     {
-        // Written out, since `?` takes more instructions for each message.
+        match self.cursor {
+            Some(_) => self.next_aside(piece, error),
+            None => match self.take_whole(piece) {
+                Some((count, side)) => Ok((count, Some(Event::Record(side)))),
+                None => self.next_aside(piece, error),
+            },
+        }
+    }
+
+    /// Does the same where no whole record of one fragment is at hand.
+    #[inline(never)]
+    fn next_aside(
+        &mut self,
+        piece: &[u8],
+        error: &mut Error,
+    ) -> Result<(usize, Option<Event>), Noted>
+        requires sound { IsSoundPosition self.old.position }
+        requires stored { IsStored self.old }
+        requires ready { IsReady self.old.cursor self.old.joiner.taking }
+        ensures within { IfOk result (λ r. r.0 ≤ length piece.now) }
+        ensures some { IfOk result (λ r. 0 < length piece.now → r.1 ≡ None → 0 < r.0) }
+        ensures more { IfOk result (λ r. r.1 ≡ None → r.0 ≡ length piece.now) }
+        ensures recalling { self.old.cursor ≢ None → IfOk result
+            (λ r. (r.0 ≡ 0) × (r.1 ≢ None)) }
+        ensures opened { IfOk result (λ r. r.1 ≢ Some Event.Streams) }
+        ensures comes { IfOk result (λ r. Comes self.old self.new (take r.0 piece.now) r.1) }
+        ensures joiner { IfOk result (λ r. Leaves r.1 self.new.joiner.taking) }
+        ensures fault { OnErr result (ComesToFault self.old piece.now error.new) }
+        ensures sound { OnOk result (IsSoundPosition self.new.position) }
+        ensures stored { OnOk result (IsStored self.new) }
+        ensures ready { OnOk result (IsReady self.new.cursor (released self.new.joiner.taking)) }
+        ensures room { IfOk result
+            (λ r. room_in self.new + cost_of r.1 self.new.streams.kept ≤ room_in self.old) }
+    {
         match self.cursor {
             Some(cursor) => match self.recall(cursor) {
                 Ok(event) => Ok((0, Some(event))),
-                Err(error) => Err(error),
+                Err(found) => {
+                    *error = found;
+                    Err(Noted)
+                }
             },
-            None => match self.take_whole(piece) {
-                Some((count, side)) => Ok((count, Some(Event::Record(side)))),
-                None => match self.advance(piece) {
-                    Ok((count, Some(Event::Streams))) => match self.first_recalled() {
-                        Ok(event) => Ok((count, Some(event))),
-                        Err(error) => Err(error),
-                    },
-                    Ok((count, event)) => Ok((count, event)),
-                    Err(error) => Err(error),
+            None => match self.advance(piece) {
+                Ok((count, Some(Event::Streams))) => match self.first_recalled() {
+                    Ok(event) => Ok((count, Some(event))),
+                    Err(found) => {
+                        *error = found;
+                        Err(Noted)
+                    }
                 },
+                Ok((count, event)) => Ok((count, event)),
+                Err(found) => {
+                    *error = found;
+                    Err(Noted)
+                }
             },
         }
     }

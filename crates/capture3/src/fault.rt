@@ -78,6 +78,11 @@ pub enum Error {
     Memory,
 }
 
+/// It failed, and the error is noted where the reader keeps it. A result with an `Error` has 40 bytes and
+/// more, which would be moved for each message.
+#[derive(Clone, Copy)]
+pub(crate) struct Noted;
+
 impl From<AllocError> for Error {
     ghost use Rattle.std.specs.Prelude.{◌≡◌};
     ghost use Rattle.capture3.specs.declared.fault.Error.TheVariants as errors;

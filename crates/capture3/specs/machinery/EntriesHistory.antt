@@ -11,6 +11,8 @@ use Rattle.capture3.specs.declared.reader.entries.Stage.{Stage}
 use Rattle.capture3.specs.declared.reader.entries.Stage.TheVariants.{Reading, Over, Failed}
 use Rattle.capture3.specs.declared.reader.entry.Kind.{Kind}
 use Rattle.capture3.specs.declared.fault.Error.{Error}
+use Rattle.capture3.specs.declared.fault.Error.TheVariants as errors
+use Rattle.capture3.specs.declared.fault.Noted.{Noted}
 use Rattle.capture3.specs.declared.container.Container.{Container}
 use Rattle.capture3.specs.machinery.Container.{room_in}
 use Rattle.capture3.specs.Entry.{Entry, items_of}
@@ -19,6 +21,12 @@ use Rattle.capture3.specs.Kept.{IsOfKind}
 use Rattle.capture3.specs.Laws.{most_entries}
 use Rattle.capture3.specs.Typed.{Typed}
 use Rattle.capture3.specs.Entries.{IsMetBy, KeepsLimits}
+
+-- what is answered, where an error is the one that is noted
+abbrev pub answer_in : {X : Type 0} → Option Error → Result X Noted → Result X Error
+answer_in failure (Ok x) = Ok x
+answer_in (Some error) (Err noted) = Err error
+answer_in None (Err noted) = Err errors.Memory
 
 -- how many entries there can be from here on
 abbrev pub entries_left_in : Stage → Container → ℕ
@@ -76,17 +84,17 @@ module _ {R S H : Type 0} {builds : BuildHasher.Ghosts S H} {hashes : Hasher.Gho
   -- an entry is handed out and told; or it goes on, or has failed
   abbrev pub HandsOutOrGoesOn : {V : Type 0} → (R → Told) → (V → List Item → Type 0)
       → Entries R S H builds hashes → (was now : V) → List ℕ → List Entry
-      → Result (Option Kind) Error → Type 0
+      → Result (Option Kind) Noted → Type 0
   HandsOutOrGoesOn told stands new was now given handed (Ok (Some kind)) =
       (entry : Entry) × IsOfKind kind entry × Adds stands was now (items_of entry)
       × StandsFor told new given (handed ++ entry ∷ [])
   HandsOutOrGoesOn told stands new was now given handed (Ok None) = StandsFor told new given handed
-  HandsOutOrGoesOn told stands new was now given handed (Err error) =
+  HandsOutOrGoesOn told stands new was now given handed (Err noted) =
       StandsFor told new given handed
 
   pub record Turns {V : Type 0} (told : R → Told) (stands : V → List Item → Type 0)
       (old new : Entries R S H builds hashes) (was now : V) (given : List ℕ) (handed : List Entry)
-      (result : Result (Option Kind) Error) : Type 0 where
+      (result : Result (Option Kind) Noted) : Type 0 where
     pub more : List ℕ
     pub consumed : Gave (told old.source.now) (told new.source.now) more
     pub goes_on : HandsOutOrGoesOn told stands new was now (given ++ more) handed result

@@ -18,7 +18,7 @@ ghost use Rattle.capture3.specs.machinery.Position.{IsSoundPosition};
 use crate::container::position::file_fault;
 use crate::device::DeviceFailed;
 use crate::device::source::Source;
-use crate::fault::Error;
+use crate::fault::{Error, Noted};
 use crate::message::calls::HashedCalls;
 use crate::reader::entry::{EntryRef, Kind};
 use crate::reader::entry_parser::EntryParser;
@@ -78,7 +78,7 @@ impl<'r, R: Source, S: BuildHasher + Drop> Entries<'r, R, S> {
     ghost use Rattle.capture3.specs.Kept.{IsLent, kind_lent};
     ghost use Rattle.capture3.specs.Entries.{block_size, CountsReads, failure_of, IsOver, last_of, loan_of, source_of};
     ghost use Rattle.capture3.specs.Handing.{HandsOutGiven};
-    ghost use Rattle.capture3.specs.machinery.EntriesHistory.{entries_left, HandsOutOrGoesOn, HasRead, StandsFor, Turns};
+    ghost use Rattle.capture3.specs.machinery.EntriesHistory.{answer_in, entries_left, HandsOutOrGoesOn, HasRead, StandsFor, Turns};
 
     /// Returns a reader through a block that is not empty. It reads nothing yet. The hasher is for
     /// the calls of a connection by their xids, and affects no result.
@@ -148,7 +148,10 @@ impl<'r, R: Source, S: BuildHasher + Drop> Entries<'r, R, S> {
         ensures same_reference { loan_of self.new ≡ loan_of self.old }
     {
         match self.stage {
-            Stage::Reading => self.next_entry(visitor),
+            Stage::Reading => match self.next_entry(visitor) {
+                Ok(kind) => Ok(kind),
+                Err(Noted) => Err(self.failure()),
+            },
             Stage::Over => Ok(None),
             Stage::Failed(error) => Err(error),
         }
@@ -168,8 +171,21 @@ impl<'r, R: Source, S: BuildHasher + Drop> Entries<'r, R, S> {
         }
     }
 
+    /// Returns the error for good.
+    #[cold]
+    #[inline(never)]
+    fn failure(&self) -> Error
+        requires { IsSome (failure_of self.now) }
+        ensures { failure_of self.now ≡ Some result }
+    {
+        match self.stage {
+            Stage::Failed(error) => error,
+            _ => unreachable!(),
+        }
+    }
+
     /// Reads the next entry of a capture whose end was not returned.
-    fn next_entry<V: Visit>(&mut self, visitor: &mut V) -> Result<Option<Kind>, Error>
+    fn next_entry<V: Visit>(&mut self, visitor: &mut V) -> Result<Option<Kind>, Noted>
         requires reading { self.old.stage ≡ Stage.Reading }
         ensures turns { (given : List ℕ) (handed : List spec.Entry)
             → StandsFor R.told self.old given handed
@@ -179,9 +195,10 @@ impl<'r, R: Source, S: BuildHasher + Drop> Entries<'r, R, S> {
         ensures fewer { OnOk result (entries_left self.new < entries_left self.old) }
         ensures some { IfOk result (λ next. IsSome next) }
         ensures going { OnOk result (failure_of self.new ≡ None) }
-        ensures failed { IfErr result (λ error. self.new.stage ≡ Stage.Failed error) }
+        ensures failed { OnErr result (IsSome (failure_of self.new)) }
         ensures unlent { OnErr result (last_of self.new ≡ None) }
-        ensures read { CountsReads R.failures self.old self.new result }
+        ensures read { CountsReads R.failures self.old self.new
+            (answer_in (failure_of self.new) result) }
         ensures same_block { block_size self.new ≡ block_size self.old }
         ensures same_reference { loan_of self.new ≡ loan_of self.old }
     {
@@ -190,18 +207,17 @@ impl<'r, R: Source, S: BuildHasher + Drop> Entries<'r, R, S> {
             match self.turn(visitor) {
                 Ok(None) => {}
                 Ok(Some(kind)) => return Ok(Some(kind)),
-                Err(error) => return Err(error),
+                Err(Noted) => return Err(Noted),
             }
         }
-        let error = file_fault(self.judged, Reason::AfterEnd);
         self.last = None;
-        self.stage = Stage::Failed(error);
-        Err(error)
+        self.stage = Stage::Failed(file_fault(self.judged, Reason::AfterEnd));
+        Err(Noted)
     }
 
     /// Reads at most once, checks one piece, and returns the entry that is whole with it, if one
     /// is. If kept streams are checked, it reads nothing.
-    fn turn<V: Visit>(&mut self, visitor: &mut V) -> Result<Option<Kind>, Error>
+    fn turn<V: Visit>(&mut self, visitor: &mut V) -> Result<Option<Kind>, Noted>
         requires reading { self.old.stage ≡ Stage.Reading }
         requires bounded { self.old.judged ≤ most_bytes Two + 1 }
         ensures turns { (given : List ℕ) (handed : List spec.Entry)
@@ -217,9 +233,10 @@ impl<'r, R: Source, S: BuildHasher + Drop> Entries<'r, R, S> {
             (λ next. next ≡ None → entries_left self.new ≤ entries_left self.old) }
         ensures reading { IfOk result (λ next. next ≡ None → self.new.stage ≡ Stage.Reading) }
         ensures going { OnOk result (failure_of self.new ≡ None) }
-        ensures failed { IfErr result (λ error. self.new.stage ≡ Stage.Failed error) }
+        ensures failed { OnErr result (IsSome (failure_of self.new)) }
         ensures unlent { OnErr result (last_of self.new ≡ None) }
-        ensures read { CountsReads R.failures self.old self.new result }
+        ensures read { CountsReads R.failures self.old self.new
+            (answer_in (failure_of self.new) result) }
         ensures same_block { block_size self.new ≡ block_size self.old }
         ensures same_reference { loan_of self.new ≡ loan_of self.old }
     {
@@ -230,10 +247,10 @@ impl<'r, R: Source, S: BuildHasher + Drop> Entries<'r, R, S> {
                 Ok(false) => {
                     return match self.finish() {
                         Ok(()) => Ok(Some(Kind::End)),
-                        Err(error) => Err(error),
+                        Err(Noted) => Err(Noted),
                     };
                 }
-                Err(error) => return Err(error),
+                Err(Noted) => return Err(Noted),
             }
         }
         self.judge(visitor)
@@ -250,7 +267,7 @@ impl<'r, R: Source, S: BuildHasher + Drop> Entries<'r, R, S> {
     }
 
     /// Reads the next block. Returns `false` at the end of the bytes.
-    fn refill(&mut self) -> Result<bool, Error>
+    fn refill(&mut self) -> Result<bool, Noted>
         requires reading { self.old.stage ≡ Stage.Reading }
         requires bounded { self.old.judged ≤ most_bytes Two + 1 }
         requires judged { self.old.start ≡ self.old.end }
@@ -265,9 +282,10 @@ impl<'r, R: Source, S: BuildHasher + Drop> Entries<'r, R, S> {
         ensures same_parser { self.new.parser ≡ self.old.parser }
         ensures same_count { self.new.judged ≡ self.old.judged }
         ensures reading { OnOk result (self.new.stage ≡ Stage.Reading) }
-        ensures failed { IfErr result (λ error. self.new.stage ≡ Stage.Failed error) }
+        ensures failed { OnErr result (IsSome (failure_of self.new)) }
         ensures unlent { OnErr result (last_of self.new ≡ None) }
-        ensures read { CountsReads R.failures self.old self.new result }
+        ensures read { CountsReads R.failures self.old self.new
+            (answer_in (failure_of self.new) result) }
         ensures same_block { block_size self.new ≡ block_size self.old }
         ensures same_reference { loan_of self.new ≡ loan_of self.old }
     {
@@ -281,13 +299,13 @@ impl<'r, R: Source, S: BuildHasher + Drop> Entries<'r, R, S> {
             Err(_) => {
                 self.last = None;
                 self.stage = Stage::Failed(Error::Read);
-                Err(Error::Read)
+                Err(Noted)
             }
         }
     }
 
     /// Checks what is left up to the next entry: kept streams, or the rest of the block.
-    fn judge<V: Visit>(&mut self, visitor: &mut V) -> Result<Option<Kind>, Error>
+    fn judge<V: Visit>(&mut self, visitor: &mut V) -> Result<Option<Kind>, Noted>
         requires reading { self.old.stage ≡ Stage.Reading }
         requires bounded { self.old.judged ≤ most_bytes Two + 1 }
         requires some { self.old.parser.container.cursor ≡ None → self.old.start < self.old.end }
@@ -304,9 +322,9 @@ impl<'r, R: Source, S: BuildHasher + Drop> Entries<'r, R, S> {
             (λ next. next ≡ None → entries_left self.new ≤ entries_left self.old) }
         ensures on { IfOk result (λ next. next ≡ None → self.old.judged < self.new.judged) }
         ensures reading { OnOk result (self.new.stage ≡ Stage.Reading) }
-        ensures failed { IfErr result (λ error. self.new.stage ≡ Stage.Failed error) }
+        ensures failed { OnErr result (IsSome (failure_of self.new)) }
         ensures unlent { OnErr result (last_of self.new ≡ None) }
-        ensures never_reads { IfErr result (λ error. error ≢ Error.Read) }
+        ensures never_reads { OnErr result (failure_of self.new ≢ Some Error.Read) }
         ensures unread { source_of self.new ≡ source_of self.old }
         ensures same_block { block_size self.new ≡ block_size self.old }
         ensures same_reference { loan_of self.new ≡ loan_of self.old }
@@ -319,16 +337,16 @@ impl<'r, R: Source, S: BuildHasher + Drop> Entries<'r, R, S> {
                 self.last = kind;
                 Ok(kind)
             }
-            Err(error) => {
+            Err(Noted) => {
                 self.last = None;
-                self.stage = Stage::Failed(error);
-                Err(error)
+                self.stage = Stage::Failed(self.parser.error);
+                Err(Noted)
             }
         }
     }
 
     /// Ends the capture, of which no byte is left.
-    fn finish(&mut self) -> Result<(), Error>
+    fn finish(&mut self) -> Result<(), Noted>
         requires reading { self.old.stage ≡ Stage.Reading }
         requires judged { self.old.start ≡ self.old.end }
         requires unopened { self.old.parser.container.cursor ≡ None }
@@ -341,9 +359,9 @@ impl<'r, R: Source, S: BuildHasher + Drop> Entries<'r, R, S> {
             → OnErr result (StandsFor R.told self.new given handed) }
         ensures last { OnOk result (last_of self.new ≡ Some Kind.End) }
         ensures over { OnOk result (self.new.stage ≡ Stage.Over) }
-        ensures failed { IfErr result (λ error. self.new.stage ≡ Stage.Failed error) }
+        ensures failed { OnErr result (IsSome (failure_of self.new)) }
         ensures unlent { OnErr result (last_of self.new ≡ None) }
-        ensures never_reads { IfErr result (λ error. error ≢ Error.Read) }
+        ensures never_reads { OnErr result (failure_of self.new ≢ Some Error.Read) }
         ensures unread { source_of self.new ≡ source_of self.old }
         ensures same_block { block_size self.new ≡ block_size self.old }
         ensures same_reference { loan_of self.new ≡ loan_of self.old }
@@ -357,7 +375,7 @@ impl<'r, R: Source, S: BuildHasher + Drop> Entries<'r, R, S> {
             Err(error) => {
                 self.last = None;
                 self.stage = Stage::Failed(error);
-                Err(error)
+                Err(Noted)
             }
         }
     }

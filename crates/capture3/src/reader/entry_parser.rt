@@ -1,6 +1,6 @@
 //! A capture whose records are checked as they come.
 
-ghost use Rattle.std.specs.Prelude.{is_some, ◌≡◌, ◌≢◌, ◌≤◌, ◌<◌, ◌+◌, ◌++◌, ℕ, List, [], length, take, IfErr, IfOk, OnOk, None, Some};
+ghost use Rattle.std.specs.Prelude.{is_some, ◌≡◌, ◌≢◌, ◌≤◌, ◌<◌, ◌+◌, ◌++◌, ℕ, List, [], length, take, IfErr, IfOk, OnErr, OnOk, None, Some};
 ghost use Rattle.record_mark.specs.Taking.{IsRunning, IsWhole, body_of, released, unbegun};
 ghost use Rattle.xdr3.specs.Item.{Item};
 ghost use Rattle.capture3.specs.machinery.Container.{IsReady, IsStored, Leaves, room_in};
@@ -14,7 +14,7 @@ ghost use Rattle.capture3.specs.machinery.Position.{IsEndSpot, IsSoundPosition, 
 
 use crate::container::Container;
 use crate::container::position::Event;
-use crate::fault::{Error, Place, Side};
+use crate::fault::{Error, Noted, Place, Side};
 use crate::message::calls::CallTable;
 use crate::message::scan::{scan_call, scan_reply};
 use crate::message::stop;
@@ -28,6 +28,8 @@ use xdr3::{GetError, Reason, Visit};
 pub(crate) struct EntryParser<C: Drop> {
     pub(crate) container: Container,
     pub(crate) calls: C,
+    /// Why `next` failed, if it has.
+    pub(crate) error: Error,
 }
 
 impl<C: CallTable + Drop> EntryParser<C> {
@@ -42,6 +44,7 @@ impl<C: CallTable + Drop> EntryParser<C> {
         EntryParser {
             container: Container::new(alloc),
             calls,
+            error: Error::Memory,
         }
     }
 
@@ -53,7 +56,7 @@ impl<C: CallTable + Drop> EntryParser<C> {
         &mut self,
         piece: &[u8],
         visitor: &mut V,
-    ) -> Result<(usize, Option<Kind>), Error>
+    ) -> Result<(usize, Option<Kind>), Noted>
         requires sound { IsSoundPosition self.old.container.position }
         requires stored { IsStored self.old.container }
         requires ready { IsReady self.old.container.cursor
@@ -79,18 +82,18 @@ impl<C: CallTable + Drop> EntryParser<C> {
             (C.calls self.new.calls) (bytes ++ take r.0 piece.now) entries) }
         ensures fault { (bytes : List ℕ) (entries : List spec.Entry)
             → HasCome self.old.container (C.calls self.old.calls) bytes entries
-            → IfErr result (FailsAt (bytes ++ piece.now) entries) }
-        ensures device { IfErr result IsOfBytes }
+            → OnErr result (FailsAt (bytes ++ piece.now) entries self.new.error) }
+        ensures device { OnErr result (IsOfBytes self.new.error) }
     {
         self.container.release();
         // Written out, since `?` takes more instructions for each message.
-        match self.container.next(piece) {
+        match self.container.next(piece, &mut self.error) {
             Ok((count, Some(event))) => match self.entry(event, visitor) {
                 Ok(kind) => Ok((count, Some(kind))),
-                Err(error) => Err(error),
+                Err(Noted) => Err(Noted),
             },
             Ok((count, None)) => Ok((count, None)),
-            Err(error) => Err(error),
+            Err(Noted) => Err(Noted),
         }
     }
 
@@ -135,7 +138,7 @@ impl<C: CallTable + Drop> EntryParser<C> {
     }
 
     /// Returns the entry that is whole.
-    fn entry<V: Visit>(&mut self, event: Event, visitor: &mut V) -> Result<Kind, Error>
+    fn entry<V: Visit>(&mut self, event: Event, visitor: &mut V) -> Result<Kind, Noted>
         requires leaves { Leaves (Some event) self.old.container.joiner.taking }
         requires opened { event ≢ Event.Streams }
         ensures container { self.new.container ≡ self.old.container }
@@ -148,8 +151,8 @@ impl<C: CallTable + Drop> EntryParser<C> {
             (C.calls self.new.calls) bytes entries) }
         ensures fault { (bytes : List ℕ) (entries : List spec.Entry)
             → MeetsEvent self.old.container (C.calls self.old.calls) event bytes entries
-            → IfErr result (FailsAt bytes entries) }
-        ensures device { IfErr result IsOfBytes }
+            → OnErr result (FailsAt bytes entries self.new.error) }
+        ensures device { OnErr result (IsOfBytes self.new.error) }
     {
         match event {
             Event::Begin => {
@@ -165,7 +168,7 @@ impl<C: CallTable + Drop> EntryParser<C> {
     }
 
     /// Returns the message that is whole.
-    fn message<V: Visit>(&mut self, side: Side, visitor: &mut V) -> Result<Kind, Error>
+    fn message<V: Visit>(&mut self, side: Side, visitor: &mut V) -> Result<Kind, Noted>
         requires { IsWhole self.old.container.joiner.taking }
         ensures container { self.new.container ≡ self.old.container }
         ensures not_end { IfOk result (λ kind. kind ≢ Kind.End) }
@@ -179,24 +182,24 @@ impl<C: CallTable + Drop> EntryParser<C> {
         ensures fault { (bytes : List ℕ) (entries : List spec.Entry)
             → MeetsEvent self.old.container (C.calls self.old.calls) (Event.Record side) bytes
             entries
-            → IfErr result (FailsAt bytes entries) }
-        ensures device { IfErr result IsOfBytes }
+            → OnErr result (FailsAt bytes entries self.new.error) }
+        ensures device { OnErr result (IsOfBytes self.new.error) }
     {
         // Written out, since `?` takes more instructions for each message.
         match side {
             Side::Client => match self.call(visitor) {
                 Ok(id) => Ok(Kind::Call(id)),
-                Err(error) => Err(error),
+                Err(Noted) => Err(Noted),
             },
             Side::Server => match self.reply(visitor) {
                 Ok(id) => Ok(Kind::Reply(id)),
-                Err(error) => Err(error),
+                Err(Noted) => Err(Noted),
             },
         }
     }
 
     /// Returns the procedure of the call that is whole, which joins the calls of its connection.
-    fn call<V: Visit>(&mut self, visitor: &mut V) -> Result<ProcId, Error>
+    fn call<V: Visit>(&mut self, visitor: &mut V) -> Result<ProcId, Noted>
         requires { IsWhole self.old.container.joiner.taking }
         ensures container { self.new.container ≡ self.old.container }
         ensures spells { IfOk result
@@ -206,50 +209,58 @@ impl<C: CallTable + Drop> EntryParser<C> {
             (JudgesCall V.stands visitor.old visitor.new calls
             (body_of self.old.container.joiner.taking) (C.calls self.new.calls)) }
         ensures err { (calls : List (List Item)) → IsTableOf (C.calls self.old.calls) calls
-            → IfErr result
+            → OnErr result
             (RefusesBody self.old.container.position Side.Client
-            (judge_call calls (body_of self.old.container.joiner.taking))) }
-        ensures device { IfErr result IsOfBytes }
+            (judge_call calls (body_of self.old.container.joiner.taking)) self.new.error) }
+        ensures device { OnErr result (IsOfBytes self.new.error) }
     {
         let call = match scan_call(self.container.body(), visitor) {
             Ok(call) => call,
-            Err(error) => return Err(self.record_error(Side::Client, error)),
+            Err(error) => return Err(self.note(Side::Client, error)),
         };
-        if self.calls.admit(call.xid, call.id)? {
-            Ok(call.id)
-        } else {
-            Err(self.record_error(Side::Client, stop(0, Reason::XidConflict)))
+        match self.calls.admit(call.xid, call.id) {
+            Ok(true) => Ok(call.id),
+            Ok(false) => Err(self.note(Side::Client, stop(0, Reason::XidConflict))),
+            Err(_) => Err(self.note(Side::Client, GetError::Memory)),
         }
     }
 
     /// Returns the procedure of the reply that is whole.
-    fn reply<V: Visit>(&self, visitor: &mut V) -> Result<ProcId, Error>
-        requires { IsWhole self.now.container.joiner.taking }
+    fn reply<V: Visit>(&mut self, visitor: &mut V) -> Result<ProcId, Noted>
+        requires { IsWhole self.old.container.joiner.taking }
+        ensures container { self.new.container ≡ self.old.container }
+        ensures calls { C.calls self.new.calls ≡ C.calls self.old.calls }
         ensures spells { IfOk result
-            (λ id. ∥ SpellsReply id (body_of self.now.container.joiner.taking) ∥₁) }
-        ensures ok { (calls : List (List Item)) → IsTableOf (C.calls self.now.calls) calls
+            (λ id. ∥ SpellsReply id (body_of self.old.container.joiner.taking) ∥₁) }
+        ensures ok { (calls : List (List Item)) → IsTableOf (C.calls self.old.calls) calls
             → IfOk result
             (JudgesReply V.stands visitor.old visitor.new calls
-            (body_of self.now.container.joiner.taking)) }
-        ensures err { (calls : List (List Item)) → IsTableOf (C.calls self.now.calls) calls
-            → IfErr result
-            (RefusesBody self.now.container.position Side.Server
-            (judge_reply calls (body_of self.now.container.joiner.taking))) }
-        ensures device { IfErr result IsOfBytes }
+            (body_of self.old.container.joiner.taking)) }
+        ensures err { (calls : List (List Item)) → IsTableOf (C.calls self.old.calls) calls
+            → OnErr result
+            (RefusesBody self.old.container.position Side.Server
+            (judge_reply calls (body_of self.old.container.joiner.taking)) self.new.error) }
+        ensures device { OnErr result (IsOfBytes self.new.error) }
     {
         match scan_reply(&self.calls, self.container.body(), visitor) {
             Ok(id) => Ok(id),
-            Err(error) => Err(self.record_error(Side::Server, error)),
+            Err(error) => Err(self.note(Side::Server, error)),
         }
     }
 
-    fn record_error(&self, side: Side, error: GetError) -> Error
-        ensures error { result ≡ error_at self.now.container.position side error }
-        ensures device { IsOfBytes result }
+    /// Notes why the record that is whole was refused.
+    #[cold]
+    #[inline(never)]
+    fn note(&mut self, side: Side, error: GetError) -> Noted
+        ensures error { self.new.error ≡ error_at self.old.container.position side error }
+        ensures device { IsOfBytes self.new.error }
+        ensures container { self.new.container ≡ self.old.container }
+        ensures calls { self.new.calls ≡ self.old.calls }
     {
-        match error {
+        self.error = match error {
             GetError::Stop(stop) => self.container.record_fault(side, stop.at, stop.reason),
             GetError::Memory => Error::Memory,
-        }
+        };
+        Noted
     }
 }

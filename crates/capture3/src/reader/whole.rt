@@ -11,7 +11,7 @@ ghost use Rattle.capture3.specs.Laws.{spelled};
 ghost use Rattle.capture3.specs.Laws.{most_entries};
 ghost use Rattle.capture3.specs.Typed.{Typed};
 
-use crate::fault::Error;
+use crate::fault::{Error, Noted};
 use crate::message::calls::CallList;
 use crate::message::silent::Silent;
 use crate::reader::entry::Entry;
@@ -42,11 +42,15 @@ pub fn parse(alloc: Global, bytes: &[u8]) -> Result<Vec<Entry>, Error>
     let mut entries = Vec::new(alloc);
     let mut taken = 0;
     while taken < bytes.len() || parser.is_recalling() {
-        let (count, kind) = parser.next(&bytes[taken..], &mut Silent)?;
-        taken += count;
-        if let Some(kind) = kind {
-            let entry = parser.lend(kind).keep(alloc)?;
-            entries.push(entry)?;
+        match parser.next(&bytes[taken..], &mut Silent) {
+            Ok((count, kind)) => {
+                taken += count;
+                if let Some(kind) = kind {
+                    let entry = parser.lend(kind).keep(alloc)?;
+                    entries.push(entry)?;
+                }
+            }
+            Err(Noted) => return Err(parser.error),
         }
     }
     parser.end(bytes.len() as u64)?;

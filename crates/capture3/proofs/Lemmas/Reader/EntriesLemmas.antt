@@ -1,5 +1,5 @@
 -- What a reader of entries makes of its histories, step by step.
-use Rattle.std.proofs.Common.{◌≡◌, ◌≢◌, inl, inr, ℕ, ◌+◌, ◌-◌, ◌≤◌, ◌<◌, Option, Some, None, Result, Ok, Err, IfOk, IfErr, OnOk, IsSome, List, [], ◌∷◌, ◌++◌, length, take, drop, slice_range, refl, sym, ap, subst, ◌∙◌, append_assoc, append-nil, length-append, arith, take-append-drop, length-take, length-drop, vec_len}
+use Rattle.std.proofs.Common.{◌≡◌, ◌≢◌, inl, inr, ℕ, ◌+◌, ◌-◌, ◌≤◌, ◌<◌, Option, Some, None, Result, Ok, Err, IsSome, List, [], ◌∷◌, ◌++◌, length, take, drop, slice_range, refl, sym, ap, subst, ◌∙◌, append_assoc, append-nil, length-append, arith, take-append-drop, length-take, length-drop, vec_len}
 use Rattle.std.proofs.lemmas.Grind.{common_steps}
 use Rattle.std.proofs.lemmas.List.{drop-take}
 use Rattle.std.proofs.Math.Logic.{∥∥₁_elim}
@@ -21,6 +21,7 @@ use Rattle.capture3.specs.declared.reader.entry.Kind.{Kind}
 use Rattle.capture3.specs.declared.reader.entry.Kind.TheVariants as kinds
 use Rattle.capture3.specs.declared.fault.Error.{Error}
 use Rattle.capture3.specs.declared.fault.Error.TheVariants as errors
+use Rattle.capture3.specs.declared.fault.Noted.{Noted}
 use Rattle.capture3.specs.declared.reader.entry_parser.EntryParser.{EntryParser}
 use Rattle.capture3.specs.declared.container.position.Position.{Position}
 use Rattle.capture3.specs.declared.container.position.Spot.{Spot}
@@ -233,6 +234,11 @@ all_before_end bytes p t streams table model are s = by_spot p.spot refl
 
 -- ---- the reader
 
+failed_stage : (stage : Stage) (error : Error) → failure_in stage ≡ Some error → stage ≡ Failed error
+failed_stage Reading error is = absurd (cc)
+failed_stage Over error is = absurd (cc)
+failed_stage (Failed other) error is = let same : other ≡ error = cc in ap (λ (e : Error). Failed e) same
+
 module _ {R S H : Type 0} {builds : BuildHasher.Ghosts S H} {hashes : Hasher.Ghosts H} (told : R → Told) where
   pub reading_of : (e : Entries R S H builds hashes) (given : List ℕ) (handed : List Entry) → e.stage ≡ Reading → StandsFor told e given handed → IsReading e given handed
   reading_of e given handed is s = by_stage e.stage is s.here
@@ -422,11 +428,11 @@ module _ {R S H : Type 0} {builds : BuildHasher.Ghosts S H} {hashes : Hasher.Gho
   pub ended_on : {V : Type 0} (stands : V → List Item → Type 0) (v : V) (new : Entries R S H builds hashes) (given : List ℕ) (handed : List Entry) → StandsFor told new given (handed ++ End ∷ []) → HandsOutOrGoesOn told stands new v v given handed (Ok (Some kinds.End))
   ended_on stands v new given handed s = (End, refl, untold stands v, s)
 
-  abbrev pub Goes : {V : Type 0} → (V → List Item → Type 0) → Entries R S H builds hashes → Entries R S H builds hashes → (was now : V) → Result (Option Kind) Error → Type 0
+  abbrev pub Goes : {V : Type 0} → (V → List Item → Type 0) → Entries R S H builds hashes → Entries R S H builds hashes → (was now : V) → Result (Option Kind) Noted → Type 0
   Goes stands mid new was now result = (given : List ℕ) (handed : List Entry) → StandsFor told mid given handed → HandsOutOrGoesOn told stands new was now given handed result
 
   -- a read, and then the block is judged
-  pub turned : {V : Type 0} (stands : V → List Item → Type 0) (was now : V) (old mid new : Entries R S H builds hashes) (given : List ℕ) (handed : List Entry) (result : Result (Option Kind) Error) → HasRead told old mid given handed → Goes stands mid new was now result
+  pub turned : {V : Type 0} (stands : V → List Item → Type 0) (was now : V) (old mid new : Entries R S H builds hashes) (given : List ℕ) (handed : List Entry) (result : Result (Option Kind) Noted) → HasRead told old mid given handed → Goes stands mid new was now result
       → new.source.now ≡ mid.source.now → Turns told stands old new was now given handed result
   turned stands was now old mid new given handed result read goes same = record {
     more = read.more;
@@ -434,7 +440,7 @@ module _ {R S H : Type 0} {builds : BuildHasher.Ghosts S H} {hashes : Hasher.Gho
     goes_on = goes (given ++ read.more) handed read.stands;
   }
 
-  pub turned_more : {V : Type 0} (stands : V → List Item → Type 0) (was now : V) (old mid new : Entries R S H builds hashes) (given : List ℕ) (handed : List Entry) (result : Result (Option Kind) Error) → HasRead told old mid given handed
+  pub turned_more : {V : Type 0} (stands : V → List Item → Type 0) (was now : V) (old mid new : Entries R S H builds hashes) (given : List ℕ) (handed : List Entry) (result : Result (Option Kind) Noted) → HasRead told old mid given handed
       → ((given : List ℕ) (handed : List Entry) → StandsFor told mid given handed → Turns told stands mid new was now given handed result) → Turns told stands old new was now given handed result
   turned_more stands was now old mid new given handed result read turns =
       let t = turns (given ++ read.more) handed read.stands in
@@ -444,14 +450,14 @@ module _ {R S H : Type 0} {builds : BuildHasher.Ghosts S H} {hashes : Hasher.Gho
         goes_on = subst (λ (b : List ℕ). HandsOutOrGoesOn told stands new was now b handed result) (append_assoc given read.more t.more) t.goes_on;
       }
 
-  pub read_more : {V : Type 0} (stands : V → List Item → Type 0) (was now : V) (old mid new : Entries R S H builds hashes) (given : List ℕ) (handed : List Entry) (result : Result (Option Kind) Error) → result ≡ Ok None → HasRead told old mid given handed
+  pub read_more : {V : Type 0} (stands : V → List Item → Type 0) (was now : V) (old mid new : Entries R S H builds hashes) (given : List ℕ) (handed : List Entry) (result : Result (Option Kind) Noted) → result ≡ Ok None → HasRead told old mid given handed
       → ((given : List ℕ) (handed : List Entry) → StandsFor told mid given handed → Turns told stands mid new was now given handed result) → HasRead told old new given handed
   read_more stands was now old mid new given handed result is read turns =
-      let t = subst (λ (r : Result (Option Kind) Error). Turns told stands old new was now given handed r) is (turned_more stands was now old mid new given handed result read turns) in
+      let t = subst (λ (r : Result (Option Kind) Noted). Turns told stands old new was now given handed r) is (turned_more stands was now old mid new given handed result read turns) in
       record { more = t.more; consumed = t.consumed; stands = t.goes_on }
 
   -- no capture is so long
-  pub too_long : {V : Type 0} (stands : V → List Item → Type 0) (was now : V) (old mid new : Entries R S H builds hashes) (given : List ℕ) (handed : List Entry) (result : Result (Option Kind) Error) → HasRead told old mid given handed → mid.stage ≡ Reading
+  pub too_long : {V : Type 0} (stands : V → List Item → Type 0) (was now : V) (old mid new : Entries R S H builds hashes) (given : List ℕ) (handed : List Entry) (result : Result (Option Kind) Noted) → HasRead told old mid given handed → mid.stage ≡ Reading
       → most_bytes Two + 1 < mid.judged → Turns told stands old new was now given handed result
   too_long stands was now old mid new given handed result read is far =
       let r = reading_of mid (given ++ read.more) handed is read.stands in
@@ -462,15 +468,17 @@ module _ {R S H : Type 0} {builds : BuildHasher.Ghosts S H} {hashes : Hasher.Gho
   met_by : (e : Entries R S H builds hashes) (error : Error) (given : List ℕ) (handed : List Entry) → e.stage ≡ Failed error → StandsFor told e given handed → IsMetBy error (told e.source.now) given handed
   met_by e error given handed is s = subst (λ (stage : Stage). StandsIn stage (told e.source.now) e given handed) is s.here
 
-  hands_out : {V : Type 0} (stands : V → List Item → Type 0) (was now : V) (e : Entries R S H builds hashes) (given : List ℕ) (handed : List Entry) (result : Result (Option Kind) Error) → IfOk result (λ next. IsSome next) → OnOk result (failure_of e ≡ None)
-      → IfErr result (λ error. e.stage ≡ Failed error) → HandsOutOrGoesOn told stands e was now given handed result → HandsOut told stands e was now given handed result
-  hands_out stands was now e given handed (Ok (Some kind)) some goes fails (entry, is, adds, s) = (entry, is, stands_first e given (handed ++ entry ∷ []) goes s, adds, s)
-  hands_out stands was now e given handed (Ok None) some goes fails h = absurd (cc)
-  hands_out stands was now e given handed (Err error) some goes fails h = (met_by e error given handed fails h, h)
+  pub answers_kind : {V : Type 0} (stands : V → List Item → Type 0) (was now : V) (old new : Entries R S H builds hashes) (given : List ℕ) (handed : List Entry) (next : Option Kind) → IsSome next → failure_of new ≡ None
+      → Turns told stands old new was now given handed (Ok next) → HandsOutGiven told stands old new was now given handed (Ok next)
+  answers_kind stands was now old new given handed None some goes t = absurd (cc)
+  answers_kind stands was now old new given handed (Some kind) some goes t =
+      let (entry, is, adds, s) = t.goes_on in
+      record { more = t.more; consumed = t.consumed; hands_out = (entry, is, stands_first new (given ++ t.more) (handed ++ entry ∷ []) goes s, adds, s) }
 
-  pub answers : {V : Type 0} (stands : V → List Item → Type 0) (was now : V) (old new : Entries R S H builds hashes) (given : List ℕ) (handed : List Entry) (result : Result (Option Kind) Error) → IfOk result (λ next. IsSome next) → OnOk result (failure_of new ≡ None)
-      → IfErr result (λ error. new.stage ≡ Failed error) → Turns told stands old new was now given handed result → HandsOutGiven told stands old new was now given handed result
-  answers stands was now old new given handed result some goes fails t = record { more = t.more; consumed = t.consumed; hands_out = hands_out stands was now new (given ++ t.more) handed result some goes fails t.goes_on }
+  pub answers_failure : {V : Type 0} (stands : V → List Item → Type 0) (was now : V) (old new : Entries R S H builds hashes) (given : List ℕ) (handed : List Entry) (noted : Noted) (error : Error) → failure_of new ≡ Some error
+      → Turns told stands old new was now given handed (Err noted) → HandsOutGiven told stands old new was now given handed (Err error)
+  answers_failure stands was now old new given handed noted error failed t =
+      record { more = t.more; consumed = t.consumed; hands_out = (met_by new error (given ++ t.more) handed (failed_stage new.stage error failed) t.goes_on, t.goes_on) }
 
   pub answers_none : {V : Type 0} (stands : V → List Item → Type 0) (v : V) (e : Entries R S H builds hashes) (given : List ℕ) (handed : List Entry) → e.stage ≡ Over → StandsFor told e given handed → HandsOutGiven told stands e e v v given handed (Ok None)
   answers_none stands v e given handed is s =
@@ -490,11 +498,14 @@ module _ {R S H : Type 0} {builds : BuildHasher.Ghosts S H} {hashes : Hasher.Gho
 
 -- ---- no device failed
 
-pub not_read : (error : Error) → IsOfBytes error → error ≢ errors.Read
+not_read : (error : Error) → IsOfBytes error → error ≢ errors.Read
 not_read (errors.Refused fault) h = λ e. cc
 not_read errors.Read h = absurd h
 not_read errors.Write h = absurd h
 not_read errors.Memory h = λ e. cc
+
+pub failed_not_read : (error : Error) → IsOfBytes error → Some error ≢ Some errors.Read
+failed_not_read error h = λ e. not_read error h cc
 
 pub not_write : (error : Error) → IsOfBytes error → error ≢ errors.Write
 not_write (errors.Refused fault) h = λ e. cc

@@ -1,4 +1,4 @@
-use Rattle.std.proofs.Common.{Err, Option, arith, ap, subst, ◌≡◌, ◌∙◌, ◌++◌, ◌-◌, [], ◌∷◌, take, take_all, drop, length, length-take, length-drop, refl}
+use Rattle.std.proofs.Common.{Err, ℕ, Option, arith, ap, subst, ◌≡◌, ◌∙◌, ◌++◌, ◌-◌, [], ◌∷◌, take, take_all, drop, length, length-take, length-drop, refl}
 use Rattle.capture3.specs.Entry.{End}
 use Rattle.capture3.specs.declared.reader.entry.Kind.{Kind}
 use Rattle.capture3.specs.machinery.EntryParser.{entry_cost, SpellsLast}
@@ -7,22 +7,22 @@ use Rattle.capture3.proofs.Lemmas.Reader.PassedOn.{error_is}
 use Rattle.capture3.proofs.Lemmas.Reader.WholeFiles.{begun_is, cut_at, first_fault, judged_all, kept_snoc, keeps_more, keeps_on, not_recalling, typed_at}
 use Rattle.capture3.proofs.reader.whole.parse.Goals as goal
 
-pub loop-taken-preserved-in-Continue-branch-3 : goal.loop-taken-preserved-in-Continue-branch-3
-loop-taken-preserved-in-Continue-branch-3 c =
+pub loop-taken-preserved-in-Continue-branch-2 : goal.loop-taken-preserved-in-Continue-branch-2
+loop-taken-preserved-in-Continue-branch-2 c =
     let invariant = c.loop-taken.invariant in
     let cost = ap entry_cost c.in-Some.is in
     let left = length-drop c.loop-taken.taken c.args.bytes.now in
     let piece = length-take (length c.args.bytes.now - c.loop-taken.taken) (drop c.loop-taken.taken c.args.bytes.now) in
     record {
-      within = omega (arith, c.in_ok-count.ensures.within, piece, left, invariant.within);
-      sound = c.in_ok-count.ensures.sound;
-      stored = c.in_ok-count.ensures.stored;
-      ready = c.in_ok-count.ensures.ready;
-      room = omega (arith, invariant.room, c.in_ok-count.ensures.room, cost, c.in_ok-push.ensures.len);
+      within = omega (arith, c.in-Ok.ensures.within, piece, left, invariant.within);
+      sound = c.in-Ok.ensures.sound;
+      stored = c.in-Ok.ensures.stored;
+      ready = c.in-Ok.ensures.ready;
+      room = omega (arith, invariant.room, c.in-Ok.ensures.room, cost, c.in_ok-push-in-Ok.ensures.len);
       machine =
-          rw c.in_ok-push.ensures.items
-          (keeps_more _ _ _ _ c.args.bytes.now c.loop-taken.taken c.in_ok-count.count _ c.loop-taken.entries.items invariant.machine.0 _ _ _ c.in-Some.is
-          (c.in_ok-count.ensures.machine (take c.loop-taken.taken c.args.bytes.now) invariant.machine.0 invariant.machine.1) (λ entry h. c.in_ok-entry.ensures.kept entry (c.lend.ensures.lent entry h)) invariant.machine.2);
+          rw c.in_ok-push-in-Ok.ensures.items
+          (keeps_more _ _ _ _ c.args.bytes.now c.loop-taken.taken c.in-Ok.count _ c.loop-taken.entries.items invariant.machine.0 _ _ _ c.in-Some.is
+          (c.in-Ok.ensures.machine (take c.loop-taken.taken c.args.bytes.now) invariant.machine.0 invariant.machine.1) (λ entry h. c.in_ok-entry-in-Ok.ensures.kept entry (c.lend.ensures.lent entry h)) invariant.machine.2);
     }
 
 pub loop-taken-preserved : goal.loop-taken-preserved
@@ -32,20 +32,20 @@ loop-taken-preserved c =
     let left = length-drop c.loop-taken.taken c.args.bytes.now in
     let piece = length-take (length c.args.bytes.now - c.loop-taken.taken) (drop c.loop-taken.taken c.args.bytes.now) in
     record {
-      within = omega (arith, c.in_ok-count.ensures.within, piece, left, invariant.within);
-      sound = c.in_ok-count.ensures.sound;
-      stored = c.in_ok-count.ensures.stored;
-      ready = c.in_ok-count.ensures.ready;
-      room = omega (arith, invariant.room, c.in_ok-count.ensures.room, cost);
+      within = omega (arith, c.in-Ok.ensures.within, piece, left, invariant.within);
+      sound = c.in-Ok.ensures.sound;
+      stored = c.in-Ok.ensures.stored;
+      ready = c.in-Ok.ensures.ready;
+      room = omega (arith, invariant.room, c.in-Ok.ensures.room, cost);
       machine =
-          keeps_on _ _ _ _ c.args.bytes.now c.loop-taken.taken c.in_ok-count.count _ c.loop-taken.entries.items invariant.machine.0 _ c.in_default.is
-          (c.in_ok-count.ensures.machine (take c.loop-taken.taken c.args.bytes.now) invariant.machine.0 invariant.machine.1) invariant.machine.2;
+          keeps_on _ _ _ _ c.args.bytes.now c.loop-taken.taken c.in-Ok.count _ c.loop-taken.entries.items invariant.machine.0 _ c.in_default.is
+          (c.in-Ok.ensures.machine (take c.loop-taken.taken c.args.bytes.now) invariant.machine.0 invariant.machine.1) invariant.machine.2;
     }
 
-pub returns-in_err-count-clause-fault : goal.returns-in_err-count-clause-fault
-returns-in_err-count-clause-fault c =
-    first_fault c.from_residual.result c.args.bytes.now c.loop-taken.taken c.loop-taken.invariant.machine.0 c.in_err-count.field-0.0 (error_is _ _ c.from_residual.ensures) (λ i. omega (arith, c.type_inv.bytes i))
-    (c.in_err-count.ensures.fault (take c.loop-taken.taken c.args.bytes.now) c.loop-taken.invariant.machine.0 c.loop-taken.invariant.machine.1)
+pub returns-in-Err-clause-fault : goal.returns-in-Err-clause-fault
+returns-in-Err-clause-fault c =
+    first_fault {X = ℕ} (Err c.next.new.self.error) c.args.bytes.now c.loop-taken.taken c.loop-taken.invariant.machine.0 c.next.new.self.error refl (λ i. omega (arith, c.type_inv.bytes i))
+    (c.in-Err.ensures.fault (take c.loop-taken.taken c.args.bytes.now) c.loop-taken.invariant.machine.0 c.loop-taken.invariant.machine.1)
 
 pub returns-clause-entries : goal.returns-clause-entries
 returns-clause-entries c =
@@ -53,7 +53,7 @@ returns-clause-entries c =
     let all : take c.loop-taken.taken c.args.bytes.now ≡ c.args.bytes.now = take_all c.loop-taken.taken c.args.bytes.now (omega (arith, c.if-taken-bytes.false)) in (
       invariant.machine.0 ++ End ∷ [],
       typed_at c.args.bytes.now _ _ _ _ invariant.machine.0 (λ i. omega (arith, c.type_inv.bytes i)) (judged_all c.loop-taken.parser.container _ _ _ _ all (not_recalling _ _ c.is_recalling.ensures c.if-is_recalling.false) invariant.machine.1) c.in_ok-end.ensures.ok,
-      rw c.in_ok-push-2.ensures.items (kept_snoc c.loop-taken.entries.items invariant.machine.0 _ End invariant.machine.2 refl),
+      rw c.in_ok-push.ensures.items (kept_snoc c.loop-taken.entries.items invariant.machine.0 _ End invariant.machine.2 refl),
     )
 
 pub returns-clause-connections : goal.returns-clause-connections
@@ -73,4 +73,4 @@ returns-in_err-end-clause-fault c =
 
 pub lend-requires : goal.lend-requires
 lend-requires c =
-    record { spells = subst (λ (came : Option Kind). ∥ SpellsLast came c.next.new.self.container.joiner.taking ∥₁) c.in-Some.is c.in_ok-count.ensures.spells }
+    record { spells = subst (λ (came : Option Kind). ∥ SpellsLast came c.next.new.self.container.joiner.taking ∥₁) c.in-Some.is c.in-Ok.ensures.spells }

@@ -1,6 +1,4 @@
-use Rattle.std.proofs.Common.{◌≡◌, ◌≤◌, refl, subst, arith}
-use Rattle.capture3.specs.machinery.Position.{StoredAt}
-use Rattle.capture3.specs.SidedChunks.{size}
+use Rattle.std.proofs.Common.{◌≡◌, refl}
 use Rattle.capture3.proofs.container.position.Position.after_side.Goals as goal
 
 pub returns-in-0-clause-machine : goal.returns-in-0-clause-machine

@@ -1,6 +1,6 @@
 use Rattle.std.proofs.Common.{ap, arith, refl, subst, List, ℕ, ◌-◌, ◌+◌, ◌++◌, ◌≤◌, take, drop, slice_range, length, length-take}
 use Rattle.capture3.specs.machinery.EntryParser.{FailsAt, GoesTo}
-use Rattle.capture3.proofs.Lemmas.Reader.EntriesLemmas.{failed_not_write, judged_failed, judged_on, not_read, ready_joiner, sound_position, stored_container}
+use Rattle.capture3.proofs.Lemmas.Reader.EntriesLemmas.{failed_not_read, failed_not_write, judged_failed, judged_on, ready_joiner, sound_position, stored_container}
 use Rattle.capture3.proofs.reader.entries.Entries.judge.Goals as goal
 
 pub next-requires-clause-sound : goal.next-requires-clause-sound
@@ -13,7 +13,7 @@ pub next-requires-clause-ready : goal.next-requires-clause-ready
 next-requires-clause-ready g c = ready_joiner c.args.self.now.parser.container.cursor _ (c.args.self.now.ready c.requires.reading)
 
 pub invariant_of-self-in-Err-clause-never_writes : goal.invariant_of-self-in-Err-clause-never_writes
-invariant_of-self-in-Err-clause-never_writes g c = failed_not_write c.in-Err.error c.in-Err.ensures.device
+invariant_of-self-in-Err-clause-never_writes g c = failed_not_write c.next.new.self.error c.in-Err.ensures.device
 
 pub returns-in-Ok-clause-goes_on : goal.returns-in-Ok-clause-goes_on
 returns-in-Ok-clause-goes_on g c given handed s =
@@ -27,8 +27,8 @@ returns-in-Ok-clause-goes_on g c given handed s =
 
 pub returns-in-Err-clause-goes_on : goal.returns-in-Err-clause-goes_on
 returns-in-Err-clause-goes_on g c given handed s =
-    judged_failed g.R.Source.told c.args.self.now _ c.in-Err.error given handed c.requires.reading refl refl refl s
-    (λ judged at. subst (λ (items : List ℕ). FailsAt (judged ++ slice_range items c.args.self.now.start c.args.self.now.end) handed c.in-Err.error) c.deref.ensures.value (c.in-Err.ensures.fault judged handed at))
+    judged_failed g.R.Source.told c.args.self.now _ c.next.new.self.error given handed c.requires.reading refl refl refl s
+    (λ judged at. subst (λ (items : List ℕ). FailsAt (judged ++ slice_range items c.args.self.now.start c.args.self.now.end) handed c.next.new.self.error) c.deref.ensures.value (c.in-Err.ensures.fault judged handed at))
 
 pub returns-in-Err-clause-never_reads : goal.returns-in-Err-clause-never_reads
-returns-in-Err-clause-never_reads g c = not_read c.in-Err.error c.in-Err.ensures.device
+returns-in-Err-clause-never_reads g c = failed_not_read c.next.new.self.error c.in-Err.ensures.device

@@ -6,7 +6,7 @@ use Rattle.capture3.proofs.reader.entries.Entries.next_entry.Goals as goal
 pub returns-in-Err-clause-turns : goal.returns-in-Err-clause-turns
 returns-in-Err-clause-turns g c given handed s =
     turned_more g.R.Source.told g.V.Visit.stands c.args.visitor.now c.turn.new.visitor c.args.self.now c.loop-self.self c.turn.new.self given handed _ (c.loop-self.invariant.has_read given handed s)
-    (λ so_far out at. subst (λ v. Turns g.R.Source.told g.V.Visit.stands c.loop-self.self c.turn.new.self v c.turn.new.visitor so_far out (Err c.in-Err.error)) c.loop-self.invariant.untold
+    (λ so_far out at. subst (λ v. Turns g.R.Source.told g.V.Visit.stands c.loop-self.self c.turn.new.self v c.turn.new.visitor so_far out (Err c.in-Err.field-0)) c.loop-self.invariant.untold
     (subst (λ r. Turns g.R.Source.told g.V.Visit.stands c.loop-self.self c.turn.new.self c.loop-self.visitor c.turn.new.visitor so_far out r) c.in-Err.is (c.turn.ensures.turns so_far out at)))
 
 pub returns-in-Ok-Some-clause-turns : goal.returns-in-Ok-Some-clause-turns
