@@ -35,7 +35,7 @@ impl PlainField {
 ///
 /// - `Short` at the first field that is not whole.
 /// - `Memory` if the visitor fails.
-#[inline]
+#[inline(always)]
 #[tactic(auto, using(crate::proofs::Lemmas::Shapes::PlainLemmas::runs), unfolding(crate::specs::Scan::Stops))]
 pub fn scan_plain<V: Visit>(
     fields: &[PlainField],

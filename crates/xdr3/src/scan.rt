@@ -175,7 +175,7 @@ pub fn scan_var<V: Visit>(
 }
 
 /// Reads a string of at most `max` bytes and visits it (RFC 4506, section 4.11).
-#[inline]
+#[inline(always)]
 #[tactic(auto, unfolding(crate::specs::Scan::Scans, crate::specs::Scan::Stops, crate::specs::Reading::reading))]
 pub fn scan_text<V: Visit>(
     name: &'static str,

@@ -209,6 +209,7 @@ impl<S: BuildHasher + Drop> CountedCalls<S> {
 
     /// Adds a call if its xid is new. Returns `false` if an earlier call has the same xid but
     /// another procedure. Most calls go to the end of the line.
+    #[inline(always)]
     pub(crate) fn admit(&mut self, xid: u32, id: ProcId) -> Result<bool, AllocError>
         ensures agrees { IfOk result (λ is. is ≡ agrees (found
             (all_calls self.old.line.items self.old.others.entries) xid) id) }

@@ -8,7 +8,7 @@ impl Scan for Handle {
 
     ghost shape = { handle };
 
-    #[inline]
+    #[inline(always)]
     #[tactic(auto, unfolding(crate::specs::Shapes::handle, crate::specs::Names::names))]
     fn scan<V: Visit>(input: &mut Input, visitor: &mut V) -> Result<(), GetError> {
         scan_handle("fh", input, visitor)
