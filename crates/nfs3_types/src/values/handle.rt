@@ -1,6 +1,6 @@
 //! File handles (RFC 1813, section 2.5).
 
-ghost use Rattle.std.specs.Prelude.{◌≡◌, ◌≤◌, ◌<◌, ◌↔◌, [], ◌∷◌, IfSome, IsNone, IsTrue, Some, bytes_eq, length, refl};
+ghost use Rattle.std.specs.Prelude.{◌≡◌, ◌≤◌, ◌<◌, ◌↔◌, [], ◌∷◌, IfSome, IsNone, IsTrue, Some, bytes_eq, length, refl, take};
 ghost use Rattle.std.proofs.Common.{rules};
 ghost use Rattle.std.specs.Cmp.{on_equiv, on_per, on_po, on_total, partial_equiv_from_equiv};
 ghost use Rattle.std.specs.Cmp.Lexicographic.{nat_list_cmp_total, nat_list_eq_equiv, slice_cmp, texts_po, texts_ties};
@@ -41,10 +41,8 @@ impl Handle {
         requires { length bytes.now ≤ 64 }
         ensures { handle_bytes result ≡ bytes.now }
     {
-        let mut held = [0; 64];
-        held[..bytes.len()].copy_from_slice(bytes);
         Handle {
-            bytes: held,
+            bytes: padded(bytes),
             len: bytes.len() as u8,
         }
     }
@@ -63,6 +61,24 @@ impl Handle {
     {
         self.len == 0
     }
+}
+
+/// Returns the bytes, which are at most 64, with zeros behind. A copy of a known length takes few
+/// instructions, and two that overlap make any length.
+#[inline(always)]
+fn padded(bytes: &[u8]) -> [u8; 64]
+    requires { length bytes.now ≤ 64 }
+    ensures { take (length bytes.now) result ≡ bytes.now }
+{
+    let mut held = [0; 64];
+    let len = bytes.len();
+    if len < 32 {
+        held[..len].copy_from_slice(bytes);
+    } else {
+        held[..32].copy_from_slice(&bytes[..32]);
+        held[len - 32..len].copy_from_slice(&bytes[len - 32..]);
+    }
+    held
 }
 
 impl PartialEq for Handle {
