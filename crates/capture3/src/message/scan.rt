@@ -35,7 +35,20 @@ pub(crate) fn scan_call<V: Visit>(body: &[u8], visitor: &mut V) -> Result<Number
     let id = scan_call_head(&mut input, visitor)?;
     scan_arguments(id, &mut input, visitor)?;
     input.end()?;
-    Ok(NumberedCall { xid: start.xid, id })
+    // Written out, so that the words are not moved in two parts, of eight bytes and of four.
+    let ProcId {
+        prog,
+        vers,
+        proc_no,
+    } = id;
+    Ok(NumberedCall {
+        xid: start.xid,
+        id: ProcId {
+            prog,
+            vers,
+            proc_no,
+        },
+    })
 }
 
 /// Parses a record of the server's stream, after all calls of its connection, and passes its items

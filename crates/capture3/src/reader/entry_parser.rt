@@ -219,7 +219,19 @@ impl<C: CallTable + Drop> EntryParser<C> {
             Err(error) => return Err(self.note(Side::Client, error)),
         };
         match self.calls.admit(call.xid, call.id) {
-            Ok(true) => Ok(call.id),
+            Ok(true) => {
+                // Written out, so that the words are not moved in two parts, of eight bytes and of four.
+                let ProcId {
+                    prog,
+                    vers,
+                    proc_no,
+                } = call.id;
+                Ok(ProcId {
+                    prog,
+                    vers,
+                    proc_no,
+                })
+            }
             Ok(false) => Err(self.note(Side::Client, stop(0, Reason::XidConflict))),
             Err(_) => Err(self.note(Side::Client, GetError::Memory)),
         }
