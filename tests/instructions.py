@@ -23,14 +23,14 @@ import make  # noqa: E402
 
 # The most instructions, in millions.
 LIMITS = {
-    'check small': 7.4,
-    'canon small': 12.1,
-    'show small': 22.4,
-    'same small': 21.2,
-    'check mixed': 5.5,
-    'canon mixed': 13.1,
-    'show mixed': 20.8,
-    'same mixed': 13.4,
+    'check small': 7.1,
+    'canon small': 11.1,
+    'show small': 20.7,
+    'same small': 19.6,
+    'check mixed': 5.4,
+    'canon mixed': 12.9,
+    'show mixed': 17.9,
+    'same mixed': 12.9,
     'pack small': 0.39,
     'nfs3mask small': 19.8,
     'nfs3mask mixed': 17.8,
