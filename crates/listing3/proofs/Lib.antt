@@ -8,3 +8,4 @@ pub mod Texts
 pub mod LineTexts
 pub mod Telling
 pub mod Halves
+pub mod Runs

@@ -2,3 +2,4 @@
 pub mod LineWriter
 pub mod Digits
 pub mod Halves
+pub mod Fields

@@ -7,5 +7,6 @@ mod line_text;
 mod line_writer;
 mod listing;
 mod room;
+mod run;
 
 pub use listing::show;

@@ -5,9 +5,8 @@ ghost use Rattle.hex.specs.Hex.{encode_lower};
 ghost use Rattle.xdr3.specs.Visit.{body_limit};
 ghost use Rattle.listing3.specs.Listing.{opening, prefix, quoted};
 
-use crate::room::{
-    DIGITS, put_decimal, put_hex, put_name, put_number, put_quoted, put_run, put_short,
-};
+use crate::room::{DIGITS, put_decimal, put_hex, put_name, put_number, put_quoted, put_short};
+use crate::run::put_run;
 use std::alloc::{AllocError, Global};
 use std::marker::Model;
 use xdr3::room::{make_room, put_bytes};

@@ -4,15 +4,12 @@
 ghost use Rattle.std.specs.Prelude.{◌≡◌, ◌<◌, ◌≤◌, ◌+◌, ◌*◌, ◌/◌, ◌++◌, ◌∷◌, [], length, map, take, decimal, slice_index, vec_len, true, IfOk};
 ghost use Rattle.std.specs.List.{flat_map};
 ghost use Rattle.hex.specs.Hex.{encode_lower, encode_with, lower_digits};
-ghost use Rattle.xdr3.specs.Plain.{plain_item, run_items, run_size, width};
 ghost use Rattle.xdr3.specs.Visit.{body_limit};
-ghost use Rattle.listing3.specs.Listing.{is_plain, opening, quoted, quoted_byte, shown_item, shown_items};
+ghost use Rattle.listing3.specs.Listing.{is_plain, opening, quoted, quoted_byte};
 ghost use Rattle.listing3.specs.machinery.Digits.{eight_digits, four_digits, two_digits};
 ghost use Rattle.listing3.specs.machinery.Halves.{halves_in_order, AreHalves};
 
-use byteorder::{BigEndian, ByteOrder};
 use std::alloc::AllocError;
-use xdr3::PlainField;
 use xdr3::room::{make_room, put_bytes};
 
 /// How many digits a number has at most.
@@ -247,46 +244,6 @@ fn put_pair(room: &mut [u8], at: usize, n: u32) -> usize
     room[at] = PAIRS[from];
     room[at + 1] = PAIRS[from + 1];
     at + 2
-}
-
-/// Writes ` name=value` for each field of a run, and makes the buffer longer as it goes.
-#[inline(always)]
-pub(crate) fn put_run(
-    room: &mut Vec<u8>,
-    at: usize,
-    fields: &[PlainField],
-    bytes: &[u8],
-) -> Result<usize, AllocError>
-    requires at { at ≤ vec_len room.old }
-    requires size { length bytes.now ≡ run_size fields.now }
-    ensures within { IfOk result (λ end. end ≤ vec_len room.new) }
-    ensures ok { IfOk result (λ end. take end room.new.items
-        ≡ take at room.old.items ++ shown_items (run_items fields.now bytes.now)) }
-    ensures len { vec_len room.old ≤ vec_len room.new }
-{
-    let mut end = at;
-    let mut rest = bytes;
-    for field in fields {
-        let (name, n, width) = number_in(*field, rest);
-        make_room(room, end, name.len() + 2 + DIGITS)?;
-        end = put_number(room, end, name, n);
-        rest = &rest[width..];
-    }
-    Ok(end)
-}
-
-/// Returns a field's name, its value, and how many of the bytes it has.
-#[inline(always)]
-fn number_in(field: PlainField, bytes: &[u8]) -> (&'static str, u64, usize)
-    requires { width field ≤ length bytes.now }
-    ensures width { result.2 ≡ width field }
-    ensures shown { opening result.0.now ++ decimal result.1
-        ≡ shown_item (plain_item field bytes.now) }
-{
-    match field {
-        PlainField::Word(name) => (name, u64::from(BigEndian::read_u32(bytes)), 4),
-        PlainField::Hyper(name) => (name, BigEndian::read_u64(bytes), 8),
-    }
 }
 
 /// Writes ` name=` and a number in decimal.

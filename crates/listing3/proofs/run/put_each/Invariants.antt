@@ -2,7 +2,7 @@ use Rattle.std.proofs.Common.{◌≡◌, ◌≤◌, ◌++◌, length, take, drop
 use Rattle.std.specs.Prelude.{vec_len}
 use Rattle.xdr3.specs.Plain.{run_items, run_size}
 use Rattle.listing3.specs.Listing.{shown_items}
-use Rattle.listing3.proofs.room.put_run.Given as goal
+use Rattle.listing3.proofs.run.put_each.Given as goal
 
 abbrev pub invariant-loop-field : goal.invariant-loop-field
 invariant-loop-field l = record {
