@@ -122,7 +122,34 @@ impl LineText {
         Ok(())
     }
 
+    /// Appends ` name=` and bytes in hexadecimal. Most bodies of credentials and verifiers are empty.
+    #[inline(always)]
     pub(crate) fn append_hex(&mut self, name: &'static str, bytes: &[u8]) -> Result<(), AllocError>
+        requires { length bytes.now ≤ body_limit }
+        ensures ok { OnOk result
+            (self.new ≡ self.old ++ (opening name.now ++ encode_lower bytes.now)) }
+        ensures err { OnErr result (self.new ≡ self.old) }
+    {
+        if bytes.is_empty() {
+            self.append_name(name)
+        } else {
+            self.append_digits(name, bytes)
+        }
+    }
+
+    /// Appends ` name=`.
+    #[inline(always)]
+    fn append_name(&mut self, name: &'static str) -> Result<(), AllocError>
+        ensures ok { OnOk result (self.new ≡ self.old ++ opening name.now) }
+        ensures err { OnErr result (self.new ≡ self.old) }
+    {
+        make_room(&mut self.room, self.end, name.len() + 2)?;
+        self.end = put_name(&mut self.room, self.end, name);
+        Ok(())
+    }
+
+    #[inline(never)]
+    fn append_digits(&mut self, name: &'static str, bytes: &[u8]) -> Result<(), AllocError>
         requires { length bytes.now ≤ body_limit }
         ensures ok { OnOk result
             (self.new ≡ self.old ++ (opening name.now ++ encode_lower bytes.now)) }
@@ -183,6 +210,7 @@ impl Visit for LineText {
         self.append_hex(name, bytes)
     }
 
+    #[inline(always)]
     fn var(&mut self, name: &'static str, bytes: &[u8]) -> Result<(), AllocError> {
         self.append_hex(name, bytes)
     }

@@ -52,6 +52,7 @@ fn name_of_procedure(id: ProcId) -> &'static str
 }
 
 /// Writes all of one piece and then of the other.
+#[inline(always)]
 fn write_two<W: Sink>(sink: &mut W, first: &[u8], second: &[u8]) -> Result<(), DeviceFailed>
     ensures ok { OnOk result
         (Appends (W.written sink.old) (W.written sink.new) (first.now ++ second.now)) }
@@ -119,6 +120,7 @@ impl<S: BuildHasher + Drop> LineWriter<S> {
     }
 
     /// Composes the line of the message whose items were visited.
+    #[inline(always)]
     fn compose(
         &mut self,
         counts: &EntryCounts,
@@ -142,6 +144,7 @@ impl<S: BuildHasher + Drop> LineWriter<S> {
     }
 
     /// Writes the composed line to a sink.
+    #[inline(always)]
     fn hand_over<W: Sink>(&self, sink: &mut W) -> Result<(), Error>
         ensures ok { OnOk result
             (Appends (W.written sink.old) (W.written sink.new)
@@ -159,6 +162,7 @@ impl<S: BuildHasher + Drop> LineWriter<S> {
     }
 
     /// Writes the line of the message whose items were visited. Each message has an xid.
+    #[inline(always)]
     fn write_line<W: Sink>(
         &mut self,
         counts: &EntryCounts,
@@ -252,6 +256,7 @@ impl<S: BuildHasher + Drop> Visit for LineWriter<S> {
         self.items.write_verf(name, bytes)
     }
 
+    #[inline(always)]
     fn var(&mut self, name: &'static str, bytes: &[u8]) -> Result<(), AllocError> {
         self.items.var(name, bytes)
     }
