@@ -107,7 +107,7 @@ fn name_of(field: PlainField) -> &'static str
 
 /// Writes ` name=value` for a field with a short name. Returns the position after it, and how many of
 /// the bytes it has.
-#[inline(always)]
+#[inline]
 fn put_field(room: &mut [u8], at: usize, field: PlainField, bytes: &[u8]) -> (usize, usize)
     requires short { IsShort field }
     requires size { width field ≤ length bytes.now }
