@@ -87,7 +87,7 @@ pub fn same<A: Source, B: Source, S: BuildHasher + Drop>(
 
 /// Compares what two new readers return.
 fn compared<A: Source, B: Source, S: BuildHasher + Drop>(
-    mut comparison: Comparison<S>,
+    comparison: Comparison<S>,
     first: &mut Entries<'_, A, S>,
     second: &mut Entries<'_, B, S>,
 ) -> Result<Verdict, SameError>
@@ -102,8 +102,29 @@ fn compared<A: Source, B: Source, S: BuildHasher + Drop>(
     ensures reads { ReadsBoth A.failures B.failures first.old first.new
         second.old second.new result }
 {
-    let finding = comparison.find(first, second)?;
+    let finding = found(comparison, first, second)?;
     conclude(finding, first, second)
+}
+
+/// Takes entries alternately, until what ends the comparison, and lets the comparison go.
+fn found<A: Source, B: Source, S: BuildHasher + Drop>(
+    mut comparison: Comparison<S>,
+    first: &mut Entries<'_, A, S>,
+    second: &mut Entries<'_, B, S>,
+) -> Result<Finding, SameError>
+    requires going_first { failure_of first.old ≡ None }
+    requires going_second { failure_of second.old ≡ None }
+    requires room { steps_of comparison.progress + entries_left first.old ≤ most_entries }
+    ensures found { (start other_start : Told)
+        → IsComparing A.told B.told start other_start first.old second.old comparison
+        → FindsOut A.told B.told start other_start first.new second.new result }
+    ensures going_first { OnOk result (failure_of first.new ≡ None) }
+    ensures going_second { IfOk result
+        (λ finding. failure_of second.new ≡ refusal_in (Some finding)) }
+    ensures reads { ReadsBoth A.failures B.failures first.old first.new
+        second.old second.new result }
+{
+    comparison.find(first, second)
 }
 
 /// What ends a comparison, if the rest of both captures is well formed.

@@ -4,7 +4,7 @@ ghost use Rattle.std.specs.Prelude.{◌≡◌, ◌≤◌, ◌+◌, ◌*◌, ◌+
 ghost use Rattle.std.specs.List.{All};
 ghost use Rattle.xdr3.specs.Plain.{plain_item, run_items, run_size, width};
 ghost use Rattle.listing3.specs.Listing.{opening, shown_item, shown_items};
-ghost use Rattle.listing3.specs.machinery.Fields.{name_of, IsShort};
+ghost use Rattle.listing3.specs.machinery.Fields.{field_name, HasShortName};
 
 use crate::room::{DIGITS, put_number};
 use byteorder::{BigEndian, ByteOrder};
@@ -87,18 +87,18 @@ fn put_each(
 /// Returns whether no name of a run has more than `SHORT` bytes.
 #[inline(always)]
 fn are_short(fields: &[PlainField]) -> bool
-    ensures { IsTrue result → All IsShort fields.now }
+    ensures { IsTrue result → All HasShortName fields.now }
 {
     let mut short = true;
     for field in fields {
-        short &= name_of(*field).len() <= SHORT;
+        short &= field_name(*field).len() <= SHORT;
     }
     short
 }
 
 #[inline(always)]
-fn name_of(field: PlainField) -> &'static str
-    ensures { result.now ≡ name_of field }
+fn field_name(field: PlainField) -> &'static str
+    ensures { result.now ≡ field_name field }
 {
     match field {
         PlainField::Word(name) | PlainField::Hyper(name) => name,
@@ -109,7 +109,7 @@ fn name_of(field: PlainField) -> &'static str
 /// the bytes it has.
 #[inline]
 fn put_field(room: &mut [u8], at: usize, field: PlainField, bytes: &[u8]) -> (usize, usize)
-    requires short { IsShort field }
+    requires short { HasShortName field }
     requires size { width field ≤ length bytes.now }
     requires room { at + FIELD ≤ length room.old }
     ensures within { result.0 ≤ at + FIELD }
@@ -126,7 +126,7 @@ fn put_field(room: &mut [u8], at: usize, field: PlainField, bytes: &[u8]) -> (us
 #[inline(always)]
 fn put_one_field(room: &mut [u8], at: usize, fields: &[PlainField], bytes: &[u8]) -> (usize, usize)
     requires count { length fields.now ≡ 1 }
-    requires short { All IsShort fields.now }
+    requires short { All HasShortName fields.now }
     requires size { run_size fields.now ≤ length bytes.now }
     requires room { at + FIELD ≤ length room.old }
     ensures within { result.0 ≤ at + FIELD }
@@ -143,7 +143,7 @@ fn put_one_field(room: &mut [u8], at: usize, fields: &[PlainField], bytes: &[u8]
 #[inline(always)]
 fn put_two_fields(room: &mut [u8], at: usize, fields: &[PlainField], bytes: &[u8]) -> (usize, usize)
     requires count { length fields.now ≡ 2 }
-    requires short { All IsShort fields.now }
+    requires short { All HasShortName fields.now }
     requires size { run_size fields.now ≤ length bytes.now }
     requires room { at + 2 * FIELD ≤ length room.old }
     ensures within { result.0 ≤ at + 2 * FIELD }
@@ -167,7 +167,7 @@ fn put_three_fields(
     bytes: &[u8],
 ) -> (usize, usize)
     requires count { length fields.now ≡ 3 }
-    requires short { All IsShort fields.now }
+    requires short { All HasShortName fields.now }
     requires size { run_size fields.now ≤ length bytes.now }
     requires room { at + 3 * FIELD ≤ length room.old }
     ensures within { result.0 ≤ at + 3 * FIELD }
@@ -191,7 +191,7 @@ fn put_four_fields(
     bytes: &[u8],
 ) -> (usize, usize)
     requires count { length fields.now ≡ 4 }
-    requires short { All IsShort fields.now }
+    requires short { All HasShortName fields.now }
     requires size { run_size fields.now ≤ length bytes.now }
     requires room { at + 4 * FIELD ≤ length room.old }
     ensures within { result.0 ≤ at + 4 * FIELD }
@@ -215,7 +215,7 @@ fn put_five_fields(
     bytes: &[u8],
 ) -> (usize, usize)
     requires count { length fields.now ≡ 5 }
-    requires short { All IsShort fields.now }
+    requires short { All HasShortName fields.now }
     requires size { run_size fields.now ≤ length bytes.now }
     requires room { at + 5 * FIELD ≤ length room.old }
     ensures within { result.0 ≤ at + 5 * FIELD }
@@ -239,7 +239,7 @@ fn put_eight_fields(
     bytes: &[u8],
 ) -> (usize, usize)
     requires count { length fields.now ≡ 8 }
-    requires short { All IsShort fields.now }
+    requires short { All HasShortName fields.now }
     requires size { run_size fields.now ≤ length bytes.now }
     requires room { at + 8 * FIELD ≤ length room.old }
     ensures within { result.0 ≤ at + 8 * FIELD }
@@ -263,7 +263,7 @@ fn put_sixteen_fields(
     bytes: &[u8],
 ) -> (usize, usize)
     requires count { length fields.now ≡ 16 }
-    requires short { All IsShort fields.now }
+    requires short { All HasShortName fields.now }
     requires size { run_size fields.now ≤ length bytes.now }
     requires room { at + 16 * FIELD ≤ length room.old }
     ensures within { result.0 ≤ at + 16 * FIELD }
@@ -281,7 +281,7 @@ fn put_sixteen_fields(
 #[inline(always)]
 fn number_in(field: PlainField, bytes: &[u8]) -> (&'static str, u64, usize)
     requires { width field ≤ length bytes.now }
-    ensures name { result.0.now ≡ name_of field }
+    ensures name { result.0.now ≡ field_name field }
     ensures width { result.2 ≡ width field }
     ensures shown { opening result.0.now ++ decimal result.1
         ≡ shown_item (plain_item field bytes.now) }

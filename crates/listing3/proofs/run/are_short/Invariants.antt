@@ -1,7 +1,7 @@
 use Rattle.std.proofs.Common.{◌≡◌, true, take}
 use Rattle.std.specs.List.{All}
-use Rattle.listing3.specs.machinery.Fields.{IsShort}
+use Rattle.listing3.specs.machinery.Fields.{HasShortName}
 use Rattle.listing3.proofs.run.are_short.Given as goal
 
 abbrev pub invariant-loop-field : goal.invariant-loop-field
-invariant-loop-field l = l.short ≡ true → All IsShort (take l.field-index l.fields)
+invariant-loop-field l = l.short ≡ true → All HasShortName (take l.field-index l.fields)

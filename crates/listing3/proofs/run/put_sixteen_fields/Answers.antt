@@ -1,4 +1,4 @@
-use Rattle.std.proofs.Common.{◌-◌, ◌∙◌, ap₂, ◌+◌, length, take, drop}
+use Rattle.std.proofs.Common.{◌-◌, length, take, drop}
 use Rattle.std.proofs.lemmas.List.{take_rest}
 use Rattle.listing3.proofs.Runs.{cut_at, part_after}
 use Rattle.listing3.proofs.run.put_sixteen_fields.Goals as goal

@@ -1,4 +1,4 @@
-use Rattle.std.proofs.Common.{Ok, Err, [], subst, sym}
+use Rattle.std.proofs.Common.{Ok, Err, subst}
 use Rattle.capture3.specs.Entries.{source_of}
 use Rattle.capture3.specs.Entry.{items_of}
 use Rattle.canon3.specs.machinery.MessageWriter.{WriterStands}
