@@ -1,0 +1,212 @@
+#!/usr/bin/env python3
+"""Tries the must-fail edits of crates, many in one check.
+
+    python3 dev/edits.py [CRATE ..]
+
+runs at the top of the repository, once the libraries below the crates are built (`rt lib`).
+
+An edit is one bug, in one function. A check goes on after a function that it refuses, and says of each function why it is
+not proved. Proofs read the contracts of the functions that they call, and not their bodies, so a bug in a body changes the
+verdict on its own function alone. Edits of different functions are therefore tried in one check, a round, and each counts as
+refused only if its own function is refused for a reason of its own. All others are tried alone, and then the verdict is that
+of `rt must-fail`: an edit that changes nothing or does not compile, one of a contract, a type, a definition or a proof, and
+one that no round refuses. The last line is 'N passed, M failed'.
+"""
+import hashlib
+import json
+import os
+import re
+import sys
+from collections.abc import Iterator
+from concurrent.futures import ThreadPoolExecutor
+from pathlib import Path
+from typing import NamedTuple
+
+sys.path.insert(0, str(Path(__file__).resolve().parent))
+from bodies import function_at  # noqa: E402
+import kit  # noqa: E402
+
+# A round begins with a load of the crate, which takes 10 to 20 seconds. Smaller rounds use processors that are idle.
+MOST = 12
+PAIR = re.compile(r'^(file|old|new): ?(.*)$', re.MULTILINE)
+LINE = re.compile(r'^fn (\S+): (.*)$', re.MULTILINE)
+OF_CALLEES = re.compile(r'it (calls|passes the block) .*?, which (is|are) not proved')
+
+
+class Round(NamedTuple):
+    """Edits of one crate that are tried in one check, each with the functions that it changes."""
+    texts: dict[str, str]  # the files that are changed, with all edits of the round
+    functions: dict[Path, set[str]]
+
+
+class Outcome(NamedTuple):
+    """What became of an edit."""
+    is_refused: bool
+    said: str
+
+
+def changes(edit: Path) -> Iterator[tuple[str, str, str]]:
+    """Yields the file, the old text and the new text of each change of an edit."""
+    path = old = ''
+    for key, words in PAIR.findall(edit.read_text()):
+        if key == 'file':
+            path = words.strip()
+        elif key == 'old':
+            old = words
+        else:
+            yield path, old, words
+
+
+def functions_of(edit: Path, crate: kit.Crate) -> set[str]:
+    """Returns the functions in whose bodies an edit is. None at all stands for an edit that is tried alone."""
+    found: set[str] = set()
+    texts: dict[str, str] = {}
+    for path, old, new in changes(edit):
+        text = texts.get(path) or (Path(crate.folder) / path).read_text()
+        first = text.index(old) + len(os.path.commonprefix((old, new)))
+        name = function_at(path, text, first) if path.startswith('src/') else None
+        if name is None:
+            return set()
+        found.add(name)
+        texts[path] = text.replace(old, new)
+    return found
+
+
+def with_edit(texts: dict[str, str], edit: Path, crate: kit.Crate) -> dict[str, str] | None:
+    """Returns texts with an edit besides, or None if another edit has changed a line that it names."""
+    made = dict(texts)
+    for path, old, new in changes(edit):
+        text = made.get(path) or (Path(crate.folder) / path).read_text()
+        if text.count(old) != 1:
+            return None
+        made[path] = text.replace(old, new)
+    return made
+
+
+def rounds_of(crate: kit.Crate, edits: list[Path]) -> tuple[list[Round], list[Path]]:
+    """Returns rounds in which no two edits change one function, and the edits that are tried alone."""
+    rounds: list[Round] = []
+    alone: list[Path] = []
+    for edit in edits:
+        names = functions_of(edit, crate) if kit.texts_with(edit, crate)[0] else set()
+        if not names:
+            alone.append(edit)
+            continue
+        for number, (texts, functions) in enumerate(rounds):
+            made = with_edit(texts, edit, crate)
+            if len(functions) < MOST and made and not names & set().union(*functions.values()):
+                rounds[number] = Round(made, {**functions, edit: names})
+                break
+        else:
+            rounds.append(Round(with_edit({}, edit, crate) or {}, {edit: names}))
+    return rounds, alone
+
+
+def own_reasons(said: str) -> dict[str, str]:
+    """Returns the functions that a check refuses for reasons of their own, each with them."""
+    found = {}
+    for name, why in LINE.findall(said):
+        own = OF_CALLEES.sub('', why).removeprefix('no proof:').strip(' ;,')
+        if own and not why.startswith(('proved', 'could not tell', 'assumed')):
+            found[name] = own
+    return found
+
+
+def named(functions: set[str], reasons: dict[str, str]) -> str:
+    """Returns the reason for which one of some functions is refused, or nothing. A check prints whole paths."""
+    return next((why for name, why in reasons.items() for function in functions if ('::' + name).endswith('::' + function)), '')
+
+
+def tried(crate: kit.Crate, one: Round) -> dict[Path, Outcome]:
+    """Tries a round, and alone what it does not refuse."""
+    functions = sorted(set().union(*one.functions.values()))
+    reasons = own_reasons(kit.check(crate, one.texts, functions))
+    found = {}
+    for edit, names in one.functions.items():
+        why = named(names, reasons)
+        found[edit] = Outcome(True, f'refused in {", ".join(sorted(names))}: {why[:120]}') if why else tried_alone(crate, edit)
+    return found
+
+
+def tried_alone(crate: kit.Crate, edit: Path) -> Outcome:
+    """Tries an edit as `rt must-fail` does."""
+    return Outcome(*kit.refused_alone(crate, edit))
+
+
+class Tries:
+    """The tries of a crate's edits. What was refused is kept by a checksum of all that it rests on."""
+
+    def __init__(self, crate: kit.Crate, edits: list[Path], is_anew: bool) -> None:
+        self.crate, self.is_anew = crate, is_anew
+        self.rounds, self.alone = rounds_of(crate, edits)
+
+    def __len__(self) -> int:
+        """Returns how many checks there are."""
+        return len(self.rounds) + len(self.alone)
+
+    def outcomes(self, number: int) -> dict[Path, Outcome]:
+        """Returns what became of the edits of one check, from an earlier run if it is kept."""
+        edits = list(self.rounds[number].functions) if number < len(self.rounds) else [self.alone[number - len(self.rounds)]]
+        place = self.place(edits)
+        if place.exists() and not self.is_anew:
+            said = json.loads(place.read_text())
+            return {edit: Outcome(True, said[edit.name]) for edit in edits}
+        found = tried(self.crate, self.rounds[number]) if number < len(self.rounds) else {edit: tried_alone(self.crate, edit) for edit in edits}
+        if all(outcome.is_refused for outcome in found.values()):
+            keep(place, {edit.name: outcome.said for edit, outcome in found.items()})
+        return found
+
+    def place(self, edits: list[Path]) -> Path:
+        """Returns where a refusal of these edits is kept."""
+        own = Path(__file__).resolve().parent
+        read = [own / name for name in ('edits.py', 'bodies.py', 'kit.py')] + edits
+        made_of = [kit.sum_of(self.crate), *[edit.name for edit in edits], *[file.read_bytes().hex() for file in read]]
+        return kept_at() / hashlib.sha256('\n'.join(made_of).encode()).hexdigest()
+
+
+def kept_at() -> Path:
+    """Returns the folder of what is kept."""
+    return Path(os.environ.get('XDG_CACHE_HOME') or Path.home() / '.cache') / 'nfs3canon/refused'
+
+
+def keep(place: Path, said: dict[str, str]) -> None:
+    """Writes what was said of edits, beside and then under its name."""
+    place.parent.mkdir(parents=True, exist_ok=True)
+    beside = place.with_suffix(f'.{os.getpid()}')
+    beside.write_text(json.dumps(said))
+    beside.replace(place)
+
+
+def told(crate: kit.Crate, outcomes: dict[Path, Outcome]) -> tuple[int, int]:
+    """Prints what became of edits. Returns how many were refused, and how many were not."""
+    for edit, outcome in outcomes.items():
+        label = '' if outcome.said.startswith('must-fail') else f'{crate.name}/{edit.name}: '
+        print(f'{label}{outcome.said}'.splitlines()[0], flush=True)
+    refused = sum(outcome.is_refused for outcome in outcomes.values())
+    return refused, len(outcomes) - refused
+
+
+def told_of_others(crate: kit.Crate, others: list[Path]) -> int:
+    """Prints the files of must-fail/ that are no edits. Returns how many there are."""
+    for other in others:
+        print(f'{crate.name}/{other.name}: no edit. An edit stands right in must-fail/, and its name ends in .edit')
+    return len(others)
+
+
+def main(names: list[str]) -> int:
+    crates = [crate for crate in kit.crates(Path.cwd()) if not names or crate.name in names]
+    passed = failed = 0
+    for crate in crates:
+        found, others = kit.edits(crate)
+        failed += told_of_others(crate, others)
+        tries = Tries(crate, found, is_anew=True)
+        with ThreadPoolExecutor(kit.processors()) as pool:
+            for outcomes in pool.map(tries.outcomes, range(len(tries))):
+                refused, missed = told(crate, outcomes)
+                passed, failed = passed + refused, failed + missed
+    print(f'{passed} passed, {failed} failed')
+    return int(failed > 0)
+
+
+if __name__ == '__main__':
+    sys.exit(main(sys.argv[1:]))

@@ -1,0 +1,240 @@
+#!/usr/bin/env python3
+"""The gate: proves all crates, tries all must-fail edits, and runs all tests.
+
+    python3 dev/gate.py [--anew] [--alone]
+
+Three things go on side by side:
+
+- `rt ci` over a copy of the crates that has no edits and not the crates that only test;
+- the tests of those crates by `rt try --test`, which builds them with checks and proves nothing;
+- the edits of each crate (dev/edits.py), once the libraries below it are proved.
+
+Once the programs are proved they are compared with those in dist/, and the tests of tests/ run on them.
+
+--anew takes nothing from earlier runs. --alone has `rt ci` try the tree as it is: it proves the crates that only test as
+well, and tries each edit in a check of its own. That takes about twice as long. The last line is 'N passed, M failed'.
+"""
+import argparse
+import os
+import re
+import shutil
+import subprocess
+import sys
+import tempfile
+import threading
+import time
+from collections.abc import Callable, Iterator
+from concurrent.futures import Future, ThreadPoolExecutor
+from pathlib import Path
+
+sys.path.insert(0, str(Path(__file__).resolve().parent))
+import edits  # noqa: E402
+import kit  # noqa: E402
+
+TOP = Path(__file__).resolve().parent.parent
+# Crates of tests, whose proofs say only that a test is safe and ends. memory_tests is proved, since tests/memory.py runs what is built.
+TRIED = ('message_tests', 'capture_tests', 'command_tests', 'mask_tests', 'program_tests')
+# What the tests of tests/ run, by crates.
+BUILT = {'nfs3canon': 'nfs3canon', 'nfs3mask': 'nfs3mask', 'memory_tests': 'memory_tests_tests'}
+TESTS = ('shipped', 'must_fail', 'run', 'captures', 'fuzz', 'failures', 'memory', 'hostile', 'large', 'tools', 'from_pcap', 'lossy',
+         'verdicts', 'compare', 'installing', 'instructions')
+PROVED = re.compile(r'^rt: (\w+) (?:proved$|is kept: )')
+COUNTS = re.compile(r'^(?:rt: )?(\d+) passed, (\d+) failed')
+TRIED_COUNTS = re.compile(r'^test result: .*?(\d+) passed; (\d+) failed', re.MULTILINE)
+SECONDS = 1.0  # how often a task that waits for memory looks again
+
+
+class Count:
+    """How much passed and failed so far. It is added to from several threads."""
+
+    def __init__(self) -> None:
+        self.passed = self.failed = 0
+        self.lock = threading.Lock()
+
+    def add(self, passed: int, failed: int) -> None:
+        with self.lock:
+            self.passed, self.failed = self.passed + passed, self.failed + failed
+
+
+class Board:
+    """Which crates are proved so far. Who waits for some learns also that no more will be."""
+
+    def __init__(self) -> None:
+        self.proved: set[str] = set()
+        self.is_over = False
+        self.changed = threading.Condition()
+
+    def note(self, name: str) -> None:
+        with self.changed:
+            self.proved.add(name)
+            self.changed.notify_all()
+
+    def end(self) -> None:
+        with self.changed:
+            self.is_over = True
+            self.changed.notify_all()
+
+    def has(self, names: set[str]) -> bool:
+        """Waits for crates. Returns whether they are proved."""
+        with self.changed:
+            self.changed.wait_for(lambda: self.is_over or names <= self.proved)
+            return names <= self.proved
+
+
+class Memory:
+    """The memory that tasks beside the proofs may take: one begins only if there is enough for it."""
+
+    def __init__(self) -> None:
+        self.lock = threading.Lock()
+        self.begun: list[float] = []
+
+    def wait(self) -> None:
+        """Waits until there is memory for one check more. One that just began does not have yet what it will take."""
+        while True:
+            with self.lock:
+                now = time.monotonic()
+                self.begun = [at for at in self.begun if now - at < 20]
+                if kit.free_memory() > kit.BYTES_OF_A_CHECK * (1 + len(self.begun)):
+                    self.begun.append(now)
+                    return
+            time.sleep(SECONDS)
+
+
+def say(text: str) -> None:
+    print(f'{time.strftime("%H:%M:%S")} {text}', flush=True)
+
+
+def copied(room: Path) -> Path:
+    """Copies the crates that are proved, without edits. `rt ci` wants the top of a repository."""
+    top = room / 'repository'
+    (top / '.git').mkdir(parents=True)
+    shutil.copy(TOP / 'HANDLES', top)
+    lines = (TOP / 'crates.txt').read_text().splitlines(keepends=True)
+    (top / 'crates.txt').write_text(''.join(line for line in lines if line.split(':')[0].split(' ')[0] not in TRIED))
+    shutil.copytree(TOP / 'crates', top / 'crates', ignore=shutil.ignore_patterns('must-fail', 'out', *TRIED))
+    return top
+
+
+def lines_of(words: list[str], folder: Path, environment: dict[str, str]) -> Iterator[str]:
+    """Runs a command, and yields the lines of both its outputs."""
+    with subprocess.Popen(words, cwd=folder, env=environment, stdin=subprocess.DEVNULL, stdout=subprocess.PIPE,
+                          stderr=subprocess.STDOUT, text=True, errors='replace') as process:
+        assert process.stdout
+        yield from process.stdout
+
+
+def counted(words: list[str], folder: Path, count: Count, look: Callable[[str], None] = lambda line: None) -> bool:
+    """Runs a command whose last line counts, prints its lines, and adds the count. Returns whether all passed."""
+    told = None
+    for line in lines_of(words, folder, dict(os.environ)):
+        print(line, end='', flush=True)
+        look(line)
+        told = COUNTS.match(line)
+    passed, failed = (int(told[1]), int(told[2])) if told else (0, 1)
+    count.add(passed, failed)
+    return failed == 0
+
+
+def tries_of_tests(name: str, count: Count, memory: Memory) -> None:
+    """Runs the tests of a crate that only tests, with checks and no proof."""
+    memory.wait()
+    said = ''.join(lines_of(['rt', 'try', name, '--test'], TOP / 'crates' / name, dict(os.environ)))
+    found = TRIED_COUNTS.search(said)
+    passed, failed = (int(found[1]), int(found[2])) if found else (0, 1)
+    if failed or not passed:
+        print(said, flush=True)
+    say(f'{name}: {passed} passed, {failed} failed, by rt try')
+    count.add(passed, failed or int(not passed))
+
+
+def tries_of_edits(tries: edits.Tries, number: int, board: Board, count: Count, memory: Memory) -> None:
+    """Tries edits of a crate that share a check, once the libraries below are proved."""
+    crate = tries.crate
+    if not board.has({below.name for below in crate.below()}):
+        print(f'{crate.name}: its edits are not tried, since a library below it is not proved', flush=True)
+        count.add(0, 1)
+        return
+    memory.wait()
+    count.add(*edits.told(crate, tries.outcomes(number)))
+
+
+def checks_of_edits(top: Path, is_anew: bool, count: Count) -> list[tuple[edits.Tries, int]]:
+    """Returns each check of edits that is to be made over the libraries of a copy, lowest crates first."""
+    copies = {crate.name: crate for crate in kit.crates(top)}
+    found = []
+    for crate in kit.crates(TOP):
+        own, others = kit.edits(crate)
+        count.add(0, edits.told_of_others(crate, others))
+        if own:
+            tries = edits.Tries(copies[crate.name], own, is_anew)
+            found += [(tries, number) for number in range(len(tries))]
+    return found
+
+
+def proved(top: Path, is_anew: bool, board: Board, count: Count) -> bool:
+    """Has `rt ci` prove the copy, and notes each crate that is proved. Returns whether all passed."""
+    def look(line: str) -> None:
+        found = PROVED.match(line)
+        if found:
+            board.note(found[1])
+            say(f'{found[1]} is proved')
+    try:
+        return counted(['rt', 'ci', *(['--anew'] if is_anew else [])], top, count, look)
+    finally:
+        board.end()
+
+
+def taken_back(top: Path) -> None:
+    """Gives the tree the programs that were built in the copy."""
+    for crate, name in BUILT.items():
+        out = TOP / 'crates' / crate / 'out'
+        out.mkdir(exist_ok=True)
+        beside = out / f'{name}.{os.getpid()}'
+        shutil.copy2(top / 'crates' / crate / 'out' / name, beside)
+        os.utime(beside)
+        beside.replace(out / name)
+
+
+def tested(count: Count) -> bool:
+    """Runs all tests of the built programs."""
+    return all([counted([sys.executable, f'tests/{name}.py'], TOP, count) for name in TESTS])
+
+
+def together(is_anew: bool, count: Count) -> bool:
+    """Proves, and beside it tries the edits and the tests of crates. Then tests the programs. Returns whether all was done."""
+    board, memory = Board(), Memory()
+    with tempfile.TemporaryDirectory(prefix='nfs3canon-gate') as room, \
+            ThreadPoolExecutor(kit.processors(), initializer=os.nice, initargs=(10,)) as pool:
+        top = copied(Path(room))
+        tasks: list[Future[None]] = [pool.submit(tries_of_tests, name, count, memory) for name in TRIED]
+        tasks += [pool.submit(tries_of_edits, tries, number, board, count, memory)
+                  for tries, number in checks_of_edits(top, is_anew, count)]
+        is_well = proved(top, is_anew, board, count)
+        if is_well:
+            taken_back(top)
+            is_well = tested(count)
+        for task in tasks:
+            task.result()
+    return is_well
+
+
+def alone(is_anew: bool, count: Count) -> bool:
+    """Has `rt ci` try the tree as it is, and tests the programs. Returns whether all was done."""
+    os.environ.setdefault('RT_JOBS', str(kit.processors()))
+    return counted(['rt', 'ci', *(['--anew'] if is_anew else [])], TOP, count) and tested(count)
+
+
+def main() -> int:
+    parser = argparse.ArgumentParser(description=__doc__, formatter_class=argparse.RawDescriptionHelpFormatter)
+    parser.add_argument('--anew', action='store_true', help='take nothing from earlier runs')
+    parser.add_argument('--alone', action='store_true', help='try each edit in a check of its own, as before a release')
+    asked = parser.parse_args()
+    count, start = Count(), time.monotonic()
+    (alone if asked.alone else together)(asked.anew, count)
+    say(f'the gate took {(time.monotonic() - start) / 60:.0f} minutes')
+    print(f'{count.passed} passed, {count.failed} failed')
+    return int(count.failed > 0 or not count.passed)
+
+
+if __name__ == '__main__':
+    sys.exit(main())
