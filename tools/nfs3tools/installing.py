@@ -18,7 +18,7 @@ from collections.abc import Iterator
 from pathlib import Path
 
 from .messages import parser_of
-from .programs import program_beside
+from .programs import made_programs, program_beside
 from .version import TOP, version
 
 PROGRAM = TOP / 'crates/nfs3canon/out/nfs3canon'
@@ -98,9 +98,13 @@ def release(folder: Path, program: Path) -> Path:
 
 def words_of(words: list[str], name: str, what: str, target: str, default: str) -> argparse.Namespace:
     parser = parser_of(what, name)
-    parser.add_argument('--program', type=Path, default=PROGRAM, help='the built nfs3canon; nfs3mask is looked for beside it')
+    parser.add_argument('--program', type=Path, help='nfs3canon, if it is not the one of this repository; nfs3mask is looked for beside it')
     parser.add_argument('target', nargs='?', type=Path, default=Path(default), metavar=target)
-    return parser.parse_args(words)
+    asked = parser.parse_args(words)
+    if asked.program is None:
+        made_programs(PROGRAMS)
+        asked.program = PROGRAM
+    return asked
 
 
 def main_of_install(words: list[str]) -> int:

@@ -48,6 +48,18 @@ def program_beside(program: str, name: str) -> str:
     raise Missing(f'{name} is missing')
 
 
+def made_programs(names: typing.Iterable[str]) -> None:
+    """Has the launchers make the programs of this repository that are not there: they unpack or build them.
+
+    Raises `Missing`.
+    """
+    for name in names:
+        # (without words a program prints its usage)
+        done = subprocess.run([TOP / name], stdin=subprocess.DEVNULL, stdout=subprocess.DEVNULL, stderr=subprocess.PIPE, check=False)
+        if not (TOP / f'crates/{name}/out/{name}').exists():
+            raise Missing(f'{name} cannot be made: ' + done.stderr.decode(errors='replace').strip().rpartition('\n')[2])
+
+
 def run_program(program: str, words: list[str], content: typing.Iterable[bytes] = ()) -> Answer:
     """Runs the program with the content as its standard input, which it may leave unread."""
     with tempfile.TemporaryFile() as out, tempfile.TemporaryFile() as error:
