@@ -12,6 +12,8 @@ import random
 import re
 import sys
 import tempfile
+import time
+from collections import Counter
 from collections.abc import Callable
 from html.parser import HTMLParser
 
@@ -23,6 +25,7 @@ sys.path[:0] = [str(TOP / 'tools'), str(TOP / 'examples')]
 import messages  # noqa: E402
 from messages import NFS, NFSACL, auth_sys, call, dirop, fattr, fh, hyper, ok, post_op_attr, success, wcc, word  # noqa: E402
 from nfs3tools.classes import CLASSES, Way, default_mask, mask_of, told  # noqa: E402
+from nfs3tools.comparing import Run, compare  # noqa: E402
 from nfs3tools.matching import aligned, increasing, matched  # noqa: E402
 
 Conversation = tuple[list[bytes], list[bytes]]
@@ -77,6 +80,21 @@ def elements_that_differ(place: Comparisons) -> None:
                ([(0, 0), (3, 2)], [(1, 1)], [(2, 4)], [], [3]))
     found = matched(keys('a1'), keys())
     place.want('nothing there', (found.equal, found.only_first, found.only_second), ([], [0], []))
+
+
+def retransmissions_are_linear(place: Comparisons) -> None:
+    """Two runs of a call that was sent 40,000 times and answered as often, one with another status, and with calls of its own."""
+    def listed(statuses: list[int], more: int) -> Run:
+        lines = [f'1 client {number} xid=7 NFSPROC3_GETATTR mtype=0 fh=6161' for number, _ in enumerate(statuses, 1)]
+        lines += [f'1 client {len(statuses) + number} xid={number + 7} NFSPROC3_ACCESS mtype=0 fh=6262' for number in range(1, more + 1)]
+        return Run('', lines + [f'1 server {number} xid=7 NFSPROC3_GETATTR mtype=1 status={status}'
+                                for number, status in enumerate(statuses, 1)], lambda _: [])
+    statuses = [5] * 40_000
+    begin = time.thread_time()
+    compared = compare(listed(statuses, 0), listed([*statuses[:-1], 13], 5_000), {})
+    place.want('seconds', time.thread_time() - begin < 40, True)
+    place.want('findings', Counter(finding.kind for finding in compared.findings), {'changed': 1, 'only': 5_000})
+    place.want('pairs', (compared.exchanges, len(compared.pairs)), (40_000, 45_000))
 
 
 # --- Masks ---
@@ -394,7 +412,7 @@ def refused_runs(place: Comparisons) -> None:
 
 
 TESTS: list[Callable[[Comparisons], None]] = [
-    sequences_brought_together, elements_that_differ, words_of_masks, ordinary_runs, changed_fields, statuses_that_differ, one_call_more,
+    sequences_brought_together, elements_that_differ, retransmissions_are_linear, words_of_masks, ordinary_runs, changed_fields, statuses_that_differ, one_call_more,
     other_orders, bound_values, zero_cookies, equal_numbers_of_two_classes, users_and_groups, directories, replies_of_one_call, files_by_their_paths,
     raw_messages, connections_of_one_run, random_traffic, example_recordings, pages, refused_runs]
 

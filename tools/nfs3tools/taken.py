@@ -301,6 +301,9 @@ def notes_of(recording: Recording, segments: Segments) -> list[str]:
     if segments.lying:
         notes.append(f'{count(segments.lying, "frame")} {plural(segments.lying, "has", "have")} headers that do not fit '
                      f'{plural(segments.lying, "its", "their")} length, and {plural(segments.lying, "is", "are")} passed over')
+    if segments.given_up:
+        notes.append(f'{count(segments.given_up, "datagram")} {plural(segments.given_up, "is", "are")} given up, of which more '
+                     f'fragments came than an eighth of {plural(segments.given_up, "its", "their")} bytes')
     for link, number in segments.links.items():
         notes.append(f'{count(number, "frame")} of the link type {link} {plural(number, "is", "are")} passed over')
     return notes
