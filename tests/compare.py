@@ -24,6 +24,7 @@ TOP = pathlib.Path(__file__).resolve().parent.parent
 sys.path[:0] = [str(TOP / 'tools'), str(TOP / 'examples')]
 import messages  # noqa: E402
 from messages import NFS, NFSACL, auth_sys, call, dirop, fattr, fh, hyper, ok, post_op_attr, success, wcc, word  # noqa: E402
+from packets import Talk, pcap  # noqa: E402
 from nfs3tools.classes import CLASSES, Way, default_mask, mask_of, told  # noqa: E402
 from nfs3tools.comparing import Run, compare  # noqa: E402
 from nfs3tools.matching import aligned, increasing, matched  # noqa: E402
@@ -351,10 +352,12 @@ def random_traffic(place: Comparisons) -> None:
     for seed in range(25):
         chance = random.Random(seed)
         names = Names.drawn(chance)
-        place.put('a', *Traffic(seed, names).connections)
+        place.put('a', *(connections := Traffic(seed, names).connections))
         place.put('b', *Traffic(seed, Names.drawn(chance)).connections)
         status, out, error = place.compare('a', 'b')
-        place.want('seed %d' % seed, (status, out[1], error), (0, 'same', ''))
+        number = sum(len(calls) for calls, _ in connections)
+        size = '%d call%s in %d connection%s' % (number, 's' * (number != 1), len(connections), 's' * (len(connections) != 1))
+        place.want('seed %d' % seed, (status, out[1], error), (0, 'same: ' + size, ''))
 
 
 # --- Recordings ---
@@ -366,12 +369,49 @@ FIRST, SECOND, CHANGED = (str(EXAMPLES / ('ganesha_%s.pcap' % name)) for name in
 def example_recordings(place: Comparisons) -> None:
     """Two ordinary runs against one server are the same; with another limit of its transfers just these fields differ."""
     status, out, error = place.compare(FIRST, SECOND)
-    place.want('ordinary', (status, out[1:], error), (0, ['same'], ''))
+    place.want('ordinary', (status, out[1:], error), (0, ['same: 103 calls in 3 connections'], ''))
     place.want('without a mask', place.compare('--mask', 'none', FIRST, SECOND)[0], 1)
     status, out, error = place.compare('--all', FIRST, CHANGED)
     fields = sorted(set(re.findall(r'^  [-+] (\w+)=', '\n'.join(out), re.M)))
     place.want('changed', (status, error, fields), (1, '', ['rtmax', 'rtpref', 'wtmax', 'wtpref']))
     place.want('frames', re.findall(r'\(frame \d+\)', out[2])[1:], re.findall(r'\(frame \d+\)', out[2])[:1])
+
+
+def same_in_part(place: Comparisons) -> None:
+    """Recordings that lack bytes are the same in part, which has the status 1, and 0 with --allow-losses. What is missing is told also if
+    they differ."""
+    def in_calls(number: int, *, lost: int = -1, last: bool = True) -> bytes:
+        """A recording of calls of 40 bytes and their replies of 24, each a segment with its mark, without one of the calls, and perhaps
+        without the last reply."""
+        talk = Talk()
+        opened, frames = talk.opened(), list[bytes]()
+        for at in range(number):
+            frames += [talk.sent(0, messages.fragment(call(at, NFS, 3, 0))), talk.sent(1, messages.fragment(success(at)))]
+        kept = [frame for at, frame in enumerate(frames) if at != 2 * lost and (last or at != 2 * number - 1)]
+        return pcap([*opened, *kept, *talk.closed()])
+    whole, lossy, without_last = in_calls(1_034), in_calls(1_034, lost=1_033), in_calls(1_034, last=False)
+    missing = '44 bytes missing from the %s run'
+    for first, second, words, status, line in (
+            (whole, whole, [], 0, 'same: 1,034 calls in 1 connection'),
+            (whole, whole, ['--allow-losses'], 0, 'same: 1,034 calls in 1 connection'),
+            (lossy, lossy, [], 1, f'same in part: 1,033 calls in 1 connection, {missing % "first"}, {missing % "second"}'),
+            (lossy, lossy, ['--allow-losses'], 0, f'same in part: 1,033 calls in 1 connection, {missing % "first"}, {missing % "second"}'),
+            (lossy, in_calls(1_033), [], 1, f'same in part: 1,033 calls in 1 connection, {missing % "first"}'),
+            (in_calls(1_033), lossy, ['--allow-losses'], 0, f'same in part: 1,033 calls in 1 connection, {missing % "second"}'),
+            (without_last, without_last, [], 1, 'same in part: 1,034 calls in 1 connection, 28 bytes missing from the first run, '
+                                                '28 bytes missing from the second run')):
+        place.write('a', first)
+        place.write('b', second)
+        found, out, _ = place.compare(*words, 'a', 'b')
+        place.want(line, (found, out[1:]), (status, [line]))
+    place.write('a', whole)
+    place.write('b', lossy)
+    for options in ([], ['--allow-losses']):
+        status, out, _ = place.compare(*options, 'a', 'b')
+        place.want('they differ', (status, out[1:3]), (1, ['differ at connection 1 client record 1034', 'compared in part: ' + missing % 'second']))
+    place.write('a', lossy)
+    place.want('a page', (place.compare('--allow-losses', '--html', 'page.html', 'a', 'b')[0],
+                          b'<h1 class=same>same in part: 1,033 calls' in (place.read('page.html') or b'')), (0, True))
 
 
 class Page(HTMLParser):
@@ -414,7 +454,7 @@ def refused_runs(place: Comparisons) -> None:
 TESTS: list[Callable[[Comparisons], None]] = [
     sequences_brought_together, elements_that_differ, retransmissions_are_linear, words_of_masks, ordinary_runs, changed_fields, statuses_that_differ, one_call_more,
     other_orders, bound_values, zero_cookies, equal_numbers_of_two_classes, users_and_groups, directories, replies_of_one_call, files_by_their_paths,
-    raw_messages, connections_of_one_run, random_traffic, example_recordings, pages, refused_runs]
+    raw_messages, connections_of_one_run, random_traffic, example_recordings, same_in_part, pages, refused_runs]
 
 
 def tried(program: str, test: Callable[[Comparisons], None]) -> list[str]:

@@ -360,16 +360,16 @@ def ends_of(talk: Talk, first: int) -> list[str]:
 
 def told_of_gap(side: str, size: int, after: int, frame: int, number: int = 1) -> str:
     are = 'byte is' if size == 1 else 'bytes are'
-    return f'connection {number} {side}: {size} {are} missing from the recording after the first {after}, before frame {frame}'
+    return f'connection {number} {side}: {size:,} {are} missing from the recording after the first {after:,}, before frame {frame}'
 
 
 def dropped(side: str, size: int) -> str:
-    return f'connection 1 {side}: the last {size} bytes are no whole record, and are dropped'
+    return f'connection 1 {side}: the last {size:,} bytes are no whole record, and are dropped'
 
 
 def replies_left_out(number: int) -> str:
     told = 'reply to a call that is not in the recording is' if number == 1 else 'replies to calls that are not in the recording are'
-    return f'connection 1 server: {number} {told} left out'
+    return f'connection 1 server: {number:,} {told} left out'
 
 
 def what_is_left_out(tools: Tools) -> None:
@@ -461,7 +461,7 @@ def whole_records(tools: Tools) -> None:
 
 def left_out_before(side: str, size: int) -> str:
     are = 'byte is' if size == 1 else 'bytes are'
-    return f'connection 1 {side}: the first {size} {are} left out, since no record of a whole run begins there'
+    return f'connection 1 {side}: the first {size:,} {are} left out, since no record of a whole run begins there'
 
 
 def midstream(tools: Tools) -> None:

@@ -170,8 +170,8 @@ def lines_for_many_captures(tools: Tools) -> None:
     version = ['sh', '-c', 'parallel --version 2>&1 </dev/null']
     here = {'tools/verdicts': 'tools/verdicts --program ' + tools.program, 'host1,host2': ':', '/opt/nfs3canon': str(TOP),
             'runs/': 'examples/'}
-    last = {'tools/verdicts': ['13 ok, 7 refused, 0 errors'],
-            'parallel': ['0 ok, 1 refused, 0 errors'] * 4 + ['1 ok, 1 refused, 0 errors'] + ['3 ok, 0 refused, 0 errors'] * 3}
+    last = {'tools/verdicts': ['13 ok, 0 in part, 7 refused, 0 errors'],
+            'parallel': ['0 ok, 0 in part, 1 refused, 0 errors'] * 4 + ['1 ok, 0 in part, 1 refused, 0 errors'] + ['3 ok, 0 in part, 0 refused, 0 errors'] * 3}
     for line in lines[:2]:
         if line.startswith('parallel') and b'GNU' not in ended(version, TOP).out:
             continue

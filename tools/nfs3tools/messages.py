@@ -65,6 +65,11 @@ def add_options(parser: argparse.ArgumentParser) -> None:
     parser.add_argument('--whole-records', action='store_true', help='ends each stream after its last whole record')
 
 
+def add_losses(parser: argparse.ArgumentParser, words: str) -> None:
+    """The option that takes runs in part as whole ones."""
+    parser.add_argument('--allow-losses', action='store_true', help=f'takes `{words}` as the status 0')
+
+
 def options_of(chosen: argparse.Namespace) -> Options:
     return Options(chosen.midstream, chosen.whole_records, chosen.filter)
 

@@ -30,7 +30,7 @@ from .selection import Options, Selected, count, plural, select
 from .streams import Connection, Connections, Frames, Spool, Stored
 
 FRAMES_A_STEP = 1_000
-__all__ = ['FrameRef', 'NotTaken', 'Options', 'Record', 'Taken', 'TakenConnection', 'TakenStream', 'take']
+__all__ = ['FrameRef', 'LeftOut', 'NotTaken', 'Options', 'Record', 'Taken', 'TakenConnection', 'TakenStream', 'take']
 
 
 class NotTaken(Exception):
@@ -120,6 +120,7 @@ class TakenConnection(typing.NamedTuple):
     ends: both, first the one that sent the first segment, as '192.0.2.7:700 and 192.0.2.1:2049'
     why: how it is known which end is the client, as 'by the SYN'; '' if read from a capture
     notes: what was left out of its streams, each beginning with the side, as 'client: 12 bytes are missing ..'
+    missing: the bytes of both sides that were sent and are not in the recording, as far as it shows
     """
     number: int
     stream_number: int | None
@@ -130,6 +131,7 @@ class TakenConnection(typing.NamedTuple):
     client: TakenStream
     server: TakenStream
     notes: list[str]
+    missing: int = 0
 
     def stream(self, side: Side) -> TakenStream:
         """Returns the stream of one side."""
@@ -140,10 +142,20 @@ class TakenConnection(typing.NamedTuple):
         return capture_of([(self.client, self.server)])
 
 
+class LeftOut(typing.NamedTuple):
+    """A connection that is not taken: its ends, why, and how many bytes are missing if that is why, else 0."""
+    ends: str
+    why: str
+    missing: int = 0
+
+    def __str__(self) -> str:
+        return f'{self.ends}: {self.why}'
+
+
 class Taken:
     """The connections of a recording or capture. As a context manager it removes the temporary files at its end.
 
-    left_out: a line for each connection that is not taken, with the reason
+    left_out: the connections that are not taken
     notes: what is told of the whole recording or capture, a sentence each
     damage: why what follows could not be read, or None; a recording that ends in the middle of a frame is not damaged
     is_recording: False if read from a capture
@@ -153,9 +165,14 @@ class Taken:
     def __init__(self, spool: Spool, is_recording: bool, has_frames: bool) -> None:
         self.spool, self.is_recording, self.has_frames = spool, is_recording, has_frames
         self.connections: list[TakenConnection] = []
-        self.left_out: list[str] = []
+        self.left_out: list[LeftOut] = []
         self.notes: list[str] = []
         self.damage: str | None = None
+
+    @property
+    def missing(self) -> int:
+        """The bytes of all connections that are missing from the recording."""
+        return sum(one.missing for one in self.connections) + sum(one.missing for one in self.left_out)
 
     def pairs(self) -> list[tuple[TakenStream, TakenStream]]:
         return [(connection.client, connection.server) for connection in self.connections]
@@ -314,12 +331,14 @@ def add(taken: Taken, connection: Connection, selected: Selected, options: Optio
     ends = ' and '.join(connection.ends)
     streams = connection.streams[selected.client], connection.streams[1 - selected.client]
     if not any(kept.ranges for kept in selected.kept):
-        taken.left_out.append(f'{ends}: {why_left_out(connection, options)}')
+        is_for_losses = connection.client is not None or options.midstream
+        missing = sum(kept.missing for kept in selected.kept) if is_for_losses else 0
+        taken.left_out.append(LeftOut(ends, why_left_out(connection, options), missing))
         return
     client, server = (TakenStream(stream.stored, stream.frames, kept.ranges) for stream, kept in zip(streams, selected.kept))
-    notes = [note for kept in selected.kept for note in kept.notes]
+    notes, missing = [note for kept in selected.kept for note in kept.notes], sum(kept.missing for kept in selected.kept)
     taken.connections.append(TakenConnection(len(taken.connections) + 1, connection.number, connection.ends[selected.client],
-                                             connection.ends[1 - selected.client], ends, selected.why, client, server, notes))
+                                             connection.ends[1 - selected.client], ends, selected.why, client, server, notes, missing))
 
 
 def why_left_out(connection: Connection, options: Options) -> str:
