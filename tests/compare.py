@@ -391,23 +391,24 @@ def same_in_part(place: Comparisons) -> None:
         return pcap([*opened, *kept, *talk.closed()])
     whole, lossy, without_last = in_calls(1_034), in_calls(1_034, lost=1_033), in_calls(1_034, last=False)
     missing = '44 bytes missing from the %s run'
-    for first, second, words, status, line in (
-            (whole, whole, [], 0, 'same: 1,034 calls in 1 connection'),
-            (whole, whole, ['--allow-losses'], 0, 'same: 1,034 calls in 1 connection'),
-            (lossy, lossy, [], 1, f'same in part: 1,033 calls in 1 connection, {missing % "first"}, {missing % "second"}'),
-            (lossy, lossy, ['--allow-losses'], 0, f'same in part: 1,033 calls in 1 connection, {missing % "first"}, {missing % "second"}'),
-            (lossy, in_calls(1_033), [], 1, f'same in part: 1,033 calls in 1 connection, {missing % "first"}'),
-            (in_calls(1_033), lossy, ['--allow-losses'], 0, f'same in part: 1,033 calls in 1 connection, {missing % "second"}'),
-            (without_last, without_last, [], 1, 'same in part: 1,034 calls in 1 connection, 28 bytes missing from the first run, '
-                                                '28 bytes missing from the second run')):
+    cases: list[tuple[bytes, bytes, list[str], int, str]] = [
+        (whole, whole, [], 0, 'same: 1,034 calls in 1 connection'),
+        (whole, whole, ['--allow-losses'], 0, 'same: 1,034 calls in 1 connection'),
+        (lossy, lossy, [], 1, f'same in part: 1,033 calls in 1 connection, {missing % "first"}, {missing % "second"}'),
+        (lossy, lossy, ['--allow-losses'], 0, f'same in part: 1,033 calls in 1 connection, {missing % "first"}, {missing % "second"}'),
+        (lossy, in_calls(1_033), [], 1, f'same in part: 1,033 calls in 1 connection, {missing % "first"}'),
+        (in_calls(1_033), lossy, ['--allow-losses'], 0, f'same in part: 1,033 calls in 1 connection, {missing % "second"}'),
+        (without_last, without_last, [], 1, 'same in part: 1,034 calls in 1 connection, 28 bytes missing from the first run, '
+                                                '28 bytes missing from the second run')]
+    for first, second, words, status, line in cases:
         place.write('a', first)
         place.write('b', second)
         found, out, _ = place.compare(*words, 'a', 'b')
         place.want(line, (found, out[1:]), (status, [line]))
     place.write('a', whole)
     place.write('b', lossy)
-    for options in ([], ['--allow-losses']):
-        status, out, _ = place.compare(*options, 'a', 'b')
+    for options in ('--mask=none', '--allow-losses'):
+        status, out, _ = place.compare(options, 'a', 'b')
         place.want('they differ', (status, out[1:3]), (1, ['differ at connection 1 client record 1034', 'compared in part: ' + missing % 'second']))
     place.write('a', lossy)
     place.want('a page', (place.compare('--allow-losses', '--html', 'page.html', 'a', 'b')[0],

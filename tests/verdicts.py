@@ -26,6 +26,7 @@ from nfs3tools.places import SIDES, Place
 VERDICTS = str(TOP / 'tools/verdicts')
 CALL, REPLY = len(stream(CALLS[:1])), len(stream(REPLIES[:1]))
 FIFTH_OF_REPLIES = -(-len(ALL[1]) // 5)
+ALLOWING: list[tuple[list[str], int]] = [([], 1), (['--allow-losses'], 0)]  # words, and the status of what is in part
 HEAD = 'connection 1 %s: client 192.0.2.7:700, server 192.0.2.1:2049, tcp.stream == 0'
 FAULTS = {'bad_client_record': ('client record 1 byte 4: BadEnum', 4), 'bad_server_record': ('server record 2 byte 0: NoCall', 13),
           'bad_status': ('server record 1 byte 24: BadEnum', 5), 'bad_bool': ('server record 1 byte 28: BadBool', 5),
@@ -250,23 +251,24 @@ def ok_in_part(tools: Tools) -> None:
     long = [*last.opened(), last.sent(0, large), last.sent(1, stream(REPLIES[:1])), *last.closed()]
     lost_first, lost_last = one[:3] + one[4:], one[:12] + one[-1:]
     calls, replies = 344 // CALL, 4 * FIFTH_OF_REPLIES // REPLY
-    options: list[str]
-    for what, recording, options, verdict, numbers in (
-            ('a frame', pcap(one[:4] + one[5:]), [], f'ok in part: {calls} calls, 344 bytes missing', (calls, calls)),
-            ('a frame, gone on after', pcap(one[:4] + one[5:]), ['--midstream'], 'ok in part: 30 calls, 344 bytes missing', (30, 30)),  # 8 to 16 are torn
-            ('the last reply, as FIN shows', pcap(lost_last), [],
-             f'ok in part: 39 calls, {len(ALL[1]) - 4 * FIFTH_OF_REPLIES} bytes missing', (39, replies)),
-            # A frame of 1,000 bytes has 946 of its segment, and the call after the first 44 has 72 bytes before its data.
-            ('a frame that is cut', pcap(long, 1_000), [], f'ok in part: 1 call, {44 + 72 + 27_000 - 946:,} bytes missing', (1, 1))):
+    cases: list[tuple[str, bytes, list[str], str, tuple[int, int]]] = [
+        ('a frame', pcap(one[:4] + one[5:]), [], f'ok in part: {calls} calls, 344 bytes missing', (calls, calls)),
+        # The bytes 344 to 687 have a part of each call from the 8th to the 16th.
+        ('a frame, gone on after', pcap(one[:4] + one[5:]), ['--midstream'], 'ok in part: 30 calls, 344 bytes missing', (30, 30)),
+        ('the last reply, as FIN shows', pcap(lost_last), [],
+         f'ok in part: 39 calls, {len(ALL[1]) - 4 * FIFTH_OF_REPLIES} bytes missing', (39, replies)),
+        # A frame of 1,000 bytes has 946 of its segment, and the call after the first 44 has 72 bytes before its data.
+        ('a frame that is cut', pcap(long, 1_000), [], f'ok in part: 1 call, {44 + 72 + 27_000 - 946:,} bytes missing', (1, 1))]
+    for what, recording, options, verdict, numbers in cases:
         tools.write('a.pcap', pcap(good) + recording[24:])
-        for words, status in (([], 1), (['--allow-losses'], 0)):
+        for words, status in ALLOWING:
             found, rows, sums, _ = verdicts(tools, *options, *words, 'a.pcap')
             tools.want(what, (found, [row[1] for row in rows], [row[-1] for row in rows], sums),
                        (status, ['1', '2'], ['ok', verdict], '1 ok, 1 in part, 0 refused, 0 errors'))
             tools.want(what + ', its numbers', rows[1][-3:-1], [str(number) for number in numbers])
     tools.write('a.pcap', pcap(good + lost_first))
     why = '192.0.2.7:700 and 192.0.2.1:2049: its first bytes are missing from the recording'
-    for words, status in (([], 1), (['--allow-losses'], 0)):
+    for words, status in ALLOWING:
         found, rows, sums, _ = verdicts(tools, *words, 'a.pcap')
         tools.want('the first bytes', (found, [row[-1] for row in rows], sums),
                    (status, ['ok', 'left out: ' + why], '1 ok, 1 in part, 0 refused, 0 errors'))
@@ -280,13 +282,13 @@ def ok_in_part_in_files(tools: Tools) -> None:
     """JUnit has a failure of a type of its own, or a case that passed and says it, and the number; JSON has a state and the number of bytes."""
     tools.write('a.pcap', pcap(whole(port=701) + whole()[:4] + whole()[5:]))
     line = f'ok in part: {344 // CALL} calls, 344 bytes missing'
-    for words, failures, tags in (([], '1', ['failure', 'system-out']), (['--allow-losses'], '0', ['system-out'])):
+    for words, failures in ALLOWING:
         verdicts(tools, '--junit', 'x.xml', '--json', 'x.json', *words, 'a.pcap')
         suite = xml.etree.ElementTree.fromstring((tools.read('x.xml') or b'').decode())[0]
-        tools.want('the suite', [suite.get(key) for key in ('tests', 'failures', 'errors', 'skipped')], ['2', failures, '0', '0'])
+        tools.want('the suite', [suite.get(key) for key in ('tests', 'failures', 'errors', 'skipped')], ['2', str(failures), '0', '0'])
         tools.want('properties', [(item.get('name'), item.get('value')) for item in suite.iter('property')], [('in part', '1')])
         first, second = suite.iter('testcase')
-        tools.want('the cases', ([item.tag for item in first], [item.tag for item in second]), ([], tags))
+        tools.want('the cases', ([item.tag for item in first], [item.tag for item in second]), ([], ['failure'] * failures + ['system-out']))
         tools.want('the type', [(item.get('type'), item.get('message')) for item in second if item.tag == 'failure'],
                    [('in part', line)] if not words else [])
         tools.want('what the case says', (second.findtext('system-out') or '').partition('\n')[0], line)
