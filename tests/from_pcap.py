@@ -149,7 +149,7 @@ def recordings_that_end_early(tools: Tools) -> None:
             ('nothing', b'', 'it is empty'), ('text', b'no recording', 'it is neither pcap nor pcapng'),
             ('gzip of text', gzip.compress(b'no recording'), 'it is neither pcap nor pcapng'),
             ('three bytes of gzip', gzip.compress(b'x')[:3], 'the compressed file is cut short'),
-            ('xz', b'\xfd7zXZ\0\0', '`xz -dc FILE | tools/from_pcap - OUT`'), ('zstd', b'\x28\xb5\x2f\xfd', 'zstd'),
+            ('xz', b'\xfd7zXZ\0\0', 'it is compressed by xz'), ('zstd', b'\x28\xb5\x2f\xfd', 'zstd'),
             ('a magic alone', plain[:4], 'its header is cut short')):
         tools.refused(what, recording, message) if what != 'a magic alone' else tools.want(
             what, message in (taken_of(recording).damage or ''), True)

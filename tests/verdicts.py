@@ -6,6 +6,7 @@
 PROGRAM is crates/nfs3canon/out/nfs3canon if none is named. What needs tshark is skipped, with a word, if tshark is not
 there. The last line is 'N passed, M failed', and the status is 1 if any failed.
 """
+import itertools
 import json
 import os
 import random
@@ -153,6 +154,69 @@ def places_at_the_frames_of_tshark(tools: Tools) -> None:
             tools.want(f'connection {connection.number} {side} record {number} byte {byte}', found, [wanted])
 
 
+def parts_of_a_recording(tools: Tools) -> None:
+    """A pattern that is the name of no file stands for the parts of one recording, in the order of the times of their first frames, for
+    each tool. A frame has its number in the whole, and `where` has that in the part, too."""
+    frames, head = whole() + whole(port=701), pcap([])
+    records = pcap(frames)[24:]
+    ends = list(itertools.accumulate((16 + len(frame) for frame in frames), initial=0))
+    # As `tcpdump -W 3` names them after it began anew: the first frames are in the second file.
+    for name, low, high in (('run.pcap1', 0, 6), ('run.pcap2', 6, 20), ('run.pcap10', 20, 21), ('run.pcap0', 21, 30)):
+        tools.write(name, head + records[ends[low]:ends[high]])
+    tools.write('whole.pcap', pcap(frames))
+    status, rows, sums, error = verdicts(tools, 'run.pcap*')
+    tools.want('verdicts', (status, [row[-3:] for row in rows], sums, error),
+               (0, [['39', '39', 'ok']] * 2, '2 ok, 0 in part, 0 refused, 0 errors', ''))
+    for name, recording in (('of_parts', 'run.pcap*'), ('of_whole', 'whole.pcap')):
+        tools.want('from_pcap', tools.tool('from_pcap', recording, name)[:2], (0, ''))
+    tools.want('one capture', tools.read('of_parts'), tools.read('of_whole'))
+    answer = tools.tool('compare', '--program', tools.program, 'run.pcap*', 'whole.pcap')
+    tools.want('compare', (answer[0], answer[1].splitlines()[1:], answer[2]), (0, ['same: 78 calls in 2 connections'], ''))
+    place, time = 'connection 1 client record 8', '1970-01-01 00:00:01.0000%02d000 UTC'
+    tools.want('where', tools.tool('where', 'run.pcap*', place)[1].splitlines()[1:], [
+        'frame 4, ' + time % 3, 'frame 5, ' + time % 4, 'run.pcap1: frame.number in {4..5}'])
+    tools.want('where, in two parts', tools.tool('where', 'run.pcap*', 'connection 2 client record 16')[1].splitlines()[1:], [
+        'frame 20, ' + time % 19, 'frame 21, ' + time % 20, 'run.pcap2: frame.number == 14', 'run.pcap10: frame.number == 1'])
+    tools.want('OUT is a part', tools.tool('from_pcap', 'run.pcap*', 'run.pcap10'), (2, '', 'from_pcap: OUT is the recording\n'))
+    tools.write('run.pcap*', pcap(whole()))
+    tools.want('the name of a file', len(verdicts(tools, 'run.pcap*')[1]), 1)
+    os.remove(tools.path('run.pcap*'))
+    parts_that_are_none(tools)
+
+
+def parts_that_are_none(tools: Tools) -> None:
+    """After the parts of `parts_of_a_recording`: a part alone, times that are equal, and files that are no parts."""
+    status, _, _, error = verdicts(tools, 'run.pcap10')
+    tools.want('a part alone', (status, error.splitlines()[0]), (1, (
+        'run.pcap10: it begins in the middle of 1 connection: if it is a part of a recording, as of `tcpdump -C`, name all parts in its '
+        "place, as 'run.pcap*'")))
+    for number, frame in enumerate(whole()):  # all at one time
+        tools.write(f'equal{number or ""}', pcap([frame]))
+    tools.want('equal times', [row[-1] for row in verdicts(tools, 'equal*')[1]], ['ok'])
+    tools.write('run.pcap3', pcap(whole(port=702))[:-3])
+    tools.want('a part that is cut', verdicts(tools, 'run.pcap[013]')[3].splitlines()[0],
+               'run.pcap[013]: run.pcap3: the recording is cut short in the middle of frame 15')
+    tools.write('run.pcap.txt', b'no recording')
+    tools.want('no recording', verdicts(tools, 'run.pcap*')[:2], (1, [['run.pcap*', *['-'] * 5, 'run.pcap.txt: it is neither pcap nor pcapng']]))
+    tools.want('no file', verdicts(tools, 'absent*')[1][0][-1], 'absent*: No such file or directory')
+
+
+def recordings_that_are_compressed(tools: Tools) -> None:
+    """What to type names the tool that was called."""
+    tools.write('a.xz', b'\xfd7zXZ\0\0')
+    tools.write('a.zst', b'\x28\xb5\x2f\xfd')
+    told = ': it is compressed by %s: decompress it first, as in `%s`'
+    for words, line in (
+            (('from_pcap', 'a.xz', 'out'), told % ('xz', 'xz -dc FILE | tools/from_pcap - OUT')),
+            (('where', 'a.zst', 'file 20'), told % ('zstd', 'zstd -dc FILE | tools/where - PLACE')),
+            (('compare', '--program', tools.program, 'a.zst', 'a.xz'), told % ('zstd', 'tools/compare <(zstd -dc A) <(zstd -dc B)'))):
+        tools.want(words[0], tools.tool(*words), (2, '', words[0] + line + '\n'))
+    tools.want('verdicts', ': ' + verdicts(tools, 'a.zst')[1][0][-1], told % ('zstd', 'zstd -dc FILE | tools/verdicts -'))
+    os.symlink(TOP / 'tools/where', tools.path('nfs3-where'))
+    done = ended([tools.path('nfs3-where'), 'a.xz', 'file 20'], tools.folder)
+    tools.want('installed', '`xz -dc FILE | nfs3-where - PLACE`' in done.error.decode(), True)
+
+
 # --- verdicts ---
 
 def verdicts(tools: Tools, *words: str, stdin: bytes | None = None) -> tuple[int, list[list[str]], str, str]:
@@ -215,7 +279,7 @@ def rows_of_files_that_are_not_whole(tools: Tools) -> None:
          [first, ['2', '-', '-', '1', '2', 'server record 2 byte 0: NoCall']]),
         ('text', b'no recording', [[*as_a_whole, 'it is neither pcap nor pcapng']]),
         ('xz', b'\xfd7zXZ\0\0',
-         [[*as_a_whole, 'it is compressed by xz: decompress it first, as in `xz -dc FILE | tools/from_pcap - OUT`']]),
+         [[*as_a_whole, 'it is compressed by xz: decompress it first, as in `xz -dc FILE | tools/verdicts -`']]),
         ('damaged', pcap(whole()) + b'\xff' * 16,
          [['1', '192.0.2.7:700', '192.0.2.1:2049', '39', '39', 'ok'],
           [*as_a_whole, 'the recording is damaged after frame 15: frame 16 claims 4294967295 bytes']]),
@@ -371,8 +435,9 @@ def take_interrupts() -> None:
 
 
 OF_TSHARK = [places_at_the_frames_of_tshark]
-TESTS = [places, places_of_other_recordings, places_at_the_frames_of_tshark, faults_with_their_frames, rows_of_all_kinds, what_is_told,
-         ok_in_part, ok_in_part_in_files, notes_on_a_recording, files_for_others, interrupted]
+TESTS = [places, places_of_other_recordings, parts_of_a_recording, recordings_that_are_compressed, places_at_the_frames_of_tshark,
+         faults_with_their_frames, rows_of_all_kinds, what_is_told, ok_in_part, ok_in_part_in_files, notes_on_a_recording,
+         files_for_others, interrupted]
 
 
 def main() -> None:

@@ -2,7 +2,7 @@
 
     tools/compare [--mask CLASS,..] [--all] [--html FILE] [--midstream] [--whole-records] A B
 
-A and B are recordings (pcap, pcapng) or captures. Values that each run has its own of are masked first: of the classes below,
+A and B are recordings (pcap, pcapng; a pattern in quotes names the parts of one) or captures. Values that each run has its own of are masked first: of the classes below,
 those marked with a star by default. What is masked is always printed. Then `nfs3canon same` compares the masked captures, up to a
 renaming of xids, file handles and write verifiers: `same` is its word, and how many calls were compared follows it. If bytes are
 missing from a recording, the runs are `same in part`, and what is missing is told. If they differ, calls are brought together by connection,

@@ -20,7 +20,11 @@ TIME_UNIT, TIME_OFFSET = 9, 14  # options of an interface: if_tsresol, if_tsoffs
 
 
 class NoRecording(Exception):
-    """The file is neither pcap nor pcapng."""
+    """The file is neither pcap nor pcapng. `packed_by` is the program that compressed it, if that is known."""
+
+    def __init__(self, text: str, packed_by: str | None = None) -> None:
+        super().__init__(text)
+        self.packed_by = packed_by
 
 
 class Damaged(Exception):
@@ -169,7 +173,7 @@ class Recording:
         self.count = 0
         self.magic = self.source.peek(6)
         if self.magic[:4] not in PCAP and self.magic[:4] != SECTION:
-            raise NoRecording(named(self.magic))
+            raise no_recording(self.magic)
 
     def frames(self) -> typing.Iterator[Frame]:
         """Iterates over the frames, up to the end or to the first damage."""
@@ -255,12 +259,12 @@ class Recording:
         return block and block[8:-4]
 
 
-def named(magic: bytes) -> str:
+def no_recording(magic: bytes) -> NoRecording:
     """What is said of a file that is no recording."""
     for begin, packer in PACKED_BY.items():
         if magic.startswith(begin):
-            return f'it is compressed by {packer}: decompress it first, as in `{packer} -dc FILE | tools/from_pcap - OUT`'
-    return 'it is neither pcap nor pcapng' if magic else 'it is empty'
+            return NoRecording(f'it is compressed by {packer}', packer)
+    return NoRecording('it is neither pcap nor pcapng' if magic else 'it is empty')
 
 
 def order_of(head: bytes) -> str:

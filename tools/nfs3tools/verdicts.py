@@ -8,7 +8,8 @@ the place and reason of its first fault with the frame that carries it. If bytes
 the verdict is `ok in part`, with the calls that were judged and the bytes that are missing. What is missing, and which connections
 are left out, is told on standard error. A recording that cannot be read has a row, too, and the others are judged still.
 
-The recordings are taken as by `tools/from_pcap` (--midstream, --whole-records, --filter); `-` is standard input. --junit writes
+The recordings are taken as by `tools/from_pcap` (--midstream, --whole-records, --filter, patterns in quotes for the parts of one
+recording); `-` is standard input. --junit writes
 the verdicts as JUnit XML, as Jenkins and GitLab take it, and --json as a list with an object for each row. N recordings are
 judged at once, as many as there are processors if it is not said.
 
@@ -28,7 +29,8 @@ import typing
 import xml.etree.ElementTree
 
 from .captures import write_file
-from .messages import add_losses, add_options, options_of, parser_of, words_of
+from .messages import add_losses, add_options, advice_on, options_of, parser_of, words_of
+from .parts import files_of
 from .places import FilePlace, Place, parse_fault
 from .programs import Answer, FilterRefused, Missing, program_path, run_program
 from .selection import Options, count
@@ -75,7 +77,9 @@ class Judge(typing.NamedTuple):
         try:
             with take(recording, self.options, shows_progress=self.shows_progress) as taken:
                 return self.of_taken(recording, taken)
-        except (NotTaken, FilterRefused, Missing) as refused:
+        except NotTaken as refused:
+            return [error_of(recording, advice_on(refused, 'verdicts'))]
+        except (FilterRefused, Missing) as refused:
             return [error_of(recording, str(refused))]
         except OSError as failed:
             return [error_of(recording, words_of(failed))]
@@ -102,7 +106,7 @@ class Judge(typing.NamedTuple):
 
     def of_container(self, recording: str, others: list[Verdict]) -> list[Verdict]:
         """The verdict on a capture that is not whole, unless it is that on one of its connections."""
-        answer = run_program(self.program, ['check', recording])
+        answer = run_program(self.program, ['check', *files_of(recording)])
         fault = parse_fault(answer.error)
         if fault is None:
             return [error_of(recording, told(answer))]
