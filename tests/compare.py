@@ -453,8 +453,8 @@ def refused_runs(place: Comparisons) -> None:
 
 
 TESTS: list[Callable[[Comparisons], None]] = [
-    sequences_brought_together, elements_that_differ, retransmissions_are_linear, words_of_masks, ordinary_runs, changed_fields, statuses_that_differ, one_call_more,
-    other_orders, bound_values, zero_cookies, equal_numbers_of_two_classes, users_and_groups, directories, replies_of_one_call, files_by_their_paths,
+    sequences_brought_together, elements_that_differ, retransmissions_are_linear, words_of_masks, ordinary_runs, changed_fields,
+    statuses_that_differ, one_call_more, other_orders, bound_values, zero_cookies, equal_numbers_of_two_classes, users_and_groups, directories, replies_of_one_call, files_by_their_paths,
     raw_messages, connections_of_one_run, random_traffic, example_recordings, same_in_part, pages, refused_runs]
 
 

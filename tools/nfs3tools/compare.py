@@ -2,17 +2,18 @@
 
     tools/compare [--mask CLASS,..] [--all] [--html FILE] [--midstream] [--whole-records] A B
 
-A and B are recordings (pcap, pcapng; a pattern in quotes names the parts of one) or captures. Values that each run has its own of are masked first: of the classes below,
-those marked with a star by default. What is masked is always printed. Then `nfs3canon same` compares the masked captures, up to a
-renaming of xids, file handles and write verifiers: `same` is its word, and how many calls were compared follows it. If bytes are
-missing from a recording, the runs are `same in part`, and what is missing is told. If they differ, calls are brought together by connection,
-procedure and arguments, and each difference is printed as `diff` would: which call, which field, both values, and the frames.
+A and B are recordings (pcap, pcapng; a pattern in quotes names the parts of one) or captures. Values that each run has its own
+of are masked first: of the classes below, those marked with a star by default. What is masked is always printed. Then
+`nfs3canon same` compares the masked captures, up to a renaming of xids, file handles and write verifiers: `same` is its word, and
+how many calls were compared follows it. If bytes are missing from a recording, equal runs are `same in part`, and what is missing
+is told. If the runs differ, calls are brought together by connection, procedure and arguments, and each difference is printed as
+`diff` would: which call, which field, both values, and the frames.
 
 --mask times,ids masks these classes alone, --mask +owners one more, --mask=-times one less, --mask none nothing; NAME=zero and
 NAME=number say how.
 
-The status is 0 if the runs are the same under the mask (with --allow-losses also in part), 1 if they differ or are the same in part, 2 if a recording, a capture or the command line is
-refused, 3 if a file or memory failed.
+The status is 0 if the runs are the same under the mask (with --allow-losses also in part), 1 if they differ or are the same in
+part, 2 if a recording, a capture or the command line is refused, 3 if a file or memory failed.
 """
 import argparse
 import re
@@ -121,8 +122,8 @@ def write_page(path: str, compared: Compared, first: Run, second: Run, verdict: 
 
 def losses_of(first: Taken, second: Taken) -> str:
     """What is missing from both runs, or nothing."""
-    lost = [f'{count(run.missing, "byte")} missing from the {name} run' for name, run in (('first', first), ('second', second)) if run.missing]
-    return ', '.join(lost)
+    lost = (('first', first.missing), ('second', second.missing))
+    return ', '.join(f'{count(missing, "byte")} missing from the {name} run' for name, missing in lost if missing)
 
 
 def line_of(verdict: str, compared: str, losses: str) -> str:

@@ -9,12 +9,12 @@ the verdict is `ok in part`, with the calls that were judged and the bytes that 
 are left out, is told on standard error. A recording that cannot be read has a row, too, and the others are judged still.
 
 The recordings are taken as by `tools/from_pcap` (--midstream, --whole-records, --filter, patterns in quotes for the parts of one
-recording); `-` is standard input. --junit writes
-the verdicts as JUnit XML, as Jenkins and GitLab take it, and --json as a list with an object for each row. N recordings are
-judged at once, as many as there are processors if it is not said.
+recording); `-` is standard input. --junit writes the verdicts as JUnit XML, as Jenkins and GitLab take it, and --json as a list
+with an object for each row and for each note on a recording. N recordings are judged at once, as many as there are processors if
+it is not said.
 
-The status is 0 if all are ok (with --allow-losses also if they are in part), 1 if one is not, 2 if the command line is refused or the program is missing, 3 if FILE cannot be
-written.
+The status is 0 if all are ok (with --allow-losses also if they are ok in part), 1 if one is not, 2 if the command line is
+refused or the program is missing, 3 if FILE cannot be written.
 """
 import concurrent.futures
 import contextlib
@@ -249,8 +249,8 @@ def junit_of(verdicts: list[Verdict], allows_losses: bool) -> bytes:
     suite = element(suites, 'testsuite', name='nfs3canon', tests=str(len(cases)), failures=str(found.count('failure')),
                     errors=str(found.count('error')), skipped=str(found.count('skipped')),
                     time=f'{sum(verdict.seconds for verdict in verdicts):.3f}')
-    in_part = sum(verdict.state == 'in part' for verdict in cases)
-    element(element(suite, 'properties'), 'property', name='in part', value=str(in_part))
+    number = sum(verdict.state == 'in part' for verdict in cases)
+    element(element(suite, 'properties'), 'property', name='in part', value=str(number))
     for verdict, tag in zip(cases, found):
         case = element(suite, 'testcase', classname=printable(verdict.recording), name=name_of(verdict),
                        time=f'{verdict.seconds:.3f}')

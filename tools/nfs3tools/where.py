@@ -12,9 +12,10 @@ also with `first: ` or `second: ` before it) or of `show`, whose first three wor
 brought it, not a retransmission; of a datagram that came in fragments it is the frame with the last of them.
 
 Printed are the place with the number of the connection as Wireshark counts it, the frames with their times, and a display
-filter to paste. If RECORDING is a pattern for the parts of one recording, frames are counted through all parts, and there is a
-filter for each part that has such frames, with its own numbers. The status is 0, 1 if the capture has no such place, 2 if PLACE, RECORDING or FILTER is refused, 3 if a file
-or memory failed.
+filter to paste. If RECORDING is a pattern in quotes for the parts of one recording, frames are counted through all parts, and
+there is a filter for each part that has such frames, with its own numbers.
+
+The status is 0, 1 if the capture has no such place, 2 if PLACE, RECORDING or FILTER is refused, 3 if a file or memory failed.
 """
 import datetime
 import sys
