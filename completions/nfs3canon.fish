@@ -24,6 +24,9 @@ for tool in from_pcap verdicts nfs3-from-pcap nfs3-where nfs3-verdicts nfs3-comp
     complete -c $tool -l version -d 'Print the version'
     complete -c $tool -l help -d 'Print help'
 end
+for tool in verdicts nfs3-verdicts nfs3-compare
+    complete -c $tool -l allow-losses -d 'Take runs in part as the status 0'
+end
 for tool in verdicts nfs3-verdicts
     complete -c $tool -l junit -r -d 'Write JUnit XML'
     complete -c $tool -l json -r -d 'Write JSON'

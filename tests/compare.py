@@ -12,6 +12,8 @@ import random
 import re
 import sys
 import tempfile
+import time
+from collections import Counter
 from collections.abc import Callable
 from html.parser import HTMLParser
 
@@ -22,7 +24,9 @@ TOP = pathlib.Path(__file__).resolve().parent.parent
 sys.path[:0] = [str(TOP / 'tools'), str(TOP / 'examples')]
 import messages  # noqa: E402
 from messages import NFS, NFSACL, auth_sys, call, dirop, fattr, fh, hyper, ok, post_op_attr, success, wcc, word  # noqa: E402
+from packets import Talk, pcap  # noqa: E402
 from nfs3tools.classes import CLASSES, Way, default_mask, mask_of, told  # noqa: E402
+from nfs3tools.comparing import Run, compare  # noqa: E402
 from nfs3tools.matching import aligned, increasing, matched  # noqa: E402
 
 Conversation = tuple[list[bytes], list[bytes]]
@@ -77,6 +81,21 @@ def elements_that_differ(place: Comparisons) -> None:
                ([(0, 0), (3, 2)], [(1, 1)], [(2, 4)], [], [3]))
     found = matched(keys('a1'), keys())
     place.want('nothing there', (found.equal, found.only_first, found.only_second), ([], [0], []))
+
+
+def retransmissions_are_linear(place: Comparisons) -> None:
+    """Two runs of a call that was sent 40,000 times and answered as often, one with another status, and with calls of its own."""
+    def listed(statuses: list[int], more: int) -> Run:
+        lines = [f'1 client {number} xid=7 NFSPROC3_GETATTR mtype=0 fh=6161' for number, _ in enumerate(statuses, 1)]
+        lines += [f'1 client {len(statuses) + number} xid={number + 7} NFSPROC3_ACCESS mtype=0 fh=6262' for number in range(1, more + 1)]
+        return Run('', lines + [f'1 server {number} xid=7 NFSPROC3_GETATTR mtype=1 status={status}'
+                                for number, status in enumerate(statuses, 1)], lambda _: [])
+    statuses = [5] * 40_000
+    begin = time.thread_time()
+    compared = compare(listed(statuses, 0), listed([*statuses[:-1], 13], 5_000), {})
+    place.want('seconds', time.thread_time() - begin < 40, True)
+    place.want('findings', Counter(finding.kind for finding in compared.findings), {'changed': 1, 'only': 5_000})
+    place.want('pairs', (compared.exchanges, len(compared.pairs)), (40_000, 45_000))
 
 
 # --- Masks ---
@@ -333,10 +352,12 @@ def random_traffic(place: Comparisons) -> None:
     for seed in range(25):
         chance = random.Random(seed)
         names = Names.drawn(chance)
-        place.put('a', *Traffic(seed, names).connections)
+        place.put('a', *(connections := Traffic(seed, names).connections))
         place.put('b', *Traffic(seed, Names.drawn(chance)).connections)
         status, out, error = place.compare('a', 'b')
-        place.want('seed %d' % seed, (status, out[1], error), (0, 'same', ''))
+        number = sum(len(calls) for calls, _ in connections)
+        size = '%d call%s in %d connection%s' % (number, 's' * (number != 1), len(connections), 's' * (len(connections) != 1))
+        place.want('seed %d' % seed, (status, out[1], error), (0, 'same: ' + size, ''))
 
 
 # --- Recordings ---
@@ -348,12 +369,50 @@ FIRST, SECOND, CHANGED = (str(EXAMPLES / ('ganesha_%s.pcap' % name)) for name in
 def example_recordings(place: Comparisons) -> None:
     """Two ordinary runs against one server are the same; with another limit of its transfers just these fields differ."""
     status, out, error = place.compare(FIRST, SECOND)
-    place.want('ordinary', (status, out[1:], error), (0, ['same'], ''))
+    place.want('ordinary', (status, out[1:], error), (0, ['same: 103 calls in 3 connections'], ''))
     place.want('without a mask', place.compare('--mask', 'none', FIRST, SECOND)[0], 1)
     status, out, error = place.compare('--all', FIRST, CHANGED)
     fields = sorted(set(re.findall(r'^  [-+] (\w+)=', '\n'.join(out), re.M)))
     place.want('changed', (status, error, fields), (1, '', ['rtmax', 'rtpref', 'wtmax', 'wtpref']))
     place.want('frames', re.findall(r'\(frame \d+\)', out[2])[1:], re.findall(r'\(frame \d+\)', out[2])[:1])
+
+
+def same_in_part(place: Comparisons) -> None:
+    """Recordings that lack bytes are the same in part, which has the status 1, and 0 with --allow-losses. What is missing is told also if
+    they differ."""
+    def in_calls(number: int, *, lost: int = -1, last: bool = True) -> bytes:
+        """A recording of calls of 40 bytes and their replies of 24, each a segment with its mark, without one of the calls, and perhaps
+        without the last reply."""
+        talk = Talk()
+        opened, frames = talk.opened(), list[bytes]()
+        for at in range(number):
+            frames += [talk.sent(0, messages.fragment(call(at, NFS, 3, 0))), talk.sent(1, messages.fragment(success(at)))]
+        kept = [frame for at, frame in enumerate(frames) if at != 2 * lost and (last or at != 2 * number - 1)]
+        return pcap([*opened, *kept, *talk.closed()])
+    whole, lossy, without_last = in_calls(1_034), in_calls(1_034, lost=1_033), in_calls(1_034, last=False)
+    missing = '44 bytes missing from the %s run'
+    cases: list[tuple[bytes, bytes, list[str], int, str]] = [
+        (whole, whole, [], 0, 'same: 1,034 calls in 1 connection'),
+        (whole, whole, ['--allow-losses'], 0, 'same: 1,034 calls in 1 connection'),
+        (lossy, lossy, [], 1, f'same in part: 1,033 calls in 1 connection, {missing % "first"}, {missing % "second"}'),
+        (lossy, lossy, ['--allow-losses'], 0, f'same in part: 1,033 calls in 1 connection, {missing % "first"}, {missing % "second"}'),
+        (lossy, in_calls(1_033), [], 1, f'same in part: 1,033 calls in 1 connection, {missing % "first"}'),
+        (in_calls(1_033), lossy, ['--allow-losses'], 0, f'same in part: 1,033 calls in 1 connection, {missing % "second"}'),
+        (without_last, without_last, [], 1, 'same in part: 1,034 calls in 1 connection, 28 bytes missing from the first run, '
+                                                '28 bytes missing from the second run')]
+    for first, second, words, status, line in cases:
+        place.write('a', first)
+        place.write('b', second)
+        found, out, _ = place.compare(*words, 'a', 'b')
+        place.want(line, (found, out[1:]), (status, [line]))
+    place.write('a', whole)
+    place.write('b', lossy)
+    for options in ('--mask=none', '--allow-losses'):
+        status, out, _ = place.compare(options, 'a', 'b')
+        place.want('they differ', (status, out[1:3]), (1, ['differ at connection 1 client record 1034', 'compared in part: ' + missing % 'second']))
+    place.write('a', lossy)
+    place.want('a page', (place.compare('--allow-losses', '--html', 'page.html', 'a', 'b')[0],
+                          b'<h1 class=same>same in part: 1,033 calls' in (place.read('page.html') or b'')), (0, True))
 
 
 class Page(HTMLParser):
@@ -394,9 +453,9 @@ def refused_runs(place: Comparisons) -> None:
 
 
 TESTS: list[Callable[[Comparisons], None]] = [
-    sequences_brought_together, elements_that_differ, words_of_masks, ordinary_runs, changed_fields, statuses_that_differ, one_call_more,
-    other_orders, bound_values, zero_cookies, equal_numbers_of_two_classes, users_and_groups, directories, replies_of_one_call, files_by_their_paths,
-    raw_messages, connections_of_one_run, random_traffic, example_recordings, pages, refused_runs]
+    sequences_brought_together, elements_that_differ, retransmissions_are_linear, words_of_masks, ordinary_runs, changed_fields,
+    statuses_that_differ, one_call_more, other_orders, bound_values, zero_cookies, equal_numbers_of_two_classes, users_and_groups, directories, replies_of_one_call, files_by_their_paths,
+    raw_messages, connections_of_one_run, random_traffic, example_recordings, same_in_part, pages, refused_runs]
 
 
 def tried(program: str, test: Callable[[Comparisons], None]) -> list[str]:

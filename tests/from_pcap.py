@@ -79,6 +79,44 @@ def times(tools: Tools) -> None:
         tools.want(what, [tuple(frame) for frame in noted], [(4, time)])
 
 
+def times_past_63_bits(tools: Tools) -> None:
+    """A time that does not fit 63 bits of nanoseconds is unknown: by its number, by its unit and by its offset."""
+    frames, most, year = whole(), (1 << 63) - 1, 31_536_000
+    for what, head, number, time in (
+            ('the last that fits', interface(unit=9), most, most), ('one more', interface(unit=9), most + 1, 0),
+            ('all bits', interface(unit=9), (1 << 64) - 1, 0), ('seconds', interface(unit=0), 1 << 40, 0),
+            ('the last seconds', interface(unit=0), 9_223_372_036, 9_223_372_036 * 10 ** 9),
+            ('the first seconds too many', interface(unit=0), 9_223_372_037, 0),
+            ('an offset', interface(unit=9, offset=1 << 62), 1, 0), ('an offset back', interface(unit=9, offset=-(1 << 62)), 1, 0),
+            ('an offset of a year', interface(unit=9, offset=-year), year * 10 ** 9 + 1, 1)):
+        tools.write('a.pcap', section() + head + b''.join(enhanced(frame, number) for frame in frames))
+        noted = taken_of(tools.read('a.pcap') or b'').connections[0].client.frames(0, 1)
+        tools.want(what, [tuple(frame) for frame in noted], [(4, time)])
+        found = tools.tool('where', 'a.pcap', 'connection 1 client record 1 byte 0')
+        tools.want(what + ', where', (found[0], found[1].splitlines()[1:2] == ['frame 4, without a time'], found[2]), (0, not time, ''))
+
+
+def empty_gzip_members(tools: Tools) -> None:
+    """Any number of empty members before, between and after those with bytes cost what their bytes cost."""
+    content, empty = pcap(whole()), gzip.compress(b'')
+    begin = os.times()
+    for size in (1, 700, len(content)):
+        pieces = [gzip.compress(content[at:at + size]) for at in range(0, len(content), size)]
+        tools.taken(f'members of {size} bytes', b''.join(pieces), [ALL])
+    tools.taken('empty members', empty * 50_000 + gzip.compress(content[:99]) + empty * 450_000 + gzip.compress(content[99:]) + empty, [ALL])
+    tools.want('seconds', os.times().user - begin.user < 30, True)
+    for size in range((1 << 20) - 2, (1 << 20) + 2):  # about a block that is read at once
+        first = in_member(content[:99], size)
+        tools.want(f'{size} bytes', (len(first), gzip.decompress(first)), (size, content[:99]))
+        tools.taken(f'a member of {size} bytes', first + gzip.compress(content[99:]), [ALL])
+
+
+def in_member(content: bytes, size: int) -> bytes:
+    """A member of so many bytes: a comment in its head fills them (RFC 1952, section 2.3)."""
+    plain = gzip.compress(content)
+    return plain[:3] + b'\x10' + plain[4:10] + b'x' * (size - len(plain) - 1) + b'\0' + plain[10:]
+
+
 def recordings_that_end_early(tools: Tools) -> None:
     """A recording that is cut, damaged, or none. What is before the damage is taken, and no memory for what a length claims."""
     frames, cut = whole(), 'the recording is cut short in the middle of frame 15'
@@ -111,7 +149,7 @@ def recordings_that_end_early(tools: Tools) -> None:
             ('nothing', b'', 'it is empty'), ('text', b'no recording', 'it is neither pcap nor pcapng'),
             ('gzip of text', gzip.compress(b'no recording'), 'it is neither pcap nor pcapng'),
             ('three bytes of gzip', gzip.compress(b'x')[:3], 'the compressed file is cut short'),
-            ('xz', b'\xfd7zXZ\0\0', '`xz -dc FILE | tools/from_pcap - OUT`'), ('zstd', b'\x28\xb5\x2f\xfd', 'zstd'),
+            ('xz', b'\xfd7zXZ\0\0', 'it is compressed by xz'), ('zstd', b'\x28\xb5\x2f\xfd', 'zstd'),
             ('a magic alone', plain[:4], 'its header is cut short')):
         tools.refused(what, recording, message) if what != 'a magic alone' else tools.want(
             what, message in (taken_of(recording).damage or ''), True)
@@ -185,6 +223,20 @@ def datagrams_in_fragments(tools: Tools) -> None:
         tools.want('a fragment is lost', '%d bytes are missing' % FIFTH in lines[1], True)
     lone = [ethernet(piece) for number in range(99) for piece in fragments(datagram(CLIENT, SERVER, bytes(4_000)), 2_000, number)[:1]]
     tools.taken('fragments that stay alone', pcap(lone + whole()), [ALL])
+
+
+def repeated_last_fragments(tools: Tools) -> None:
+    """Repetitions of a fragment cost what their bytes cost, and a datagram of too many is given up and told."""
+    last = ethernet(fragments(datagram(CLIENT, SERVER, bytes(65_508)), 65_504)[-1])
+    begin = os.times()
+    told = '2 datagrams are given up, of which more fragments came than an eighth of their bytes'
+    tools.told('the last one', pcap([last] * 20_000 + whole()), [ALL], [told])  # 65,508 bytes are 8,189 eighths
+    tools.want('seconds', os.times().user - begin.user < 30, True)
+    small = [[ethernet(piece) for piece in fragments(frame[14:], 8, number)] for number, frame in enumerate(whole())]
+    tools.told('fragments of eight bytes', pcap(piece for each in small for piece in each[::-1]), [ALL], [])
+    halves = [ethernet(piece) for number, frame in enumerate(whole()) for size in (64, 48) for piece in fragments(frame[14:], size, number)[:-1]]
+    ends = [ethernet(fragments(frame[14:], 64, number)[-1]) for number, frame in enumerate(whole())]
+    tools.taken('fragments that overlap', pcap(halves + ends), [ALL])
 
 
 # --- Segments ---
@@ -308,16 +360,16 @@ def ends_of(talk: Talk, first: int) -> list[str]:
 
 def told_of_gap(side: str, size: int, after: int, frame: int, number: int = 1) -> str:
     are = 'byte is' if size == 1 else 'bytes are'
-    return f'connection {number} {side}: {size} {are} missing from the recording after the first {after}, before frame {frame}'
+    return f'connection {number} {side}: {size:,} {are} missing from the recording after the first {after:,}, before frame {frame}'
 
 
 def dropped(side: str, size: int) -> str:
-    return f'connection 1 {side}: the last {size} bytes are no whole record, and are dropped'
+    return f'connection 1 {side}: the last {size:,} bytes are no whole record, and are dropped'
 
 
 def replies_left_out(number: int) -> str:
     told = 'reply to a call that is not in the recording is' if number == 1 else 'replies to calls that are not in the recording are'
-    return f'connection 1 server: {number} {told} left out'
+    return f'connection 1 server: {number:,} {told} left out'
 
 
 def what_is_left_out(tools: Tools) -> None:
@@ -409,7 +461,7 @@ def whole_records(tools: Tools) -> None:
 
 def left_out_before(side: str, size: int) -> str:
     are = 'byte is' if size == 1 else 'bytes are'
-    return f'connection 1 {side}: the first {size} {are} left out, since no record of a whole run begins there'
+    return f'connection 1 {side}: the first {size:,} {are} left out, since no record of a whole run begins there'
 
 
 def midstream(tools: Tools) -> None:
@@ -670,9 +722,9 @@ def filters(tools: Tools) -> None:
 
 
 OF_TSHARK = [filters]
-TESTS = [memory, recordings_of_all_kinds, times, recordings_that_end_early, link_layers, internet_layers,
-         datagrams_in_fragments, segments_in_any_order, bytes_that_came_first, beginnings_and_ends, who_is_the_client, what_is_left_out,
-         bytes_are_missing, frames_that_are_cut, whole_records, midstream, midstream_after_gaps, faults_stay, embedded, search_is_linear,
+TESTS = [memory, recordings_of_all_kinds, times, times_past_63_bits, empty_gzip_members, recordings_that_end_early, link_layers,
+         internet_layers, datagrams_in_fragments, repeated_last_fragments, segments_in_any_order, bytes_that_came_first,
+         beginnings_and_ends, who_is_the_client, what_is_left_out, bytes_are_missing, frames_that_are_cut, whole_records, midstream, midstream_after_gaps, faults_stay, embedded, search_is_linear,
          files, long_streams, limits, filters]
 
 

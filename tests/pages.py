@@ -1,4 +1,5 @@
-"""How long the sentences, bullets and sections of the pages are. Code, tables and the targets of links do not count."""
+"""How long the sentences, bullets and sections of the pages are, and whether their tables are whole. Code, tables and the targets of
+links do not count as text."""
 import pathlib
 import re
 
@@ -11,6 +12,7 @@ MOST_BULLETS = 12  # in a row of bullets under one heading
 # A condition is `if`; `where` is for places.
 MOST_WHERES = 8
 BULLET = re.compile(r'\s*(?:- |\d+\. )')
+HYPHENS = re.compile(r'\|(?: ?:?-+:? ?\|)+')
 SENTENCE_ENDS = re.compile(r'(?<=[.:?!])\s+(?=[A-Z*`\[(])')
 
 
@@ -54,6 +56,34 @@ def faults(text: str) -> list[str]:
     if wheres > MOST_WHERES:
         wrong.append('`where` %d times' % wheres)
     return wrong
+
+
+def rows_outside_tables(text: str) -> list[str]:
+    """The rows that show as text, and those with more or fewer cells than their table's head. A table begins with a head and a line of
+    hyphens, and ends at an empty line."""
+    wrong: list[str] = []
+    before, cells = '', 0
+    lines = re.sub(r'^```.*?^```$', '', text, flags=re.M | re.S).splitlines()
+    for line, after in zip(lines, [*lines[1:], '']):
+        if line.startswith('|'):
+            if not before.startswith('|'):
+                cells = cells_of(line) if HYPHENS.fullmatch(after) else 0
+            if cells_of(line) != cells:
+                wrong.append('a row with %d cells in a table of %d: %s' % (cells_of(line), cells, line[:60]) if cells else
+                             'a row outside a table: ' + line[:60])
+        before = line
+    return wrong
+
+
+def cells_of(row: str) -> int:
+    """A bar after a backslash is part of its cell."""
+    return len(re.findall(r'(?<!\\)\|', row)) - 1
+
+
+def broken_tables() -> list[str]:
+    """The rows outside tables on all pages of the repository."""
+    names = [path for folder in ('', 'docs', 'crates/*', 'examples', 'tests') for path in sorted(TOP.glob(folder + '/*.md' if folder else '*.md'))]
+    return ['%s: %s' % (path.relative_to(TOP), fault) for path in names for fault in rows_outside_tables(path.read_text())]
 
 
 def long_ones() -> list[str]:

@@ -9,6 +9,7 @@ if any failed.
 import os
 import random
 import re
+import runpy
 import shutil
 import subprocess
 import sys
@@ -170,8 +171,8 @@ def lines_for_many_captures(tools: Tools) -> None:
     version = ['sh', '-c', 'parallel --version 2>&1 </dev/null']
     here = {'tools/verdicts': 'tools/verdicts --program ' + tools.program, 'host1,host2': ':', '/opt/nfs3canon': str(TOP),
             'runs/': 'examples/'}
-    last = {'tools/verdicts': ['13 ok, 7 refused, 0 errors'],
-            'parallel': ['0 ok, 1 refused, 0 errors'] * 4 + ['1 ok, 1 refused, 0 errors'] + ['3 ok, 0 refused, 0 errors'] * 3}
+    last = {'tools/verdicts': ['13 ok, 0 in part, 7 refused, 0 errors'],
+            'parallel': ['0 ok, 0 in part, 1 refused, 0 errors'] * 4 + ['1 ok, 0 in part, 1 refused, 0 errors'] + ['3 ok, 0 in part, 0 refused, 0 errors'] * 3}
     for line in lines[:2]:
         if line.startswith('parallel') and b'GNU' not in ended(version, TOP).out:
             continue
@@ -289,6 +290,34 @@ def pages_are_plain(tools: Tools) -> None:
     tools.want('pages', pages.long_ones(), [])
 
 
+def tables_are_whole(tools: Tools) -> None:
+    """No row of a table stands outside it, and each row has the cells of its head."""
+    table = '| a | b |\n|---|--:|\n| 1 | 2 |\n'
+    for text, wrong in ((table, 0), (table + '| 3 | 4 \\| 5 |\n', 0), (table + '\n| 3 | 4 |\n| 5 | 6 |\n', 2), ('| 3 | 4 |\n\n' + table, 1),
+                        (table + '| 3 |\n', 1), (table + '| 3 | 4 | 5 |\n', 1), ('```\n| 3 | 4 |\n```\n', 0), (table + 'text\n| 3 | 4 |\n', 1)):
+        tools.want(text, len(pages.rows_outside_tables(text)), wrong)
+    tools.want('tables', pages.broken_tables(), [])
+
+
+def what_is_not_proved(tools: Tools) -> None:
+    """Each row that a table of docs/PROOFS.md marks N is in its list of what is not proved."""
+    crates, _, rest = (TOP / 'docs/PROOFS.md').read_text().partition('## Not proved and not tested')
+    rows = re.findall(r'^\| ([^|:.;]*)[^|]*\|[^|]*\| N \|$', crates, re.M)
+    tools.want('rows', len(rows), 5)
+    for row in rows:
+        tools.want(row, row[0].lower() + row[1:] in rest.partition('\n## ')[0], True)
+
+
+def clauses_of_each_function(tools: Tools) -> None:
+    """tools/api gives a function its own clauses: those before its body, or before the semicolon that no bracket encloses."""
+    members = runpy.run_path(str(TOP / 'tools/api'))['members']
+    lines = ['pub trait T {', '    fn first(&self, place: &u8) -> bool;', '', '    fn second(&self) -> u8', '        ensures one { x }',
+             '        ensures two { record { a = 1; b = 2;', '          c = 3 } };', '    fn third(&self) {', '    }', '    fn fourth(',
+             '        &self,', '    ) -> u8', '        ensures { x };', '}']
+    found = [(item.name, item.clauses) for item in members('T', lines, 0, True)]
+    tools.want('clauses', found, [('T::first', []), ('T::second', ['one', 'two']), ('T::third', []), ('T::fourth', ['ensures'])])
+
+
 def pages_of_the_crates(tools: Tools) -> None:
     """Each library has a page, which quotes proved code and names files that exist; and the page of what they export is current."""
     tools.want('crates without a page', crate_pages.without_a_page(), [])
@@ -300,7 +329,8 @@ def pages_of_the_crates(tools: Tools) -> None:
 STRINGS = ('name', 'path', 'machinename', 'dirpath', 'hostname', 'directory')
 TESTS = [explained, explained_as_documented, layouts_agree_with_the_listing, commands_of_the_readme,
          lines_for_many_captures, examples_are_used, answers_of_the_examples, examples_are_made_alike, pages_agree, pages_of_the_tools,
-         what_is_believed, rooms_stand_apart, pages_are_plain, pages_of_the_crates]
+         what_is_believed, rooms_stand_apart, pages_are_plain, tables_are_whole, what_is_not_proved, clauses_of_each_function,
+         pages_of_the_crates]
 
 
 def main() -> None:

@@ -6,24 +6,28 @@
 PROGRAM is crates/nfs3canon/out/nfs3canon if none is named. What needs tshark is skipped, with a word, if tshark is not
 there. The last line is 'N passed, M failed', and the status is 1 if any failed.
 """
+import itertools
 import json
 import os
 import random
 import re
 import shutil
 import signal
+import struct
 import time
 import xml.etree.ElementTree
 
 from recordings import NANOSECONDS, fragments, interface, section, simple
 from running import begin, ended, pipe_of, try_all, words_of
 from scripts import ALL, CALLS, REPLIES, TOP, Tools, exchange, in_fragments, stream, taken_of, tried, whole
-from messages import NFS, call, success
+from messages import NFS, call, fh, hyper, opaque, success, word
 from packets import ACK, Talk, ethernet, pcap
 from nfs3tools.places import SIDES, Place
 
 VERDICTS = str(TOP / 'tools/verdicts')
 CALL, REPLY = len(stream(CALLS[:1])), len(stream(REPLIES[:1]))
+FIFTH_OF_REPLIES = -(-len(ALL[1]) // 5)
+ALLOWING: list[tuple[list[str], int]] = [([], 1), (['--allow-losses'], 0)]  # words, and the status of what is in part
 HEAD = 'connection 1 %s: client 192.0.2.7:700, server 192.0.2.1:2049, tcp.stream == 0'
 FAULTS = {'bad_client_record': ('client record 1 byte 4: BadEnum', 4), 'bad_server_record': ('server record 2 byte 0: NoCall', 13),
           'bad_status': ('server record 1 byte 24: BadEnum', 5), 'bad_bool': ('server record 1 byte 28: BadBool', 5),
@@ -150,6 +154,69 @@ def places_at_the_frames_of_tshark(tools: Tools) -> None:
             tools.want(f'connection {connection.number} {side} record {number} byte {byte}', found, [wanted])
 
 
+def parts_of_a_recording(tools: Tools) -> None:
+    """A pattern that is the name of no file stands for the parts of one recording, in the order of the times of their first frames, for
+    each tool. A frame has its number in the whole, and `where` has that in the part, too."""
+    frames, head = whole() + whole(port=701), pcap([])
+    records = pcap(frames)[24:]
+    ends = list(itertools.accumulate((16 + len(frame) for frame in frames), initial=0))
+    # As `tcpdump -W 3` names them after it began anew: the first frames are in the second file.
+    for name, low, high in (('run.pcap1', 0, 6), ('run.pcap2', 6, 20), ('run.pcap10', 20, 21), ('run.pcap0', 21, 30)):
+        tools.write(name, head + records[ends[low]:ends[high]])
+    tools.write('whole.pcap', pcap(frames))
+    status, rows, sums, error = verdicts(tools, 'run.pcap*')
+    tools.want('verdicts', (status, [row[-3:] for row in rows], sums, error),
+               (0, [['39', '39', 'ok']] * 2, '2 ok, 0 in part, 0 refused, 0 errors', ''))
+    for name, recording in (('of_parts', 'run.pcap*'), ('of_whole', 'whole.pcap')):
+        tools.want('from_pcap', tools.tool('from_pcap', recording, name)[:2], (0, ''))
+    tools.want('one capture', tools.read('of_parts'), tools.read('of_whole'))
+    answer = tools.tool('compare', '--program', tools.program, 'run.pcap*', 'whole.pcap')
+    tools.want('compare', (answer[0], answer[1].splitlines()[1:], answer[2]), (0, ['same: 78 calls in 2 connections'], ''))
+    place, time = 'connection 1 client record 8', '1970-01-01 00:00:01.0000%02d000 UTC'
+    tools.want('where', tools.tool('where', 'run.pcap*', place)[1].splitlines()[1:], [
+        'frame 4, ' + time % 3, 'frame 5, ' + time % 4, 'run.pcap1: frame.number in {4..5}'])
+    tools.want('where, in two parts', tools.tool('where', 'run.pcap*', 'connection 2 client record 16')[1].splitlines()[1:], [
+        'frame 20, ' + time % 19, 'frame 21, ' + time % 20, 'run.pcap2: frame.number == 14', 'run.pcap10: frame.number == 1'])
+    tools.want('OUT is a part', tools.tool('from_pcap', 'run.pcap*', 'run.pcap10'), (2, '', 'from_pcap: OUT is the recording\n'))
+    tools.write('run.pcap*', pcap(whole()))
+    tools.want('the name of a file', len(verdicts(tools, 'run.pcap*')[1]), 1)
+    os.remove(tools.path('run.pcap*'))
+    parts_that_are_none(tools)
+
+
+def parts_that_are_none(tools: Tools) -> None:
+    """After the parts of `parts_of_a_recording`: a part alone, times that are equal, and files that are no parts."""
+    status, _, _, error = verdicts(tools, 'run.pcap10')
+    tools.want('a part alone', (status, error.splitlines()[0]), (1, (
+        'run.pcap10: it begins in the middle of 1 connection: if it is a part of a recording, as of `tcpdump -C`, name all parts in its '
+        "place, as 'run.pcap*'")))
+    for number, frame in enumerate(whole()):  # all at one time
+        tools.write(f'equal{number or ""}', pcap([frame]))
+    tools.want('equal times', [row[-1] for row in verdicts(tools, 'equal*')[1]], ['ok'])
+    tools.write('run.pcap3', pcap(whole(port=702))[:-3])
+    tools.want('a part that is cut', verdicts(tools, 'run.pcap[013]')[3].splitlines()[0],
+               'run.pcap[013]: run.pcap3: the recording is cut short in the middle of frame 15')
+    tools.write('run.pcap.txt', b'no recording')
+    tools.want('no recording', verdicts(tools, 'run.pcap*')[:2], (1, [['run.pcap*', *['-'] * 5, 'run.pcap.txt: it is neither pcap nor pcapng']]))
+    tools.want('no file', verdicts(tools, 'absent*')[1][0][-1], 'absent*: No such file or directory')
+
+
+def recordings_that_are_compressed(tools: Tools) -> None:
+    """What to type names the tool that was called."""
+    tools.write('a.xz', b'\xfd7zXZ\0\0')
+    tools.write('a.zst', b'\x28\xb5\x2f\xfd')
+    told = ': it is compressed by %s: decompress it first, as in `%s`'
+    for words, line in (
+            (('from_pcap', 'a.xz', 'out'), told % ('xz', 'xz -dc FILE | tools/from_pcap - OUT')),
+            (('where', 'a.zst', 'file 20'), told % ('zstd', 'zstd -dc FILE | tools/where - PLACE')),
+            (('compare', '--program', tools.program, 'a.zst', 'a.xz'), told % ('zstd', 'tools/compare <(zstd -dc A) <(zstd -dc B)'))):
+        tools.want(words[0], tools.tool(*words), (2, '', words[0] + line + '\n'))
+    tools.want('verdicts', ': ' + verdicts(tools, 'a.zst')[1][0][-1], told % ('zstd', 'zstd -dc FILE | tools/verdicts -'))
+    os.symlink(TOP / 'tools/where', tools.path('nfs3-where'))
+    done = ended([tools.path('nfs3-where'), 'a.xz', 'file 20'], tools.folder)
+    tools.want('installed', '`xz -dc FILE | nfs3-where - PLACE`' in done.error.decode(), True)
+
+
 # --- verdicts ---
 
 def verdicts(tools: Tools, *words: str, stdin: bytes | None = None) -> tuple[int, list[list[str]], str, str]:
@@ -185,8 +252,8 @@ def rows_of_all_kinds(tools: Tools) -> None:
               ['a.pcap', '2', '192.0.2.7:701', '192.0.2.1:2049', '2', '3', fault % 20],
               ['a.pcap', '3', '192.0.2.7:702', '192.0.2.1:2049', '1', '1', 'ok'],
               ['a.pcap', '4', '192.0.2.7:703', '192.0.2.1:2049', '2', '3', fault % 34]]
-    tools.want('four connections', verdicts(tools, 'a.pcap'), (1, wanted, '2 ok, 2 refused, 0 errors', ''))
-    tools.want('one at a time', verdicts(tools, '-j', '1', 'a.pcap'), (1, wanted, '2 ok, 2 refused, 0 errors', ''))
+    tools.want('four connections', verdicts(tools, 'a.pcap'), (1, wanted, '2 ok, 0 in part, 2 refused, 0 errors', ''))
+    tools.want('one at a time', verdicts(tools, '-j', '1', 'a.pcap'), (1, wanted, '2 ok, 0 in part, 2 refused, 0 errors', ''))
     tools.want('standard input', verdicts(tools, '-', stdin=pcap(frames))[1], [['-', *row[1:]] for row in wanted])
     tools.write('b.pcap', pcap(whole()))
     shutil.copy(TOP / 'examples/two_connections.nfs3cap', tools.path('c.nfs3cap'))
@@ -194,7 +261,7 @@ def rows_of_all_kinds(tools: Tools) -> None:
     status, rows, last, error = verdicts(tools, 'b.pcap', 'c.nfs3cap', 'd.nfs3cap')
     tools.want('all ok', (status, [[row[0], *row[-3:]] for row in rows], last, error),
                (0, [['b.pcap', '39', '39', 'ok'], *([['c.nfs3cap', '1', '1', 'ok']] * 2), ['d.nfs3cap', '7', '7', 'ok'],
-                    ['d.nfs3cap', '51', '51', 'ok'], ['d.nfs3cap', '2', '2', 'ok']], '6 ok, 0 refused, 0 errors', ''))
+                    ['d.nfs3cap', '51', '51', 'ok'], ['d.nfs3cap', '2', '2', 'ok']], '6 ok, 0 in part, 0 refused, 0 errors', ''))
     rows_of_files_that_are_not_whole(tools)
     tools.want('no program', tools.tool('verdicts', '--program', './absent', 'b.pcap'), (2, '', 'verdicts: ./absent is missing\n'))
     tools.want('no processes', tools.tool('verdicts', '-j', '0', 'b.pcap')[0], 2)
@@ -212,7 +279,7 @@ def rows_of_files_that_are_not_whole(tools: Tools) -> None:
          [first, ['2', '-', '-', '1', '2', 'server record 2 byte 0: NoCall']]),
         ('text', b'no recording', [[*as_a_whole, 'it is neither pcap nor pcapng']]),
         ('xz', b'\xfd7zXZ\0\0',
-         [[*as_a_whole, 'it is compressed by xz: decompress it first, as in `xz -dc FILE | tools/from_pcap - OUT`']]),
+         [[*as_a_whole, 'it is compressed by xz: decompress it first, as in `xz -dc FILE | tools/verdicts -`']]),
         ('damaged', pcap(whole()) + b'\xff' * 16,
          [['1', '192.0.2.7:700', '192.0.2.1:2049', '39', '39', 'ok'],
           [*as_a_whole, 'the recording is damaged after frame 15: frame 16 claims 4294967295 bytes']]),
@@ -227,17 +294,88 @@ def rows_of_files_that_are_not_whole(tools: Tools) -> None:
 
 
 def what_is_told(tools: Tools) -> None:
-    """Losses are told and are no fault; what is left out is skipped."""
+    """Losses are told, and what is left out is skipped."""
     frames = whole()
     tools.write('a.pcap', pcap(frames[:4] + frames[5:] + Talk(800).opened()))
     kept = 344 // CALL
     status, rows, last, error = verdicts(tools, 'a.pcap')
-    tools.want('a loss', (status, [row[-3:] for row in rows], last), (0, [[str(kept), str(kept), 'ok']], '1 ok, 0 refused, 0 errors'))
+    tools.want('a loss', (status, [row[-3:] for row in rows], last),
+               (1, [[str(kept), str(kept), f'ok in part: {kept} calls, 344 bytes missing']], '0 ok, 1 in part, 0 refused, 0 errors'))
     tools.want('told', error.splitlines()[0], 'a.pcap: connection 1: client: 344 bytes are missing from the recording after the first '
                '344, before frame 5; the stream ends there')
     tools.want('left out', error.splitlines()[-1], 'a.pcap: left out: 192.0.2.7:800 and 192.0.2.1:2049: no payload')
     status, rows, last, error = verdicts(tools, '--midstream', 'a.pcap')
-    tools.want('--midstream', (status, int(rows[0][4]) > 3 * kept), (0, True))
+    tools.want('--midstream', (status, int(rows[0][4]) > 3 * kept), (1, True))
+
+
+def ok_in_part(tools: Tools) -> None:
+    """A connection of which bytes are missing is counted apart, with the calls that were judged, and --allow-losses takes it as 0."""
+    good, one, last = whole(port=701), whole(), Talk(first=((1 << 32) - 9, 5))
+    large = stream([call(1, NFS, 3, 0)]) + stream([call(2, NFS, 3, 7, fh(b'abcd') + hyper(0) + word(27_000) + word(0) + opaque(bytes(27_000)))])
+    long = [*last.opened(), last.sent(0, large), last.sent(1, stream(REPLIES[:1])), *last.closed()]
+    lost_first, lost_last = one[:3] + one[4:], one[:12] + one[-1:]
+    calls, replies = 344 // CALL, 4 * FIFTH_OF_REPLIES // REPLY
+    cases: list[tuple[str, bytes, list[str], str, tuple[int, int]]] = [
+        ('a frame', pcap(one[:4] + one[5:]), [], f'ok in part: {calls} calls, 344 bytes missing', (calls, calls)),
+        # The bytes 344 to 687 have a part of each call from the 8th to the 16th.
+        ('a frame, gone on after', pcap(one[:4] + one[5:]), ['--midstream'], 'ok in part: 30 calls, 344 bytes missing', (30, 30)),
+        ('the last reply, as FIN shows', pcap(lost_last), [],
+         f'ok in part: 39 calls, {len(ALL[1]) - 4 * FIFTH_OF_REPLIES} bytes missing', (39, replies)),
+        # A frame of 1,000 bytes has 946 of its segment, and the call after the first 44 has 72 bytes before its data.
+        ('a frame that is cut', pcap(long, 1_000), [], f'ok in part: 1 call, {44 + 72 + 27_000 - 946:,} bytes missing', (1, 1))]
+    for what, recording, options, verdict, numbers in cases:
+        tools.write('a.pcap', pcap(good) + recording[24:])
+        for words, status in ALLOWING:
+            found, rows, sums, _ = verdicts(tools, *options, *words, 'a.pcap')
+            tools.want(what, (found, [row[1] for row in rows], [row[-1] for row in rows], sums),
+                       (status, ['1', '2'], ['ok', verdict], '1 ok, 1 in part, 0 refused, 0 errors'))
+            tools.want(what + ', its numbers', rows[1][-3:-1], [str(number) for number in numbers])
+    tools.write('a.pcap', pcap(good + lost_first))
+    why = '192.0.2.7:700 and 192.0.2.1:2049: its first bytes are missing from the recording'
+    for words, status in ALLOWING:
+        found, rows, sums, _ = verdicts(tools, *words, 'a.pcap')
+        tools.want('the first bytes', (found, [row[-1] for row in rows], sums),
+                   (status, ['ok', 'left out: ' + why], '1 ok, 1 in part, 0 refused, 0 errors'))
+    wrong = (TOP / 'examples/bad_bool.pcap').read_bytes()
+    tools.write('a.pcap', pcap(one[:4] + one[5:]))
+    tools.write('b.pcap', wrong)
+    tools.want('a fault beside it', verdicts(tools, '--allow-losses', 'a.pcap', 'b.pcap')[::2], (1, '0 ok, 1 in part, 1 refused, 0 errors'))
+
+
+def ok_in_part_in_files(tools: Tools) -> None:
+    """JUnit has a failure of a type of its own, or a case that passed and says it, and the number; JSON has a state and the number of bytes."""
+    tools.write('a.pcap', pcap(whole(port=701) + whole()[:4] + whole()[5:]))
+    line = f'ok in part: {344 // CALL} calls, 344 bytes missing'
+    for words, failures in ALLOWING:
+        verdicts(tools, '--junit', 'x.xml', '--json', 'x.json', *words, 'a.pcap')
+        suite = xml.etree.ElementTree.fromstring((tools.read('x.xml') or b'').decode())[0]
+        tools.want('the suite', [suite.get(key) for key in ('tests', 'failures', 'errors', 'skipped')], ['2', str(failures), '0', '0'])
+        tools.want('properties', [(item.get('name'), item.get('value')) for item in suite.iter('property')], [('in part', '1')])
+        first, second = suite.iter('testcase')
+        tools.want('the cases', ([item.tag for item in first], [item.tag for item in second]), ([], ['failure'] * failures + ['system-out']))
+        tools.want('the type', [(item.get('type'), item.get('message')) for item in second if item.tag == 'failure'],
+                   [('in part', line)] if not words else [])
+        tools.want('what the case says', (second.findtext('system-out') or '').partition('\n')[0], line)
+        rows = json.loads(tools.read('x.json') or b'[]')
+        tools.want('JSON', [(row['state'], row['message'], row['missing']) for row in rows], [('ok', 'ok', 0), ('in part', line, 344)])
+
+
+def notes_on_a_recording(tools: Tools) -> None:
+    """A note on a whole recording is none of its first connection: a line, a row of JSON, and output of the suite."""
+    frames = whole(port=701) + whole()
+    tools.write('a.pcap', pcap(frames) + struct.pack('<4I', 1, 0, 9, 9) + b'x')
+    tools.write('b.pcap', pcap(whole(), 154))
+    cut, told = 'the recording is cut short in the middle of frame 31', '10 frames were recorded in part only (the snap length, '
+    told += 'as of `tcpdump -s`); what they lack is missing'
+    status, rows, _, error = verdicts(tools, '--json', 'x.json', '--junit', 'x.xml', 'a.pcap')
+    tools.want('a cut', (status, [row[-1] for row in rows], error), (0, ['ok', 'ok'], f'a.pcap: {cut}\n'))
+    found = [(row['connection'], row['state'], row['message'], row['notes']) for row in json.loads(tools.read('x.json') or b'[]')]
+    tools.want('JSON', found, [(None, 'note', cut, []), (1, 'ok', 'ok', []), (2, 'ok', 'ok', [])])
+    suite = xml.etree.ElementTree.fromstring((tools.read('x.xml') or b'').decode())[0]
+    tools.want('JUnit', (suite.get('tests'), suite.findtext('system-out'), [len(case) for case in suite.iter('testcase')]),
+               ('2', f'a.pcap: {cut}', [0, 0]))
+    error = verdicts(tools, 'a.pcap', 'b.pcap')[3]
+    tools.want('two recordings', [line for line in error.splitlines() if ' connection ' not in line], [f'a.pcap: {cut}', f'b.pcap: {told}'])
 
 
 def files_for_others(tools: Tools) -> None:
@@ -251,25 +389,26 @@ def files_for_others(tools: Tools) -> None:
     suites = xml.etree.ElementTree.fromstring((tools.read('x.xml') or b'').decode())
     suite = suites[0]
     tools.want('the suite', [suite.get(key) for key in ('name', 'tests', 'failures', 'errors', 'skipped')],
-               ['nfs3canon', '5', '1', '1', '1'])
+               ['nfs3canon', '5', '2', '1', '1'])
+    in_part = f'ok in part: {344 // CALL} calls, 344 bytes missing'
     escaped = 'a\\x01\\n<&"]]>\\udcff.pcap'
     cases = [(case.get('classname'), case.get('name'), [(item.tag, item.get('message')) for item in case if item.tag != 'system-out'])
-             for case in suite]
+             for case in suite.iter('testcase')]
     ends = '192.0.2.7:%d to 192.0.2.1:2049'
     tools.want('the cases', cases, [
         (escaped, 'connection 1 ' + ends % 700, []),
         (escaped, 'connection 2 ' + ends % 701, [('failure', 'server record 2 byte 0: NoCall, frame 13')]),
-        ('b.pcap', 'connection 1 ' + ends % 700, []),
+        ('b.pcap', 'connection 1 ' + ends % 700, [('failure', in_part)]),
         ('b.pcap', '192.0.2.7:800 and 192.0.2.1:2049: no payload', [('skipped', '192.0.2.7:800 and 192.0.2.1:2049: no payload')]),
         ('c', 'as a whole', [('error', 'c: No such file or directory')])])
-    told = [item.text or '' for case in suite for item in case if item.tag == 'system-out']
-    tools.want('what is told', [text.partition('\n')[0] for text in told],
-               ['client: 344 bytes are missing from the recording after the first 344, before frame 5; the stream ends there'])
+    told = [item.text or '' for case in suite.iter('testcase') for item in case if item.tag == 'system-out']
+    tools.want('what is told', [text.splitlines()[:2] for text in told],
+               [[in_part, 'client: 344 bytes are missing from the recording after the first 344, before frame 5; the stream ends there']])
     rows = json.loads(tools.read('x.json') or b'[]')
     tools.want('JSON', [(row['state'], row['connection'], row['tcp_stream'], row['place'], row['reason'], row['frames']) for row in rows], [
         ('ok', 1, 0, None, None, []),
         ('refused', 2, 1, 'server record 2 byte 0', 'NoCall', [{'number': 13, 'time': 1_000_012_000}]),
-        ('ok', 1, 0, None, None, []), ('skipped', None, None, None, None, []), ('error', None, None, None, None, [])])
+        ('in part', 1, 0, None, None, []), ('skipped', None, None, None, None, []), ('error', None, None, None, None, [])])
     status, _, _ = tools.tool('verdicts', '--program', tools.program, '--junit', 'absent/x', 'b.pcap')
     tools.want('a file that cannot be written', status, 3)
 
@@ -296,7 +435,8 @@ def take_interrupts() -> None:
 
 
 OF_TSHARK = [places_at_the_frames_of_tshark]
-TESTS = [places, places_of_other_recordings, places_at_the_frames_of_tshark, faults_with_their_frames, rows_of_all_kinds, what_is_told,
+TESTS = [places, places_of_other_recordings, parts_of_a_recording, recordings_that_are_compressed, places_at_the_frames_of_tshark,
+         faults_with_their_frames, rows_of_all_kinds, what_is_told, ok_in_part, ok_in_part_in_files, notes_on_a_recording,
          files_for_others, interrupted]
 
 

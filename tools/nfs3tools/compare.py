@@ -2,18 +2,21 @@
 
     tools/compare [--mask CLASS,..] [--all] [--html FILE] [--midstream] [--whole-records] A B
 
-A and B are recordings (pcap, pcapng) or captures. Values that each run has its own of are masked first: of the classes below,
-those marked with a star by default. What is masked is always printed. Then `nfs3canon same` compares the masked captures, up to a
-renaming of xids, file handles and write verifiers: `same` is its word. If they differ, calls are brought together by connection,
-procedure and arguments, and each difference is printed as `diff` would: which call, which field, both values, and the frames.
+A and B are recordings (pcap, pcapng; a pattern in quotes names the parts of one) or captures. Values that each run has its own
+of are masked first: of the classes below, those marked with a star by default. What is masked is always printed. Then
+`nfs3canon same` compares the masked captures, up to a renaming of xids, file handles and write verifiers: `same` is its word, and
+how many calls were compared follows it. If bytes are missing from a recording, equal runs are `same in part`, and what is missing
+is told. If the runs differ, calls are brought together by connection, procedure and arguments, and each difference is printed as
+`diff` would: which call, which field, both values, and the frames.
 
 --mask times,ids masks these classes alone, --mask +owners one more, --mask=-times one less, --mask none nothing; NAME=zero and
 NAME=number say how.
 
-The status is 0 if the runs are the same under the mask, 1 if they differ, 2 if a recording, a capture or the command line is
-refused, 3 if a file or memory failed.
+The status is 0 if the runs are the same under the mask (with --allow-losses also in part), 1 if they differ or are the same in
+part, 2 if a recording, a capture or the command line is refused, 3 if a file or memory failed.
 """
 import argparse
+import re
 import subprocess
 import sys
 import tempfile
@@ -26,12 +29,14 @@ from .classes import CLASSES, Mask, default_mask, mask_of, told
 from .comparing import Compared, Run, compare
 from .listings import Message
 from .masking import write_masked
-from .messages import FAILED, REFUSED, add_options, options_of, parser_of
+from .messages import FAILED, REFUSED, add_losses, add_options, options_of, parser_of
 from .places import Place, parse_fault
 from .programs import program_path, run_program
+from .selection import count
 from .taken import Taken, take
 
 SAME, DIFFERENT = range(2)
+COUNTS = re.compile(r'ok connections=(\d+) calls=(\d+) ')
 FINDINGS_AT_MOST = 20
 
 
@@ -56,6 +61,7 @@ def words_of(words: list[str]) -> argparse.Namespace:
     parser.add_argument('--all', action='store_true', help=f'prints all findings, not the first {FINDINGS_AT_MOST}')
     parser.add_argument('--html', metavar='FILE', help='writes a page with both runs side by side')
     add_options(parser)
+    add_losses(parser, 'same in part')
     parser.add_argument('--program', help='the program, if it is not the one of this folder')
     parser.add_argument('first', metavar='A')
     parser.add_argument('second', metavar='B')
@@ -70,11 +76,12 @@ def tell(name: str, taken: Taken) -> None:
         print(f'{name}: {line}', file=sys.stderr)
 
 
-def checked(program: str, taken: Taken, capture: str, name: str) -> None:
-    """Ends with the fault, and its frame, if the capture is refused."""
+def checked(program: str, taken: Taken, capture: str, name: str) -> str:
+    """Returns how many calls there are. Ends with the fault, and its frame, if the capture is refused."""
     answer = run_program(program, ['check', capture])
-    if answer.status == 0:
-        return
+    counts = COUNTS.match(answer.out)
+    if answer.status == 0 and counts:
+        return f'{count(int(counts[2]), "call")} in {count(int(counts[1]), "connection")}'
     line = answer.error.strip()
     fault = parse_fault(line)
     frames = taken.frames(fault.place)[:1] if fault and isinstance(fault.place, Place) else []
@@ -113,30 +120,47 @@ def write_page(path: str, compared: Compared, first: Run, second: Run, verdict: 
             file.write(piece)
 
 
+def losses_of(first: Taken, second: Taken) -> str:
+    """What is missing from both runs, or nothing."""
+    lost = (('first', first.missing), ('second', second.missing))
+    return ', '.join(f'{count(missing, "byte")} missing from the {name} run' for name, missing in lost if missing)
+
+
+def line_of(verdict: str, compared: str, losses: str) -> str:
+    """What is printed of the verdict: how much was compared, and in which part."""
+    if verdict == 'same':
+        return f'same in part: {compared}, {losses}' if losses else f'same: {compared}'
+    return f'{verdict}\ncompared in part: {losses}' if losses else verdict
+
+
 def compared_runs(words: argparse.Namespace, stack: ExitStack) -> int:
     program = program_path(words.program)
     folder = Path(stack.enter_context(tempfile.TemporaryDirectory(prefix='nfs3canon')))
     names = [words.first, words.second]
     runs = [stack.enter_context(take(name, options_of(words))) for name in names]
     captures = [str(folder / letter) for letter in 'ab']
+    sizes = list[str]()
     for taken, capture, name in zip(runs, captures, names):
         taken.write_capture(capture)
         tell(name, taken)
-        checked(program, taken, capture, name)
+        sizes.append(checked(program, taken, capture, name))
     print(f'masked: {told(words.mask)}', flush=True)
     verdict = verdict_of(program, folder, captures, words.mask)
-    print(verdict, flush=True)
+    losses = losses_of(*runs)
+    line = line_of(verdict, sizes[0], losses)
+    print(line, flush=True)
+    status = DIFFERENT if verdict != 'same' or losses and not words.allow_losses else SAME
     if verdict == 'same' and not words.html:
-        return SAME
+        return status
     first, second = (run_of(program, taken, capture, name) for taken, capture, name in zip(runs, captures, names))
     compared = compare(first, second, words.mask)
     if words.html:
-        write_page(words.html, compared, first, second, verdict, told(words.mask))
+        write_page(words.html, compared, first, second, line, told(words.mask))
     if verdict == 'same':
-        return SAME
+        return status
     for line in telling.of_compared(compared, first.frames, second.frames, None if words.all else FINDINGS_AT_MOST):
         print(line)
-    return DIFFERENT
+    return status
 
 
 def main(words: list[str]) -> int:

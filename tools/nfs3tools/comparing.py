@@ -1,4 +1,5 @@
 """Two runs compared: what the program says of their masked captures, and what differs."""
+import bisect
 from collections import Counter
 from collections.abc import Callable, Iterable, Iterator, Sequence
 from dataclasses import dataclass, field
@@ -170,6 +171,6 @@ def side_by_side(first: Conversation, second: Conversation, match: Matched) -> l
     rows += [(at, first.exchanges[at], None) for at in match.only_first]
     inverse = sorted((to, at) for at, to in match.equal + match.changed)
     for to in match.only_second:
-        before = [at for other, at in inverse if other < to]
-        rows.append((before[-1] + 0.5 if before else -0.5, None, second.exchanges[to]))
+        before = bisect.bisect_left(inverse, (to, 0))
+        rows.append((inverse[before - 1][1] + 0.5 if before else -0.5, None, second.exchanges[to]))
     return [(one, other) for _, one, other in sorted(rows, key=lambda row: row[0])]

@@ -7,6 +7,11 @@ RECORDING is a file of pcap or pcapng, which may be gzipped, or `-` for standard
     tcpdump -w - port 2049 | tools/from_pcap - OUT
     xz -dc RECORDING.xz | tools/from_pcap - OUT
 
+A RECORDING that is the name of no file is a pattern, whose files are the parts of one recording, as `tcpdump -C` and `-W` write
+them. They are read in the order of the times of their first frames, and frames are counted through all of them:
+
+    tools/from_pcap 'run.pcap*' OUT
+
 All that is told goes to standard error: a line for each TCP connection that is taken, with the reason why one of its ends is
 taken for the client (it sent the SYN; else, with --midstream, calls come from it; else the other has the port 2049, 20048 or
 111; else it sent the first payload), and a line for each that is left out, with the reason.
@@ -30,6 +35,7 @@ import os
 import sys
 
 from .messages import add_options, ended, options_of, parser_of, tell
+from .parts import files_of
 from .taken import NotTaken, take
 
 NOTHING_TAKEN = 1
@@ -42,7 +48,7 @@ def main(words: list[str]) -> int:
     add_options(parser)
     parser.add_argument('--program', help=argparse.SUPPRESS)  # which packed the streams once; scripts may name it still
     chosen = parser.parse_args(words)
-    if is_same_file(chosen.recording, chosen.out):
+    if any(is_same_file(file, chosen.out) for file in files_of(chosen.recording)):
         raise NotTaken('OUT is the recording')
     with take(chosen.recording, options_of(chosen), frames=False) as taken:
         if not taken.is_recording:

@@ -1,6 +1,6 @@
 """The listing of a capture, as `nfs3canon show` prints it, read again: messages, and the exchanges that they make up."""
 import re
-from collections import defaultdict
+from collections import defaultdict, deque
 from collections.abc import Iterable, Iterator
 from dataclasses import dataclass, field
 from typing import NamedTuple
@@ -69,14 +69,17 @@ def exchanges_of(messages: Iterable[Message]) -> dict[int, list[Exchange]]:
     """Returns the exchanges of each connection, in the order of their calls. If several calls have one xid, its replies are
     given to them in their order, and what is left to the last of them."""
     exchanges: dict[int, list[Exchange]] = defaultdict(list)
-    waiting: dict[tuple[int, int], list[Exchange]] = defaultdict(list)
+    waiting: dict[tuple[int, int], deque[Exchange]] = defaultdict(deque)
     for message in messages:
-        key = message.connection, message.xid
+        owners = waiting[message.connection, message.xid]
         if message.is_call:
             exchange = Exchange(message)
             exchanges[message.connection].append(exchange)
-            waiting[key].append(exchange)
+            if len(owners) == 1 and owners[0].replies:
+                owners.pop()
+            owners.append(exchange)
         else:
-            owners = waiting[key]
-            next((owner for owner in owners if not owner.replies), owners[-1]).replies.append(message)
+            owners[0].replies.append(message)
+            if len(owners) > 1:
+                owners.popleft()
     return dict(exchanges)

@@ -14,6 +14,10 @@ from .version import version
 REFUSED, FAILED, INTERRUPTED = 2, 3, 130
 
 
+# How a tool reads a recording from standard input.
+READING = {'from_pcap': '- OUT', 'where': '- PLACE', 'verdicts': '-'}
+
+
 def run(name: str, main: typing.Callable[[list[str]], int]) -> int:
     """Runs a tool with the words of its command line, and returns its status: 2 if an input is refused, 3 if a file, a
     device or memory fails."""
@@ -22,7 +26,9 @@ def run(name: str, main: typing.Callable[[list[str]], int]) -> int:
         status = main(sys.argv[1:])
         sys.stdout.flush()
         return status
-    except (NotTaken, NoPlace, Missing, FilterRefused) as refused:
+    except NotTaken as refused:
+        return ended(name, advice_on(refused, name), REFUSED)
+    except (NoPlace, Missing, FilterRefused) as refused:
         return ended(name, str(refused), REFUSED)
     except BrokenPipeError:
         os.dup2(os.open(os.devnull, os.O_WRONLY), sys.stdout.fileno())
@@ -33,6 +39,16 @@ def run(name: str, main: typing.Callable[[list[str]], int]) -> int:
         return ended(name, 'out of memory', FAILED)
     except KeyboardInterrupt:
         return INTERRUPTED
+
+
+def advice_on(refused: NotTaken, name: str) -> str:
+    """Why a file is not taken, and what to type if it is compressed: for the tool that was called, by the name by which it was."""
+    if not refused.packed_by:
+        return str(refused)
+    called, unpack = os.path.basename(sys.argv[0]), f'{refused.packed_by} -dc'
+    tool = called if called.startswith('nfs3-') else f'tools/{name}'
+    line = f'{unpack} FILE | {tool} {READING[name]}' if name in READING else f'{tool} <({unpack} A) <({unpack} B)'
+    return f'{refused}: decompress it first, as in `{line}`'
 
 
 def interrupted(*_: object) -> None:
@@ -63,6 +79,11 @@ def add_options(parser: argparse.ArgumentParser) -> None:
     parser.add_argument('--midstream', action='store_true',
                         help='takes connections whose beginning or end was not recorded, and goes on after missing bytes')
     parser.add_argument('--whole-records', action='store_true', help='ends each stream after its last whole record')
+
+
+def add_losses(parser: argparse.ArgumentParser, words: str) -> None:
+    """The option that takes runs in part as whole ones."""
+    parser.add_argument('--allow-losses', action='store_true', help=f'takes `{words}` as the status 0')
 
 
 def options_of(chosen: argparse.Namespace) -> Options:

@@ -61,7 +61,7 @@ def rows(compared: Compared, first: Run, second: Run) -> Iterator[str]:
 
 def page(compared: Compared, first: Run, second: Run, verdict: str, mask: str) -> Iterator[str]:
     """The page, in pieces: the verdict, what is masked, and both runs side by side."""
-    is_same = verdict == 'same'
+    is_same = verdict.startswith('same')
     yield f'<!DOCTYPE html><html lang=en><meta charset=utf-8><title>{escape(first.name)} and {escape(second.name)}</title>'
     yield f'<style>{STYLE}</style><h1 class={"same" if is_same else "differ"}>{escape(verdict)}</h1>'
     yield f'<p>Masked: <code>{escape(mask)}</code>. Xids, file handles and write verifiers are renamed.</p>'

@@ -6,6 +6,7 @@ import typing
 import zlib
 
 READ_AT_ONCE = 1 << 20
+FIRST_STEP = 1 << 9  # compressed bytes of a member of gzip that are decompressed at first
 LONGEST = 1 << 24  # bytes of a frame or block; a greater length is damage, and is never allocated
 NANOSECONDS = 1_000_000_000
 
@@ -19,7 +20,11 @@ TIME_UNIT, TIME_OFFSET = 9, 14  # options of an interface: if_tsresol, if_tsoffs
 
 
 class NoRecording(Exception):
-    """The file is neither pcap nor pcapng."""
+    """The file is neither pcap nor pcapng. `packed_by` is the program that compressed it, if that is known."""
+
+    def __init__(self, text: str, packed_by: str | None = None) -> None:
+        super().__init__(text)
+        self.packed_by = packed_by
 
 
 class Damaged(Exception):
@@ -47,31 +52,43 @@ class Inflated:
     """The bytes of a gzipped file, decompressed block by block. What stands before damage is read."""
 
     def __init__(self, file: Readable, begun: bytes) -> None:
-        self.file, self.packed, self.inflate = file, begun, zlib.decompressobj(31)
+        self.file, self.packed, self.at = file, begun, 0
+        self.begin_member()
         self.damage: Damaged | None = None
+
+    def begin_member(self) -> None:
+        """A member gets few bytes at first, and then more: what comes after its end is copied for nothing."""
+        self.inflate, self.step = zlib.decompressobj(31), FIRST_STEP
 
     def read(self, size: int, /) -> bytes:
         while self.damage is None:
-            self.packed = self.packed or self.file.read(READ_AT_ONCE)
             if self.inflate.eof:
-                if not self.packed.startswith(GZIP):
+                if self.peek(len(GZIP)) != GZIP:
                     return b''
-                self.inflate = zlib.decompressobj(31)
-            if not self.packed:
+                self.begin_member()
+            piece = self.peek(1) and self.packed[self.at:self.at + self.step]
+            if not piece:
                 self.damage = Damaged('the compressed file is cut short')
-            elif content := self.inflated(size):
+            elif content := self.inflated(piece, size):
                 return content
         raise self.damage
 
-    def inflated(self, size: int) -> bytes:
+    def peek(self, size: int) -> bytes:
+        """The next compressed bytes: `size` of them, or fewer at the end."""
+        while len(self.packed) < self.at + size and (more := self.file.read(READ_AT_ONCE)):
+            self.packed, self.at = self.packed[self.at:] + more, 0
+        return self.packed[self.at:self.at + size]
+
+    def inflated(self, piece: bytes, size: int) -> bytes:
         """The next bytes, of which there may be none yet; of damaged ones those before the damage."""
         before = self.inflate.copy()
         try:
-            content = self.inflate.decompress(self.packed, size)
+            content = self.inflate.decompress(piece, size)
         except zlib.error as error:
             self.damage = Damaged(f'the compressed file is damaged: {error}')
-            return byte_by_byte(before, self.packed)
-        self.packed = self.inflate.unused_data if self.inflate.eof else self.inflate.unconsumed_tail
+            return byte_by_byte(before, piece)
+        self.at += len(piece) - len(self.inflate.unused_data or self.inflate.unconsumed_tail)
+        self.step = min(2 * self.step, READ_AT_ONCE)
         return content
 
 
@@ -141,7 +158,9 @@ class Interface(typing.NamedTuple):
     offset: int
 
     def time(self, high: int, low: int) -> int:
-        return (high << 32 | low) * NANOSECONDS // self.units + self.offset
+        """Nanoseconds since 1970. A number that does not fit 63 bits is no time."""
+        time = (high << 32 | low) * NANOSECONDS // self.units + self.offset
+        return 0 if abs(time) >> 63 else time
 
 
 class Recording:
@@ -154,7 +173,7 @@ class Recording:
         self.count = 0
         self.magic = self.source.peek(6)
         if self.magic[:4] not in PCAP and self.magic[:4] != SECTION:
-            raise NoRecording(named(self.magic))
+            raise no_recording(self.magic)
 
     def frames(self) -> typing.Iterator[Frame]:
         """Iterates over the frames, up to the end or to the first damage."""
@@ -240,12 +259,12 @@ class Recording:
         return block and block[8:-4]
 
 
-def named(magic: bytes) -> str:
+def no_recording(magic: bytes) -> NoRecording:
     """What is said of a file that is no recording."""
     for begin, packer in PACKED_BY.items():
         if magic.startswith(begin):
-            return f'it is compressed by {packer}: decompress it first, as in `{packer} -dc FILE | tools/from_pcap - OUT`'
-    return 'it is neither pcap nor pcapng' if magic else 'it is empty'
+            return NoRecording(f'it is compressed by {packer}', packer)
+    return NoRecording('it is neither pcap nor pcapng' if magic else 'it is empty')
 
 
 def order_of(head: bytes) -> str:

@@ -3,6 +3,7 @@ import ipaddress
 import struct
 import typing
 
+from .held import COST_OF_PIECE, Held
 from .recordings import Frame
 
 FIN, SYN, RST, ACK = 1, 2, 4, 16
@@ -13,7 +14,6 @@ VLAN_TAGS = {0x8100, 0x88a8, 0x9100}
 TCP, FRAGMENT, AUTHENTICATION = 6, 44, 51
 EXTENSIONS = {0, 43, 60, AUTHENTICATION, 135, 139, 140}  # of IPv6, each with its length in its second byte
 PENDING_AT_MOST = 4 << 20  # bytes of fragments whose datagrams are not whole
-COST_OF_PIECE = 128  # bytes that a piece takes besides its own
 DATAGRAM_AT_MOST = 1 << 17
 
 # Where the kind of the network layer stands (None: in the datagram itself), and where the datagram begins, by link type.
@@ -62,31 +62,36 @@ class Pending:
     """The fragments of a datagram that is not whole yet. Of bytes that came twice the first count."""
 
     def __init__(self) -> None:
-        self.pieces: list[tuple[int, bytes]] = []
+        self.held = Held()
         self.size: int | None = None
-        self.received = 0
+        self.count = 0  # of the fragments that came
+        self.there = 0  # bytes of the datagram
 
     @property
     def cost(self) -> int:
-        return self.received + COST_OF_PIECE * len(self.pieces)
+        return self.held.cost + COST_OF_PIECE
+
+    @property
+    def has_too_many(self) -> bool:
+        """Whether more fragments came than an eighth of the datagram's bytes, as offsets count by eight (RFC 791)."""
+        return self.count > -(-(DATAGRAM_AT_MOST if self.size is None else self.size) // 8)
 
     def add(self, begin: int, piece: bytes, is_last: bool) -> None:
+        self.count += 1
         if is_last and self.size is None:
             self.size = begin + len(piece)
-        self.pieces.append((begin, piece))
-        self.received += len(piece)
+            self.there = sum(max(0, min(at + len(held), self.size) - at) for at, (held, _, _) in zip(self.held.begins, self.held.pieces))
+        if self.size is not None:
+            piece = piece[:max(0, self.size - begin)]
+        before = self.held.size
+        self.held.add(begin, piece, 0, 0)
+        self.there += self.held.size - before
 
     def whole(self) -> bytes | None:
         """The datagram's payload, once no byte of it is missing."""
-        if self.size is None or self.received < self.size:
+        if self.size is None or self.there < self.size:
             return None
-        content, is_there = bytearray(self.size), bytearray(self.size)
-        for begin, piece in reversed(self.pieces):
-            end = min(begin + len(piece), self.size)
-            if begin < end:
-                content[begin:end] = piece[:end - begin]
-                is_there[begin:end] = b'\1' * (end - begin)
-        return bytes(content) if is_there.count(1) == self.size else None
+        return b''.join(piece for piece, _, _ in self.held.pieces)[:self.size]
 
 
 class Segments:
@@ -94,11 +99,12 @@ class Segments:
 
     cut: frames of which the recording has fewer bytes than were on the wire, and which lack payload or headers for it
     lying: frames whose headers claim more bytes than were on the wire
+    given_up: datagrams of more fragments than an eighth of their bytes
     links: frames whose link type is not known, by link type
     """
 
     def __init__(self) -> None:
-        self.cut = self.lying = 0
+        self.cut = self.lying = self.given_up = 0
         self.links: dict[int, int] = {}
         self.pending: dict[bytes, Pending] = {}
         self.held = 0
@@ -191,11 +197,16 @@ class Segments:
         self.cut += is_cut
         if is_cut or begin + len(piece) > DATAGRAM_AT_MOST:
             return None
-        pending = self.pending.setdefault(name, Pending())
+        pending = self.pending.get(name)
+        if pending is None:
+            pending = self.pending[name] = Pending()
+            self.held += pending.cost
+        cost = pending.cost
         pending.add(begin, piece, is_last)
-        self.held += len(piece) + COST_OF_PIECE
+        self.held += pending.cost - cost
         whole = pending.whole()
-        if whole is not None:
+        self.given_up += whole is None and pending.has_too_many
+        if whole is not None or pending.has_too_many:
             self.forget(name)
         while self.held > PENDING_AT_MOST:
             self.forget(next(iter(self.pending)))

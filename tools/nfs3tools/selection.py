@@ -24,9 +24,11 @@ class Options(typing.NamedTuple):
 
 @dataclasses.dataclass
 class Kept:
-    """The ranges of a stream's stored bytes that are kept, whether any of its bytes are not, and what is told of it."""
+    """The ranges of a stream's stored bytes that are kept, whether any of its bytes are not, how many the recording lacks, and what is
+    told of it."""
     ranges: list[tuple[int, int]] = dataclasses.field(default_factory=list)
     lacks: bool = False
+    missing: int = 0
     notes: list[str] = dataclasses.field(default_factory=list)
 
     @property
@@ -56,6 +58,11 @@ def parts_of(stream: Stream) -> list[Part]:
 
 def gaps_of(stream: Stream) -> list[Gap]:
     return [gap for gap in [*(run.gap for run in stream.runs), stream.gap_at_end()] if gap]
+
+
+def missing_of(stream: Stream) -> int:
+    """The bytes of a stream that were sent and are not in the recording, as far as it shows."""
+    return sum(gap.size for gap in gaps_of(stream))
 
 
 def select(connection: Connection, options: Options) -> Selected:
@@ -94,9 +101,10 @@ def has_calls(stream: Stream) -> bool:
 
 def keep_front(stream: Stream, side: Side, options: Options, is_closed: bool) -> Kept:
     """Keeps a stream from its beginning up to the first gap."""
-    kept, parts, gaps = Kept(lacks=not stream.is_begin), parts_of(stream), gaps_of(stream)
+    kept, parts, gaps = Kept(lacks=not stream.is_begin, missing=missing_of(stream)), parts_of(stream), gaps_of(stream)
     if not stream.is_begin:
         if stream.stored.size:
+            kept.missing += stream.stored.size
             kept.notes.append(f'{side}: its beginning is not in the recording, so nothing of it is taken (--midstream does)')
         return kept
     if gaps:
@@ -109,7 +117,7 @@ def keep_front(stream: Stream, side: Side, options: Options, is_closed: bool) ->
 
 def keep_midstream(stream: Stream, side: Side, options: Options, is_closed: bool) -> Kept:
     """Keeps of each run of a stream what follows from the first record on."""
-    kept, gaps, parts = Kept(), gaps_of(stream), parts_of(stream)
+    kept, gaps, parts = Kept(missing=missing_of(stream)), gaps_of(stream), parts_of(stream)
     kept.lacks, left_out = bool(gaps) or not stream.is_begin, 0
     for part in parts:
         is_first = part.begin == 0 and not stream.runs[0].gap
@@ -142,7 +150,7 @@ def keep_up_to_whole(stream: Stream, part: Part, side: Side, kept: Kept, is_whol
     if dropped:
         kept.lacks = True
         if is_told:
-            kept.notes.append(f'{side}: the last {dropped} bytes are no whole record, and are dropped')
+            kept.notes.append(f'{side}: the last {dropped:,} bytes are no whole record, and are dropped')
     return dropped
 
 
@@ -157,7 +165,7 @@ def leave_out_replies(streams: tuple[Stream, Stream], calls: Kept, replies: Kept
         left_out += count_of_range
     replies.ranges = ranges
     if left_out:
-        replies.notes.append(f'server: {left_out} ' + plural(
+        replies.notes.append(f'server: {left_out:,} ' + plural(
             left_out, 'reply to a call that is not in the recording is left out',
             'replies to calls that are not in the recording are left out'))
 
@@ -182,15 +190,15 @@ def plural(number: int, one: str, several: str) -> str:
 
 
 def count(number: int, one: str) -> str:
-    return f'{number} {plural(number, one, one + "s")}'
+    return f'{number:,} {plural(number, one, one + "s")}'
 
 
 def told_of(gap: Gap) -> str:
     return (f'{count(gap.size, "byte")} {plural(gap.size, "is", "are")} missing from the recording after the first '
-            f'{gap.position}, before frame {gap.frame}')
+            f'{gap.position:,}, before frame {gap.frame}')
 
 
 def told_of_all(gaps: list[Gap]) -> str:
     if len(gaps) == 1:
         return told_of(gaps[0])
-    return f'{told_of(gaps[0])}, and {sum(gap.size for gap in gaps[1:])} more in {count(len(gaps) - 1, "place")}'
+    return f'{told_of(gaps[0])}, and {sum(gap.size for gap in gaps[1:]):,} more in {count(len(gaps) - 1, "place")}'

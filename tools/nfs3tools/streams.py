@@ -5,6 +5,7 @@ import os
 import tempfile
 import typing
 
+from .held import Held
 from .segments import ACK, FIN, RST, SYN, Segment, ends_of, turned
 
 WRITTEN_AT_ONCE = 1 << 16
@@ -12,7 +13,6 @@ UNWRITTEN_AT_MOST = 8 << 20  # bytes of all streams together that are not in the
 HELD_AT_MOST = 8 << 20  # bytes of a stream behind a gap; then the bytes of the gap count as lost
 HELD_BY_ALL = 64 << 20  # the same of all streams together
 LIKELY_AT_MOST = 64 << 20  # bytes that were sent beyond the last that is known
-COST_OF_PIECE = 128  # bytes that a piece held back takes besides its own
 
 
 class Spool:
@@ -131,52 +131,6 @@ class Frames:
         self.begins.append(begin)
         self.numbers.append(number)
         self.times.append(time)
-
-
-class Held:
-    """Pieces behind a gap, in order, none of which overlap. Of bytes that came twice the first are held."""
-    __slots__ = 'begins', 'pieces', 'cost'
-
-    def __init__(self) -> None:
-        self.begins: list[int] = []
-        self.pieces: list[tuple[bytes, int, int]] = []  # with the number and the time of the frame
-        self.cost = 0
-
-    def add(self, begin: int, piece: bytes, number: int, time: int) -> bool:
-        """Holds what is new of a piece. False if it differs from what is held."""
-        agrees, at = True, max(0, bisect.bisect_right(self.begins, begin) - 1)
-        end = begin + len(piece)
-        while begin < end:
-            there_begin = self.begins[at] if at < len(self.begins) else end
-            there = self.pieces[at][0] if at < len(self.begins) else b''
-            there_end = there_begin + len(there)
-            if there_begin > begin:
-                fresh = piece[len(piece) - (end - begin):len(piece) - (end - min(end, there_begin))]
-                self.insert(at, begin, fresh, number, time)
-                begin += len(fresh)
-            elif there_end > begin:
-                shared = min(end, there_end)
-                old = there[begin - there_begin:shared - there_begin]
-                agrees &= old == piece[len(piece) - (end - begin):len(piece) - (end - shared)]
-                begin = shared
-            at += 1
-        return agrees
-
-    def insert(self, at: int, begin: int, piece: bytes, number: int, time: int) -> None:
-        self.begins.insert(at, begin)
-        self.pieces.insert(at, (piece, number, time))
-        self.cost += len(piece) + COST_OF_PIECE
-
-    def pop_up_to(self, position: int) -> list[tuple[int, bytes, int, int]]:
-        """Takes the pieces that follow one another from the position on, or begin before it."""
-        count = 0
-        while count < len(self.begins) and self.begins[count] <= position:
-            position = max(position, self.begins[count] + len(self.pieces[count][0]))
-            count += 1
-        taken = [(begin, *piece) for begin, piece in zip(self.begins[:count], self.pieces[:count])]
-        del self.begins[:count], self.pieces[:count]
-        self.cost -= sum(len(piece) + COST_OF_PIECE for _, piece, _, _ in taken)
-        return taken
 
 
 class Stream:

@@ -6,7 +6,8 @@
         taken.write_capture('run.nfs3cap')
         taken.frames(Place(1, 'server', 7, 24))     # the frames of the recording that carry this byte
 
-`take` reads pcap and pcapng (also gzipped, and `-` for standard input) and captures (`NFS3CAP1`, `NFS3CAP2`). Places of
+`take` reads pcap and pcapng (also gzipped, `-` for standard input, and the parts of one recording by a pattern) and captures
+(`NFS3CAP1`, `NFS3CAP2`). Places of
 `check`, `show` and `same` on the file that `write_capture` writes are places of `taken`: connections have the numbers of
 `TakenConnection.number`, and records are those of its streams.
 """
@@ -21,6 +22,7 @@ import time
 import typing
 
 from .captures import CHUNK, MAGICS, MOST_BYTES, MOST_CONNECTIONS, BadCapture, Container, capture_of, place_in, write_file
+from .parts import Part, files_of, in_order, pattern_beside
 from .places import SIDES, FilePlace, NoPlace, Place, Side
 from .programs import chosen_frames
 from .recordings import Damaged, NoRecording, Recording, Source, opened
@@ -30,16 +32,21 @@ from .selection import Options, Selected, count, plural, select
 from .streams import Connection, Connections, Frames, Spool, Stored
 
 FRAMES_A_STEP = 1_000
-__all__ = ['FrameRef', 'NotTaken', 'Options', 'Record', 'Taken', 'TakenConnection', 'TakenStream', 'take']
+__all__ = ['FrameRef', 'LeftOut', 'NotTaken', 'Options', 'Record', 'Taken', 'TakenConnection', 'TakenStream', 'take']
 
 
 class NotTaken(Exception):
-    """The file is no recording or capture; its text is the message for the user."""
+    """The file is no recording or capture; its text is the message for the user. `packed_by` is the program that compressed it, if that
+    is known and the file is not one of several parts."""
+
+    def __init__(self, text: str, packed_by: str | None = None) -> None:
+        super().__init__(text)
+        self.packed_by = packed_by
 
 
 class FrameRef(typing.NamedTuple):
-    """A frame of the recording: its number, from 1 as Wireshark counts, and its time in nanoseconds since 1970 (UTC), 0
-    if it has none."""
+    """A frame of the recording: its number, from 1 as Wireshark counts, also through all parts of a recording, and its time in
+    nanoseconds since 1970 (UTC), 0 if it has none."""
     number: int
     time: int
 
@@ -120,6 +127,7 @@ class TakenConnection(typing.NamedTuple):
     ends: both, first the one that sent the first segment, as '192.0.2.7:700 and 192.0.2.1:2049'
     why: how it is known which end is the client, as 'by the SYN'; '' if read from a capture
     notes: what was left out of its streams, each beginning with the side, as 'client: 12 bytes are missing ..'
+    missing: the bytes of both sides that were sent and are not in the recording, as far as it shows
     """
     number: int
     stream_number: int | None
@@ -130,6 +138,7 @@ class TakenConnection(typing.NamedTuple):
     client: TakenStream
     server: TakenStream
     notes: list[str]
+    missing: int = 0
 
     def stream(self, side: Side) -> TakenStream:
         """Returns the stream of one side."""
@@ -140,22 +149,41 @@ class TakenConnection(typing.NamedTuple):
         return capture_of([(self.client, self.server)])
 
 
+class LeftOut(typing.NamedTuple):
+    """A connection that is not taken: its ends, why, how many bytes are missing if that is why, else 0, and whether it begins before the
+    recording."""
+    ends: str
+    why: str
+    missing: int = 0
+    is_begun_before: bool = False
+
+    def __str__(self) -> str:
+        return f'{self.ends}: {self.why}'
+
+
 class Taken:
     """The connections of a recording or capture. As a context manager it removes the temporary files at its end.
 
-    left_out: a line for each connection that is not taken, with the reason
+    left_out: the connections that are not taken
     notes: what is told of the whole recording or capture, a sentence each
     damage: why what follows could not be read, or None; a recording that ends in the middle of a frame is not damaged
     is_recording: False if read from a capture
     has_frames: whether the frames of bytes are noted
+    parts: those of a recording that has several, in order
     """
 
     def __init__(self, spool: Spool, is_recording: bool, has_frames: bool) -> None:
         self.spool, self.is_recording, self.has_frames = spool, is_recording, has_frames
         self.connections: list[TakenConnection] = []
-        self.left_out: list[str] = []
+        self.left_out: list[LeftOut] = []
         self.notes: list[str] = []
         self.damage: str | None = None
+        self.parts: list[Part] = []
+
+    @property
+    def missing(self) -> int:
+        """The bytes of all connections that are missing from the recording."""
+        return sum(one.missing for one in self.connections) + sum(one.missing for one in self.left_out)
 
     def pairs(self) -> list[tuple[TakenStream, TakenStream]]:
         return [(connection.client, connection.server) for connection in self.connections]
@@ -220,21 +248,45 @@ def bytes_of(stream: TakenStream, extent: Extent, place: Place) -> tuple[int, in
 # --- Taking ---
 
 def take(path: str, options: Options = Options(), frames: bool = True, shows_progress: bool = True) -> Taken:
-    """Reads a recording or a capture, `-` for standard input. `frames` says whether the frames of bytes are noted, which
+    """Reads a recording or a capture, `-` for standard input. A path that is the name of no file is a pattern, whose files are parts of
+    one recording, in the order of the times of their first frames. `frames` says whether the frames of bytes are noted, which
     takes 24 bytes of memory for each frame; `shows_progress` whether their number is shown on a terminal meanwhile.
 
     Raises `NotTaken`, `Missing` and `FilterRefused` (of `programs`), and `OSError` if a file cannot be read or a temporary
     file not be written.
     """
-    with contextlib.ExitStack() as files:
-        file, chosen = files.enter_context(opened(path)), None
+    progress, files = Progress(shows_progress), files_of(path)
+    if len(files) > 1:
+        return take_parts(files, options, frames, progress)
+    with contextlib.ExitStack() as stack:
+        path, chosen = files[0], None
+        file = stack.enter_context(opened(path))
         if options.filter is not None:
             if path == '-':
-                file = files.enter_context(copied(file))
+                file = stack.enter_context(copied(file))
                 path = file.name
             chosen = chosen_frames(path, options.filter)
-        taken = take_from(Source(file), options, frames, chosen, Progress(shows_progress))
+        taken = take_from(Source(file), options, frames, chosen, progress)
+    begun = sum(left_out.is_begun_before for left_out in taken.left_out)
+    pattern = pattern_beside(files[0]) if begun else None
+    if pattern:
+        taken.notes.append(f'it begins in the middle of {count(begun, "connection")}: if it is a part of a recording, as of '
+                           f'`tcpdump -C`, name all parts in its place, as {pattern}')
     return taken
+
+
+def take_parts(files: list[str], options: Options, keeps_frames: bool, progress: 'Progress') -> Taken:
+    """Takes several files as the parts of one recording."""
+    taking = Taking(keeps_frames, progress)
+    try:
+        for path in in_order(files):
+            chosen = None if options.filter is None else chosen_frames(path, options.filter)
+            with opened(path) as file:
+                taking.taken.parts.append(Part(path, taking.count))
+                taking.add(Recording(Source(file)), chosen, f'{path}: ')
+    except (NoRecording, Damaged) as refused:
+        raise NotTaken(str(refused)) from refused
+    return taking.ended(options)
 
 
 @contextlib.contextmanager
@@ -252,9 +304,13 @@ def take_from(source: Source, options: Options, keeps_frames: bool, chosen: set[
     try:
         if source.peek(8) in MAGICS:
             return of_capture(source)
-        return of_recording(Recording(source), options, keeps_frames, chosen, progress)
-    except (NoRecording, Damaged) as refused:
-        raise NotTaken(str(refused)) from refused
+        taking = Taking(keeps_frames, progress)
+        taking.add(Recording(source), chosen)
+        return taking.ended(options)
+    except NoRecording as refused:
+        raise NotTaken(str(refused), refused.packed_by) from refused
+    except Damaged as damaged:
+        raise NotTaken(str(damaged)) from damaged
 
 
 def of_capture(source: Source) -> Taken:
@@ -275,32 +331,48 @@ def whole(stored: Stored) -> list[tuple[int, int]]:
     return [(0, stored.size)] if stored.size else []
 
 
-def of_recording(recording: Recording, options: Options, keeps_frames: bool, chosen: set[int] | None,
-                 progress: 'Progress') -> Taken:
-    segments, connections = Segments(), Connections(keeps_frames)
-    for frame in recording.frames():
-        segment = segments.segment(frame)
-        if segment is not None:
-            connections.take(segment, frame.number, frame.time, chosen is None or frame.number in chosen)
-        if not frame.number % FRAMES_A_STEP:
-            progress.step(frame.number)
-    progress.end()
-    taken = Taken(connections.spool, True, keeps_frames)
-    taken.damage = recording.damage
-    taken.notes = notes_of(recording, segments)
-    for connection in connections.finish():
-        add(taken, connection, select(connection, options), options)
-    return taken
+class Taking:
+    """Takes the frames of a recording, or of its parts one after the other."""
+
+    def __init__(self, keeps_frames: bool, progress: 'Progress') -> None:
+        self.segments, self.connections, self.progress = Segments(), Connections(keeps_frames), progress
+        self.taken = Taken(self.connections.spool, True, keeps_frames)
+        self.count = 0  # frames
+
+    def add(self, recording: Recording, chosen: set[int] | None, name: str = '') -> None:
+        """Takes a part, of which only the frames that are chosen count, if `chosen` is not None. A name stands before what is told."""
+        before, segments, connections = self.count, self.segments, self.connections
+        for frame in recording.frames():
+            segment = segments.segment(frame)
+            if segment is not None:
+                connections.take(segment, before + frame.number, frame.time, chosen is None or frame.number in chosen)
+            if not frame.number % FRAMES_A_STEP:
+                self.progress.step(before + frame.number)
+        self.count += recording.count
+        self.taken.notes += [name + note for note in (recording.cut, recording.damage) if note]
+        if recording.damage and not self.taken.damage:
+            self.taken.damage = name + recording.damage
+
+    def ended(self, options: Options) -> Taken:
+        """What is taken. Nothing is added after this."""
+        self.progress.end()
+        self.taken.notes += notes_of(self.segments)
+        for connection in self.connections.finish():
+            add(self.taken, connection, select(connection, options), options)
+        return self.taken
 
 
-def notes_of(recording: Recording, segments: Segments) -> list[str]:
-    notes = [note for note in (recording.cut, recording.damage) if note]
+def notes_of(segments: Segments) -> list[str]:
+    notes = list[str]()
     if segments.cut:
         notes.append(f'{count(segments.cut, "frame")} {plural(segments.cut, "was", "were")} recorded in part only (the snap '
                      f'length, as of `tcpdump -s`); what they lack is missing')
     if segments.lying:
         notes.append(f'{count(segments.lying, "frame")} {plural(segments.lying, "has", "have")} headers that do not fit '
                      f'{plural(segments.lying, "its", "their")} length, and {plural(segments.lying, "is", "are")} passed over')
+    if segments.given_up:
+        notes.append(f'{count(segments.given_up, "datagram")} {plural(segments.given_up, "is", "are")} given up, of which more '
+                     f'fragments came than an eighth of {plural(segments.given_up, "its", "their")} bytes')
     for link, number in segments.links.items():
         notes.append(f'{count(number, "frame")} of the link type {link} {plural(number, "is", "are")} passed over')
     return notes
@@ -311,12 +383,15 @@ def add(taken: Taken, connection: Connection, selected: Selected, options: Optio
     ends = ' and '.join(connection.ends)
     streams = connection.streams[selected.client], connection.streams[1 - selected.client]
     if not any(kept.ranges for kept in selected.kept):
-        taken.left_out.append(f'{ends}: {why_left_out(connection, options)}')
+        is_for_losses = connection.client is not None or options.midstream
+        missing = sum(kept.missing for kept in selected.kept) if is_for_losses else 0
+        is_begun_before = connection.client is None and connection.first_payload is not None
+        taken.left_out.append(LeftOut(ends, why_left_out(connection, options), missing, is_begun_before))
         return
     client, server = (TakenStream(stream.stored, stream.frames, kept.ranges) for stream, kept in zip(streams, selected.kept))
-    notes = [note for kept in selected.kept for note in kept.notes]
+    notes, missing = [note for kept in selected.kept for note in kept.notes], sum(kept.missing for kept in selected.kept)
     taken.connections.append(TakenConnection(len(taken.connections) + 1, connection.number, connection.ends[selected.client],
-                                             connection.ends[1 - selected.client], ends, selected.why, client, server, notes))
+                                             connection.ends[1 - selected.client], ends, selected.why, client, server, notes, missing))
 
 
 def why_left_out(connection: Connection, options: Options) -> str:

@@ -4,15 +4,17 @@
 
 Each connection is a capture of its own, which `nfs3canon check` judges, so a fault in one hides nothing of another. Printed is
 a table with a row for each: the recording, the connection's number and ends, its calls and replies, and the verdict: `ok`, or
-the place and reason of its first fault with the frame that carries it. What is missing from a recording, and which connections
-are left out of it, is told on standard error. A recording that cannot be read has a row, too, and the others are judged still.
+the place and reason of its first fault with the frame that carries it. If bytes of the connection are missing from the recording,
+the verdict is `ok in part`, with the calls that were judged and the bytes that are missing. What is missing, and which connections
+are left out, is told on standard error. A recording that cannot be read has a row, too, and the others are judged still.
 
-The recordings are taken as by `tools/from_pcap` (--midstream, --whole-records, --filter); `-` is standard input. --junit writes
-the verdicts as JUnit XML, as Jenkins and GitLab take it, and --json as a list with an object for each row. N recordings are
-judged at once, as many as there are processors if it is not said.
+The recordings are taken as by `tools/from_pcap` (--midstream, --whole-records, --filter, patterns in quotes for the parts of one
+recording); `-` is standard input. --junit writes the verdicts as JUnit XML, as Jenkins and GitLab take it, and --json as a list
+with an object for each row and for each note on a recording. N recordings are judged at once, as many as there are processors if
+it is not said.
 
-The status is 0 if all are ok, 1 if one is not, 2 if the command line is refused or the program is missing, 3 if FILE cannot be
-written.
+The status is 0 if all are ok (with --allow-losses also if they are ok in part), 1 if one is not, 2 if the command line is
+refused or the program is missing, 3 if FILE cannot be written.
 """
 import concurrent.futures
 import contextlib
@@ -27,22 +29,24 @@ import typing
 import xml.etree.ElementTree
 
 from .captures import write_file
-from .messages import add_options, options_of, parser_of, words_of
+from .messages import add_losses, add_options, advice_on, options_of, parser_of, words_of
+from .parts import files_of
 from .places import FilePlace, Place, parse_fault
 from .programs import Answer, FilterRefused, Missing, program_path, run_program
-from .selection import Options
-from .taken import FrameRef, NotTaken, Taken, TakenConnection, take
+from .selection import Options, count
+from .taken import FrameRef, LeftOut, NotTaken, Taken, TakenConnection, take
 
 NOT_ALL_OK = 1
 CONNECTIONS_AT_ONCE = 32  # of a recording
-State = typing.Literal['ok', 'refused', 'error', 'skipped']
+State = typing.Literal['ok', 'in part', 'refused', 'error', 'skipped', 'note']
 COUNTS = re.compile(r'ok connections=1 calls=(\d+) replies=(\d+) handles=\d+\n')
 
 
 class Verdict(typing.NamedTuple):
-    """What is said of a connection, or of a recording or capture as a whole (then the connection is None).
+    """What is said of a connection, or of a recording or capture as a whole (then the connection is None). A note is no verdict.
 
     place: where its first fault is, without the connection; reason: that of the program; message: all of it in words
+    missing: how many of its bytes the recording lacks
     """
     recording: str
     connection: int | None = None
@@ -55,6 +59,7 @@ class Verdict(typing.NamedTuple):
     message: str = 'ok'
     place: str | None = None
     reason: str | None = None
+    missing: int = 0
     frames: list[FrameRef] = []
     notes: list[str] = []
     seconds: float = 0.0
@@ -72,7 +77,9 @@ class Judge(typing.NamedTuple):
         try:
             with take(recording, self.options, shows_progress=self.shows_progress) as taken:
                 return self.of_taken(recording, taken)
-        except (NotTaken, FilterRefused, Missing) as refused:
+        except NotTaken as refused:
+            return [error_of(recording, advice_on(refused, 'verdicts'))]
+        except (FilterRefused, Missing) as refused:
             return [error_of(recording, str(refused))]
         except OSError as failed:
             return [error_of(recording, words_of(failed))]
@@ -82,16 +89,14 @@ class Judge(typing.NamedTuple):
     def of_taken(self, recording: str, taken: Taken) -> list[Verdict]:
         with concurrent.futures.ThreadPoolExecutor(self.at_once) as threads:
             verdicts = list(threads.map(functools.partial(self.of_connection, recording, taken), taken.connections))
-        verdicts += [Verdict(recording, state='skipped', message=line) for line in taken.left_out]
+        verdicts += [of_left_out(recording, left_out) for left_out in taken.left_out]
         if taken.damage and not taken.is_recording:
             verdicts += self.of_container(recording, verdicts)
         elif taken.damage:
             verdicts.append(error_of(recording, taken.damage))
         elif not taken.connections and taken.is_recording:
             verdicts.append(error_of(recording, 'no connection to judge'))
-        if verdicts and taken.is_recording:
-            verdicts[0] = verdicts[0]._replace(notes=taken.notes + verdicts[0].notes)
-        return verdicts
+        return [Verdict(recording, state='note', message=note) for note in taken.notes] + verdicts
 
     def of_connection(self, recording: str, taken: Taken, connection: TakenConnection) -> Verdict:
         begin = time.monotonic()
@@ -101,7 +106,7 @@ class Judge(typing.NamedTuple):
 
     def of_container(self, recording: str, others: list[Verdict]) -> list[Verdict]:
         """The verdict on a capture that is not whole, unless it is that on one of its connections."""
-        answer = run_program(self.program, ['check', recording])
+        answer = run_program(self.program, ['check', *files_of(recording)])
         fault = parse_fault(answer.error)
         if fault is None:
             return [error_of(recording, told(answer))]
@@ -115,8 +120,10 @@ def verdict_of(recording: str, taken: Taken, connection: TakenConnection, answer
     """What the program's answer on a connection's capture says."""
     verdict = Verdict(recording, connection.number, connection.stream_number, connection.client_end, connection.server_end)
     counts, fault = COUNTS.fullmatch(answer.out), parse_fault(answer.error)
+    verdict = verdict._replace(missing=connection.missing)
     if answer.status == 0 and counts:
-        return verdict._replace(calls=int(counts[1]), replies=int(counts[2]))
+        verdict = verdict._replace(calls=int(counts[1]), replies=int(counts[2]))
+        return verdict._replace(state='in part', message=in_part(int(counts[1]), connection.missing)) if connection.missing else verdict
     calls, replies = connection.client.count_records(), connection.server.count_records()
     verdict = verdict._replace(calls=calls, replies=replies)
     if answer.status != 2 or fault is None or isinstance(fault.place, FilePlace):
@@ -125,6 +132,17 @@ def verdict_of(recording: str, taken: Taken, connection: TakenConnection, answer
     place = str(fault.place).removeprefix('connection 1 ')
     message = f'{place}: {fault.reason}' + ''.join(f', frame {frame.number}' for frame in frames)
     return verdict._replace(state='refused', message=message, place=place, reason=fault.reason, frames=frames)
+
+
+def in_part(calls: int, missing: int) -> str:
+    return f'ok in part: {count(calls, "call")}, {count(missing, "byte")} missing'
+
+
+def of_left_out(recording: str, left_out: LeftOut) -> Verdict:
+    """A connection that is left out is skipped, but not if it is for bytes that the recording lacks."""
+    if left_out.missing:
+        return Verdict(recording, state='in part', message=f'left out: {left_out}', missing=left_out.missing)
+    return Verdict(recording, state='skipped', message=str(left_out))
 
 
 def error_of(recording: str, message: str) -> Verdict:
@@ -146,6 +164,7 @@ def main(words: list[str]) -> int:
     parser.add_argument('-j', metavar='N', type=positive, default=os.cpu_count() or 1, help='judges N recordings at once')
     parser.add_argument('--program', metavar='PROGRAM', help='nfs3canon')
     add_options(parser)
+    add_losses(parser, 'ok in part')
     chosen = parser.parse_args(words)
     at_once = max(1, min(CONNECTIONS_AT_ONCE, chosen.j // len(chosen.recordings)))
     judge = Judge(program_path(chosen.program), options_of(chosen), at_once, len(chosen.recordings) == 1)
@@ -155,10 +174,11 @@ def main(words: list[str]) -> int:
         raise OSError('a process that judged a recording was killed, as when memory runs out') from broken
     print_table(verdicts)
     if chosen.junit:
-        write_file(chosen.junit, [junit_of(verdicts)])
+        write_file(chosen.junit, [junit_of(verdicts, chosen.allow_losses)])
     if chosen.json:
         write_file(chosen.json, [json_of(verdicts)])
-    return 0 if all(verdict.state in ('ok', 'skipped') for verdict in verdicts) else NOT_ALL_OK
+    good = ['ok', 'skipped', 'note', *(['in part'] if chosen.allow_losses else [])]
+    return 0 if all(verdict.state in good for verdict in verdicts) else NOT_ALL_OK
 
 
 def positive(word: str) -> int:
@@ -195,16 +215,16 @@ def print_table(verdicts: list[Verdict]) -> None:
     """Prints a row for each verdict but those on connections that are left out, which with all notes go to standard error."""
     for verdict in verdicts:
         named = verdict.recording if verdict.connection is None else f'{verdict.recording}: connection {verdict.connection}'
-        lines = [*verdict.notes, *([f'left out: {verdict.message}'] if verdict.state == 'skipped' else [])]
-        for line in lines:
+        said = {'skipped': [f'left out: {verdict.message}'], 'note': [verdict.message]}.get(verdict.state, [])
+        for line in [*verdict.notes, *said]:
             print(printable(f'{named}: {line}'), file=sys.stderr)
     heads = ('recording', 'connection', 'client', 'server', 'calls', 'replies', 'verdict')
-    rows = [heads, *(row_of(verdict) for verdict in verdicts if verdict.state != 'skipped')]
+    rows = [heads, *(row_of(verdict) for verdict in verdicts if verdict.state not in ('skipped', 'note'))]
     widths = [max(len(row[column]) for row in rows) for column in range(len(heads) - 1)]
     for row in rows:
         print('  '.join([*(cell.ljust(width) for cell, width in zip(row, widths)), row[-1]]))
     states = [verdict.state for verdict in verdicts]
-    print(f'{states.count("ok")} ok, {states.count("refused")} refused, {states.count("error")} errors')
+    print(f'{states.count("ok")} ok, {states.count("in part")} in part, {states.count("refused")} refused, {states.count("error")} errors')
 
 
 def row_of(verdict: Verdict) -> tuple[str, ...]:
@@ -219,28 +239,35 @@ def printable(text: str) -> str:
     return ''.join(letter if letter.isprintable() else letter.encode('unicode_escape').decode() for letter in text)
 
 
-def junit_of(verdicts: list[Verdict]) -> bytes:
-    """The verdicts as JUnit XML: a suite with a test case for each."""
+def junit_of(verdicts: list[Verdict], allows_losses: bool) -> bytes:
+    """The verdicts as JUnit XML: a suite with a test case for each, and the notes on whole recordings as the suite's output."""
     element = xml.etree.ElementTree.SubElement
     suites = xml.etree.ElementTree.Element('testsuites')
-    states = [verdict.state for verdict in verdicts]
-    suite = element(suites, 'testsuite', name='nfs3canon', tests=str(len(verdicts)), failures=str(states.count('refused')),
-                    errors=str(states.count('error')), skipped=str(states.count('skipped')),
+    elements = {'ok': None, 'in part': None if allows_losses else 'failure', 'refused': 'failure', 'error': 'error', 'skipped': 'skipped'}
+    cases = [verdict for verdict in verdicts if verdict.state != 'note']
+    found = [elements[verdict.state] for verdict in cases]
+    suite = element(suites, 'testsuite', name='nfs3canon', tests=str(len(cases)), failures=str(found.count('failure')),
+                    errors=str(found.count('error')), skipped=str(found.count('skipped')),
                     time=f'{sum(verdict.seconds for verdict in verdicts):.3f}')
-    for verdict in verdicts:
+    number = sum(verdict.state == 'in part' for verdict in cases)
+    element(element(suite, 'properties'), 'property', name='in part', value=str(number))
+    for verdict, tag in zip(cases, found):
         case = element(suite, 'testcase', classname=printable(verdict.recording), name=name_of(verdict),
                        time=f'{verdict.seconds:.3f}')
-        message = printable(verdict.message)
-        if verdict.state != 'ok':
-            element(case, {'refused': 'failure', 'error': 'error', 'skipped': 'skipped'}[verdict.state], message=message)
-        if verdict.notes:
-            element(case, 'system-out').text = '\n'.join(map(printable, verdict.notes))
+        if tag:
+            element(case, tag, {'type': 'in part'} if verdict.state == 'in part' else {}, message=printable(verdict.message))
+        told = [verdict.message] * (verdict.state == 'in part') + verdict.notes
+        if told:
+            element(case, 'system-out').text = '\n'.join(map(printable, told))
+    notes = [printable(f'{verdict.recording}: {verdict.message}') for verdict in verdicts if verdict.state == 'note']
+    if notes:
+        element(suite, 'system-out').text = '\n'.join(notes)
     return bytes(xml.etree.ElementTree.tostring(suites, encoding='utf-8', xml_declaration=True)) + b'\n'
 
 
 def name_of(verdict: Verdict) -> str:
     if verdict.connection is None:
-        return printable(verdict.message) if verdict.state == 'skipped' else 'as a whole'
+        return printable(verdict.message) if verdict.state in ('skipped', 'in part') else 'as a whole'
     ends = f' {verdict.client} to {verdict.server}' if verdict.client else ''
     return f'connection {verdict.connection}{ends}'
 

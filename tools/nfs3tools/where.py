@@ -12,8 +12,10 @@ also with `first: ` or `second: ` before it) or of `show`, whose first three wor
 brought it, not a retransmission; of a datagram that came in fragments it is the frame with the last of them.
 
 Printed are the place with the number of the connection as Wireshark counts it, the frames with their times, and a display
-filter to paste. The status is 0, 1 if the capture has no such place, 2 if PLACE, RECORDING or FILTER is refused, 3 if a file
-or memory failed.
+filter to paste. If RECORDING is a pattern in quotes for the parts of one recording, frames are counted through all parts, and
+there is a filter for each part that has such frames, with its own numbers.
+
+The status is 0, 1 if the capture has no such place, 2 if PLACE, RECORDING or FILTER is refused, 3 if a file or memory failed.
 """
 import datetime
 import sys
@@ -22,6 +24,7 @@ import typing
 from .messages import REFUSED, add_options, ended, options_of, parser_of
 from .places import FilePlace, NoPlace, Place, parse_place
 from .taken import FrameRef, NotTaken, Taken, take
+from .verdicts import printable
 
 ABSENT = 1
 SHOWN_AT_MOST = 12  # frames of which the time is printed
@@ -59,7 +62,12 @@ def lines_of(taken: Taken, place: Place | FilePlace, frames: list[FrameRef]) -> 
         yield f'frame {frame.number}, {time_of(frame)}'
     if len(frames) > SHOWN_AT_MOST:
         yield f'and {len(frames) - SHOWN_AT_MOST} more, the last of them frame {frames[-1].number}, {time_of(frames[-1])}'
-    yield filter_of([frame.number for frame in frames])
+    if not taken.parts:
+        yield filter_of([frame.number for frame in frames])
+    for part, after in zip(taken.parts, [*(part.before for part in taken.parts[1:]), sys.maxsize]):
+        numbers = [frame.number - part.before for frame in frames if part.before < frame.number <= after]
+        if numbers:
+            yield f'{printable(part.path)}: {filter_of(numbers)}'
 
 
 def time_of(frame: FrameRef) -> str:
