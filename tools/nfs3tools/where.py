@@ -21,6 +21,7 @@ import typing
 
 from .messages import REFUSED, add_options, ended, options_of, parser_of
 from .places import FilePlace, NoPlace, Place, parse_place
+from .printed import escaped
 from .taken import FrameRef, NotTaken, Taken, take
 
 ABSENT = 1
@@ -38,7 +39,7 @@ def main(words: list[str]) -> int:
     place = parse_place(chosen.place if chosen.place is not None else sys.stdin.buffer.read().decode(errors='replace'))
     with take(chosen.recording, options_of(chosen)) as taken:
         if not taken.is_recording:
-            raise NotTaken(f'{chosen.recording} is a capture, which has no frames')
+            raise NotTaken(f'{escaped(chosen.recording)} is a capture, which has no frames')
         try:
             frames = taken.frames(place)
         except NoPlace as absent:
