@@ -20,18 +20,21 @@ REFUSED, FAILED, INTERRUPTED = 2, 3, 130
 def run(name: str, main: typing.Callable[[list[str]], int]) -> int:
     """Runs a tool with the words of its command line, and returns its status: 2 if an input or an output is refused, 3 if a file, a
     device, a program or memory fails, also one of the standard streams."""
-    is_closed = {'standard output': sys.stdout is None, 'standard error': sys.stderr is None}
-    occupy_closed_streams()
-    for closed in (stream for stream, is_so in is_closed.items() if is_so):
-        return ended(name, f'{closed} is closed', FAILED)
-    end_by_signals()
     try:
-        return status_of(name, main)
-    finally:
-        drop_unwritten()
+        end_by_signals()
+        status = status_of(name, main)
+        ignore_signals()
+    except KeyboardInterrupt:
+        status = INTERRUPTED
+    drop_unwritten()
+    return status
 
 
 def status_of(name: str, main: typing.Callable[[list[str]], int]) -> int:
+    closed = [named for named, stream in (('standard output', sys.stdout), ('standard error', sys.stderr)) if stream is None]
+    occupy_closed_streams()
+    if closed:
+        return ended(name, f'{closed[0]} is closed', FAILED)
     try:
         status = exit_status(main)
         flush_all()
@@ -46,8 +49,6 @@ def status_of(name: str, main: typing.Callable[[list[str]], int]) -> int:
         return ended(name, str(died), FAILED)
     except MemoryError:
         return ended(name, 'out of memory', FAILED)
-    except KeyboardInterrupt:
-        return INTERRUPTED
 
 
 def exit_status(main: typing.Callable[[list[str]], int]) -> int:
@@ -98,10 +99,14 @@ def end_by_signals() -> None:
 
 
 def interrupted(*_: object) -> None:
-    """Others that come while the tool ends change nothing."""
+    ignore_signals()
+    raise KeyboardInterrupt
+
+
+def ignore_signals() -> None:
+    """Those that come while the tool ends change nothing."""
     for number in ENDING:
         signal.signal(number, signal.SIG_IGN)
-    raise KeyboardInterrupt
 
 
 # --- Messages ---
@@ -122,10 +127,13 @@ def ended(name: str, message: str, status: int) -> int:
 
 
 class Parser(argparse.ArgumentParser):
-    """A parser of command lines that repeats no control characters."""
+    """A parser of command lines that repeats no control characters, and fails if it cannot print."""
 
     def error(self, message: str) -> typing.NoReturn:
         super().error(printable(message))
+
+    def _print_message(self, message: str, file: typing.IO[str] | None = None) -> None:
+        (file or sys.stderr).write(message)
 
 
 def parser_of(text: str | None, words: str) -> argparse.ArgumentParser:
