@@ -602,8 +602,8 @@ def files(tools: Tools) -> None:
     for words, answer in ((('absent', 'x'), (3, '', 'from_pcap: absent: No such file or directory\n')),
                           (('.', 'x'), (3, '', 'from_pcap: .: Is a directory\n')),
                           (('a.pcap', 'absent/x'), (3, '', told + 'from_pcap: absent/x: No such file or directory\n')),
-                          (('a.pcap', 'a.pcap'), (2, '', 'from_pcap: OUT is the recording\n')),
-                          (('a.pcap', './a.pcap'), (2, '', 'from_pcap: OUT is the recording\n')),
+                          (('a.pcap', 'a.pcap'), (2, '', 'from_pcap: a.pcap is an input, and is not replaced\n')),
+                          (('a.pcap', './a.pcap'), (2, '', 'from_pcap: ./a.pcap is an input, and is not replaced\n')),
                           (('out', 'x'), (2, '', 'from_pcap: out is a capture already\n'))):
         tools.want(' '.join(words), tools.tool('from_pcap', *words), answer)
     tools.write('none.pcap', pcap([]))

@@ -6,9 +6,11 @@
 PROGRAM is crates/nfs3canon/out/nfs3canon if none is named. What is installed is run from a folder elsewhere. The last line is
 'N passed, M failed', and the status is 1 if any failed.
 """
+import hashlib
 import os
 import pathlib
 import re
+import shutil
 import tarfile
 import tempfile
 from collections.abc import Callable
@@ -73,6 +75,87 @@ def where_nothing_can_be_written(place: Place) -> None:
     place.want('install', (status, out, 'Traceback' in error, error.count('\n')), (3, '', False, 1))
 
 
+def found_under(folder: str) -> dict[str, tuple[int, bytes | str | None]]:
+    """Each name under a folder, with the number of its file and what it has."""
+    found = dict[str, tuple[int, bytes | str | None]]()
+    for path in sorted(pathlib.Path(folder).rglob('*')):
+        content = os.readlink(path) if path.is_symlink() else path.read_bytes() if path.is_file() else None
+        found[str(path.relative_to(folder))] = path.lstat().st_ino, content
+    return found
+
+
+def nothing_changes(place: Place, status: int, *words: str) -> None:
+    """A command ends with this status and one line, and leaves all as it was."""
+    before = found_under(place.folder)
+    found, out, error = place.command(*words)
+    place.want(' '.join(words), (found, out, error.count('\n'), 'Traceback' in error), (status, '', 1, False))
+    after = found_under(place.folder)
+    place.want('what is there', sorted(after), sorted(before))
+    place.want('what changed', [name for name in before if after.get(name) != before[name]], [])
+
+
+def without_a_program(place: Place) -> None:
+    """In a clone that is not built, with a program that is mistyped, and with one that cannot be run."""
+    clone = pathlib.Path(place.folder, 'clone')
+    for name in ('tools', 'man', 'completions'):
+        shutil.copytree(TOP / name, clone / name)
+    for name in ('CHANGELOG.md', 'LICENSE-MIT', 'LICENSE-APACHE'):
+        shutil.copy(TOP / name, clone)
+    install, env = str(TOP / 'tools/install'), 'PYTHONDONTWRITEBYTECODE=1'
+    place.want('the older one', place.tool('install', 'prefix')[0], 0)
+    for prefix in ('prefix', 'new/prefix'):
+        nothing_changes(place, 2, 'env', env, str(clone / 'tools/install'), prefix)
+        nothing_changes(place, 2, install, '--program', place.program + 'n', prefix)
+        nothing_changes(place, 2, install, '--program', str(TOP / 'CHANGELOG.md'), prefix)
+
+
+def on_a_full_disk(place: Place) -> None:
+    """The old files stay whole, and no new ones are left; also if a folder has one of the names."""
+    bin_folder = pathlib.Path(place.folder, 'prefix/bin')
+    bin_folder.mkdir(parents=True)
+    for name in ('nfs3canon', 'nfs3mask', 'nfs3-where'):
+        (bin_folder / name).write_bytes(b'old')
+    install = [str(TOP / 'tools/install'), '--program', place.program]
+    for blocks, prefix in ((8, 'prefix'), (8, 'new'), (100, 'prefix')):
+        nothing_changes(place, 3, 'bash', '-c', 'ulimit -f %d; exec "$@"' % blocks, 'bash', *install, prefix)
+    (bin_folder / 'nfs3-where').unlink()
+    (bin_folder / 'nfs3-where').mkdir()
+    nothing_changes(place, 3, *install, 'prefix')
+
+
+def removed_again(place: Place) -> None:
+    """What was put under a prefix is taken away, and what was there before or was changed since is left."""
+    place.write('other', b'')
+    place.command('mkdir', '-p', 'prefix/share/man')
+    prefix = pathlib.Path(place.folder, 'prefix')
+    for _ in range(2):
+        place.want('install', place.tool('install', 'prefix')[0], 0)
+    works(place, prefix)
+    (prefix / 'bin/mine').write_bytes(b'mine')
+    changed = prefix / 'share/fish/vendor_completions.d/nfs3mask.fish'
+    changed.write_bytes(b'changed')
+    os.remove(prefix / 'share/man/man1/nfs3-where.1')
+    answer = place.command(str(TOP / 'tools/install'), '--remove', 'prefix')
+    told = 'left, since it is not as it was installed: prefix/share/fish/vendor_completions.d/nfs3mask.fish\nremoved nfs3canon from prefix\n'
+    place.want('remove', answer, (0, told, ''))
+    left = ['bin', 'bin/mine', 'share', 'share/fish', 'share/fish/vendor_completions.d', 'share/fish/vendor_completions.d/nfs3mask.fish',
+            'share/man']
+    place.want('what is left', sorted(found_under(str(prefix))), left)
+    place.want('again', place.command(str(TOP / 'tools/install'), '--remove', 'prefix'),
+               (3, '', 'install: prefix/share/nfs3canon/installed: No such file or directory\n'))
+    place.want('a new prefix', (place.tool('install', 'far/new')[0], place.command(str(TOP / 'tools/install'), '--remove', 'far/new')[0]), (0, 0))
+    place.want('its folders', os.path.exists(place.path('far')), False)
+
+
+def removed_from_elsewhere(place: Place) -> None:
+    """A list that leads out of the prefix is refused, and nothing is removed."""
+    place.write('mine', b'mine')
+    place.command('mkdir', '-p', 'prefix/share/nfs3canon')
+    for line in ('link ../mine x', 'file ../mine %s' % hashlib.sha256(b'mine').hexdigest(), 'folder ../other', 'nonsense'):
+        place.write('prefix/share/nfs3canon/installed', b'folder bin\n' + line.encode() + b'\n')
+        nothing_changes(place, 2, str(TOP / 'tools/install'), '--remove', 'prefix')
+
+
 def as_a_release(place: Place) -> None:
     """The tar file has the layout of a prefix below one folder, its checksum is right, and it is the same when it is made again."""
     name = 'nfs3canon-%s-linux-x86_64' % version()
@@ -95,7 +178,8 @@ def version_of_the_launcher(place: Place) -> None:
         place.want('version', place.command(str(TOP / name), '--version'), (0, '%s %s\n' % (name, version()), ''))
 
 
-TESTS: list[Callable[[Place], None]] = [under_a_prefix, where_nothing_can_be_written, as_a_release, version_of_the_launcher]
+TESTS: list[Callable[[Place], None]] = [under_a_prefix, where_nothing_can_be_written, without_a_program, on_a_full_disk, removed_again,
+                                        removed_from_elsewhere, as_a_release, version_of_the_launcher]
 
 
 def tried(program: str, test: Callable[[Place], None]) -> list[str]:

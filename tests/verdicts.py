@@ -391,7 +391,7 @@ def files_for_others(tools: Tools) -> None:
     tools.want('the suite', [suite.get(key) for key in ('name', 'tests', 'failures', 'errors', 'skipped')],
                ['nfs3canon', '5', '2', '1', '1'])
     in_part = f'ok in part: {344 // CALL} calls, 344 bytes missing'
-    escaped = 'a\\x01\\n<&"]]>\\udcff.pcap'
+    escaped = 'a\\x01\\x0a<&"]]>\\xff.pcap'
     cases = [(case.get('classname'), case.get('name'), [(item.tag, item.get('message')) for item in case if item.tag != 'system-out'])
              for case in suite.iter('testcase')]
     ends = '192.0.2.7:%d to 192.0.2.1:2049'

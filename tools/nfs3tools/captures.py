@@ -1,8 +1,4 @@
 """Capture files: reading both versions, writing version 1 (docs/FORMATS.md)."""
-import contextlib
-import os
-import secrets
-import stat
 import typing
 
 from .recordings import Source
@@ -12,8 +8,6 @@ MAGICS = (b'NFS3CAP1', b'NFS3CAP2')
 CHUNK = 1 << 16
 MOST_CONNECTIONS, MOST_BYTES = 65_535, 1 << 30
 READ_AT_ONCE = 1 << 20
-PART = '.nfs3canon-'  # begins the name of a file that is being written
-TRIES = 16  # such names
 
 
 class BadCapture(Exception):
@@ -116,53 +110,3 @@ def place_in(connections: typing.Iterable[Pair], byte: int) -> tuple[int, int, i
                 return (index, side, chunk * CHUNK + offset - 4) if offset >= 4 else None
             at += size + 4
     return None
-
-
-def write_file(path: str, blocks: typing.Iterable[bytes]) -> None:
-    """Writes a file beside its name, and gives it the name once it is whole. A device or a pipe is written as it is.
-
-    Raises `OSError`; then what has the name is as it was.
-    """
-    target, mode = os.path.realpath(path), None
-    try:
-        with contextlib.suppress(FileNotFoundError):
-            found = os.stat(path)
-            if not stat.S_ISREG(found.st_mode):
-                return write_device(path, blocks)
-            os.close(os.open(target, os.O_WRONLY))  # what may not be written is not replaced
-            mode = found.st_mode & 0o777
-        write_beside(target, blocks, mode)
-    except BrokenPipeError:
-        raise
-    except OSError as failed:
-        named = path if failed.filename in (None, target) or PART in str(failed.filename) else failed.filename
-        raise OSError(failed.errno, failed.strerror or str(failed), named) from failed
-
-
-def write_device(path: str, blocks: typing.Iterable[bytes]) -> None:
-    with open(path, 'wb') as file:
-        file.writelines(blocks)
-
-
-def write_beside(path: str, blocks: typing.Iterable[bytes], mode: int | None) -> None:
-    part, file = part_of(path)
-    try:
-        with file:
-            file.writelines(blocks)
-            file.flush()
-            if mode is not None:
-                os.fchmod(file.fileno(), mode)
-            os.fsync(file.fileno())
-        os.rename(part, path)
-    except BaseException:
-        os.unlink(part)
-        raise
-
-
-def part_of(path: str) -> tuple[str, typing.BinaryIO]:
-    """Makes a new file in the folder of the path, with a short name that is random."""
-    for _ in range(TRIES):
-        part = os.path.join(os.path.dirname(path), PART + secrets.token_hex(8))
-        with contextlib.suppress(FileExistsError):
-            return part, open(part, 'xb')
-    raise FileExistsError(f'no free name beside {path}')

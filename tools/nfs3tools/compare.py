@@ -17,10 +17,8 @@ part, 2 if a recording, a capture or the command line is refused, 3 if a file or
 """
 import argparse
 import re
-import subprocess
 import sys
 import tempfile
-from collections.abc import Iterator
 from contextlib import ExitStack
 from pathlib import Path
 
@@ -29,9 +27,12 @@ from .classes import CLASSES, Mask, default_mask, mask_of, told
 from .comparing import Compared, Run, compare
 from .listings import Message
 from .masking import write_masked
-from .messages import FAILED, REFUSED, add_losses, add_options, options_of, parser_of
+from .messages import REFUSED, add_losses, add_options, options_of, parser_of
+from .outputs import check_output, held, write_file
+from .parts import files_of
 from .places import Place, parse_fault
-from .programs import program_path, run_program
+from .printed import escaped
+from .programs import CHECKED, COMPARED, lines_of_program, program_path, run_program
 from .selection import count
 from .taken import Taken, take
 
@@ -73,51 +74,39 @@ def tell(name: str, taken: Taken) -> None:
     lines = [*taken.notes, *(f'connection {connection.number} {note}' for connection in taken.connections for note in connection.notes),
              *(f'left out: {line}' for line in taken.left_out)]
     for line in lines:
-        print(f'{name}: {line}', file=sys.stderr)
+        print(f'{escaped(name)}: {line}', file=sys.stderr)
 
 
 def checked(program: str, taken: Taken, capture: str, name: str) -> str:
     """Returns how many calls there are. Ends with the fault, and its frame, if the capture is refused."""
-    answer = run_program(program, ['check', capture])
+    answer = run_program(program, ['check', capture], CHECKED)
     counts = COUNTS.match(answer.out)
     if answer.status == 0 and counts:
         return f'{count(int(counts[2]), "call")} in {count(int(counts[1]), "connection")}'
     line = answer.error.strip()
     fault = parse_fault(line)
     frames = taken.frames(fault.place)[:1] if fault and isinstance(fault.place, Place) else []
-    raise Ended(REFUSED if answer.status == 2 else FAILED, f'{name}: {line}' + ''.join(f' (frame {frame.number})' for frame in frames))
+    raise Ended(REFUSED, f'{escaped(name)}: {line}' + ''.join(f' (frame {frame.number})' for frame in frames))
 
 
 def verdict_of(program: str, folder: Path, captures: list[str], mask: Mask) -> str:
     """Returns what `same` says of the masked captures."""
     masked = [str(folder / f'masked{number}') for number, _ in enumerate(captures)]
     for capture, path in zip(captures, masked):
-        answer = write_masked(program, capture, path, mask)
-        if answer.status:
-            raise Ended(FAILED, f'nfs3mask: {answer.error.strip()}')
-    answer = run_program(program, ['same', *masked])
-    if answer.status > DIFFERENT:
-        raise Ended(FAILED, f'same: {answer.error.strip()}')
-    return answer.out.strip()
-
-
-def listing_of(program: str, capture: str) -> Iterator[str]:
-    with subprocess.Popen([program, 'show', capture], stdout=subprocess.PIPE, text=True, encoding='latin-1') as process:
-        assert process.stdout
-        yield from process.stdout
+        write_masked(program, capture, path, mask)
+    return run_program(program, ['same', *masked], COMPARED).out.strip()
 
 
 def run_of(program: str, taken: Taken, capture: str, name: str) -> Run:
     def frames(message: Message) -> list[int]:
         place = Place(message.connection, 'client' if message.is_call else 'server', message.record)
         return [frame.number for frame in taken.frames(place)]
-    return Run(name, listing_of(program, capture), frames)
+    return Run(escaped(name), lines_of_program(program, ['show', capture]), frames)
 
 
-def write_page(path: str, compared: Compared, first: Run, second: Run, verdict: str, mask: str) -> None:
-    with open(path, 'w', encoding='utf-8', errors='backslashreplace') as file:
-        for piece in pages.page(compared, first, second, verdict, mask):
-            file.write(piece)
+def write_page(path: str, inputs: list[str], compared: Compared, first: Run, second: Run, verdict: str, mask: str) -> None:
+    pieces = pages.page(compared, first, second, verdict, mask)
+    write_file(path, (piece.encode(errors='backslashreplace') for piece in pieces), inputs)
 
 
 def losses_of(first: Taken, second: Taken) -> str:
@@ -135,8 +124,12 @@ def line_of(verdict: str, compared: str, losses: str) -> str:
 
 def compared_runs(words: argparse.Namespace, stack: ExitStack) -> int:
     program = program_path(words.program)
-    folder = Path(stack.enter_context(tempfile.TemporaryDirectory(prefix='nfs3canon')))
     names = [words.first, words.second]
+    inputs = [file for name in names for file in files_of(name)]
+    if words.html:
+        check_output(words.html, inputs)
+    with held():
+        folder = Path(stack.enter_context(tempfile.TemporaryDirectory(prefix='nfs3canon')))
     runs = [stack.enter_context(take(name, options_of(words))) for name in names]
     captures = [str(folder / letter) for letter in 'ab']
     sizes = list[str]()
@@ -155,7 +148,7 @@ def compared_runs(words: argparse.Namespace, stack: ExitStack) -> int:
     first, second = (run_of(program, taken, capture, name) for taken, capture, name in zip(runs, captures, names))
     compared = compare(first, second, words.mask)
     if words.html:
-        write_page(words.html, compared, first, second, line, told(words.mask))
+        write_page(words.html, inputs, compared, first, second, line, told(words.mask))
     if verdict == 'same':
         return status
     for line in telling.of_compared(compared, first.frames, second.frames, None if words.all else FINDINGS_AT_MOST):

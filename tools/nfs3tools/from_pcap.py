@@ -31,11 +31,11 @@ The status is 0 if OUT was written, 1 if no connection is taken, 2 if RECORDING 
 if a file or memory failed.
 """
 import argparse
-import os
-import sys
 
 from .messages import add_options, ended, options_of, parser_of, tell
+from .outputs import CAPTURE, check_output
 from .parts import files_of
+from .printed import escaped
 from .taken import NotTaken, take
 
 NOTHING_TAKEN = 1
@@ -48,21 +48,12 @@ def main(words: list[str]) -> int:
     add_options(parser)
     parser.add_argument('--program', help=argparse.SUPPRESS)  # which packed the streams once; scripts may name it still
     chosen = parser.parse_args(words)
-    if any(is_same_file(file, chosen.out) for file in files_of(chosen.recording)):
-        raise NotTaken('OUT is the recording')
+    check_output(chosen.out, files_of(chosen.recording), (CAPTURE,))
     with take(chosen.recording, options_of(chosen), frames=False) as taken:
         if not taken.is_recording:
-            raise NotTaken(f'{chosen.recording} is a capture already')
+            raise NotTaken(f'{escaped(chosen.recording)} is a capture already')
         tell(taken)
         if not taken.connections:
             return ended('from_pcap', 'no connection to pack', NOTHING_TAKEN)
-        taken.write_capture(chosen.out)
+        taken.write_capture(chosen.out, [chosen.recording])
     return 0
-
-
-def is_same_file(recording: str, out: str) -> bool:
-    try:
-        found = os.fstat(sys.stdin.fileno()) if recording == '-' else os.stat(recording)
-        return os.path.samestat(found, os.stat(out))
-    except (OSError, ValueError):
-        return False

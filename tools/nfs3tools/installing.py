@@ -6,19 +6,22 @@ Under the prefix there are
     bin/nfs3-NAME                                a link to each tool, with hyphens in its name
     share/nfs3canon/tools/                       the tools
     share/nfs3canon/{CHANGELOG.md,LICENSE-*}     the version, and the licences
+    share/nfs3canon/installed                    what was put there, which `--remove` takes away again
     share/man/man1/                              the manual pages
     share/bash-completion/completions/, share/zsh/site-functions/, share/fish/vendor_completions.d/
 """
 import argparse
 import hashlib
-import shutil
 import tarfile
 import tempfile
 from collections.abc import Iterator
 from pathlib import Path
 
+from .installed import Installed, Made
 from .messages import parser_of
-from .programs import made_programs, program_beside
+from .outputs import COMPRESSED, write_file
+from .printed import escaped
+from .programs import Missing, made_programs, program_beside
 from .version import TOP, version
 
 PROGRAM = TOP / 'crates/nfs3canon/out/nfs3canon'
@@ -28,6 +31,8 @@ COMPLETIONS = {file.format(name): place.format(name) for name in PROGRAMS for fi
     ('{}.bash', 'share/bash-completion/completions/{}'), ('_{}', 'share/zsh/site-functions/_{}'),
     ('{}.fish', 'share/fish/vendor_completions.d/{}.fish'))}
 HOME = 'share/nfs3canon'
+LIST = f'{HOME}/installed'
+EXECUTABLE = 0o100
 # The time of each file in a release, so that the same sources give the same bytes.
 RELEASED = 0
 
@@ -60,18 +65,22 @@ def links() -> Iterator[tuple[str, str]]:
         yield f'bin/{name_of(tool)}', f'../{HOME}/tools/{tool}'
 
 
-def install(prefix: Path, program: Path) -> None:
-    """Copies all files under a prefix. A file that is replaced is removed first, so that a program that runs goes on."""
-    for source, place in files(program):
-        target = prefix / place
-        target.parent.mkdir(parents=True, exist_ok=True)
-        target.unlink(missing_ok=True)
-        shutil.copyfile(source, target)
-        target.chmod(0o755 if source.stat().st_mode & 0o100 else 0o644)
-    for place, target_of_link in links():
-        link = prefix / place
-        link.unlink(missing_ok=True)
-        link.symlink_to(target_of_link)
+def install(prefix: Path, program: Path, is_listed: bool = True) -> None:
+    """Copies all files under a prefix. Each is made beside its name, and they get their names once all are whole; so nothing has
+    changed if that fails, and a program that runs goes on.
+
+    Raises `Missing` if a program is not there, and `OSError`.
+    """
+    if not program.is_file() or not program.stat().st_mode & EXECUTABLE:
+        raise Missing(f'{escaped(str(program))} is missing, or cannot be run')
+    with Made(prefix) as made:
+        for source, place in files(program):
+            made.write(place, source.read_bytes(), 0o755 if source.stat().st_mode & EXECUTABLE else 0o644)
+        for place, target in links():
+            made.link(place, target)
+        if is_listed:
+            made.list_in(Installed(prefix, LIST))
+        made.give_names()
 
 
 def entry(info: tarfile.TarInfo) -> tarfile.TarInfo:
@@ -86,37 +95,50 @@ def release(folder: Path, program: Path) -> Path:
     """Makes the tar file of a release, and beside it its checksum as `sha256sum -c` reads it. Returns the tar file."""
     name = f'nfs3canon-{version()}-linux-x86_64'
     archive = folder / f'{name}.tar.xz'
-    with tempfile.TemporaryDirectory(prefix='nfs3canon') as place:
-        install(Path(place) / name, program)
-        with tarfile.open(archive, 'w:xz') as tar:
+    with tempfile.TemporaryDirectory(prefix='nfs3canon') as place, tempfile.TemporaryFile() as file:
+        install(Path(place) / name, program, is_listed=False)
+        with tarfile.open(fileobj=file, mode='w:xz') as tar:
             for path in sorted(Path(place).rglob('*')):
                 tar.add(path, path.relative_to(place), recursive=False, filter=entry)
-    checksum = hashlib.sha256(archive.read_bytes()).hexdigest()
-    (folder / f'{archive.name}.sha256').write_text(f'{checksum}  {archive.name}\n')
+        file.seek(0)
+        content = file.read()
+    write_file(str(archive), [content], replaces=(COMPRESSED,))
+    write_file(f'{archive}.sha256', [f'{hashlib.sha256(content).hexdigest()}  {archive.name}\n'.encode()])
     return archive
 
 
-def words_of(words: list[str], name: str, what: str, target: str, default: str) -> argparse.Namespace:
+def parser_for(name: str, what: str, target: str, default: str) -> argparse.ArgumentParser:
     parser = parser_of(what, name)
     parser.add_argument('--program', type=Path, help='nfs3canon, if it is not the one of this repository; nfs3mask is looked for beside it')
     parser.add_argument('target', nargs='?', type=Path, default=Path(default), metavar=target)
-    asked = parser.parse_args(words)
+    return parser
+
+
+def program_of(asked: argparse.Namespace) -> Path:
+    """Returns the program that is named, else that of this repository, which its launcher makes if it is not there."""
     if asked.program is None:
         made_programs(PROGRAMS)
-        asked.program = PROGRAM
-    return asked
+    return asked.program or PROGRAM
 
 
 def main_of_install(words: list[str]) -> int:
-    asked = words_of(words, 'install', 'Puts the programs, the tools, manual pages and completions under PREFIX.', 'PREFIX',
-                     str(Path.home() / '.local'))
-    install(asked.target, asked.program)
-    print(f'installed nfs3canon {version()} under {asked.target}')
+    parser = parser_for('install', 'Puts the programs, the tools, manual pages and completions under PREFIX. If that fails, nothing is '
+                        'changed there.', 'PREFIX', str(Path.home() / '.local'))
+    parser.add_argument('--remove', action='store_true', help='takes away what was put under PREFIX, and leaves what was changed since')
+    asked = parser.parse_args(words)
+    named = escaped(str(asked.target))
+    if asked.remove:
+        for place in Installed(asked.target, LIST).remove():
+            print(f'left, since it is not as it was installed: {escaped(str(asked.target / place))}')
+        print(f'removed nfs3canon from {named}')
+        return 0
+    install(asked.target, program_of(asked))
+    print(f'installed nfs3canon {version()} under {named}')
     return 0
 
 
 def main_of_release(words: list[str]) -> int:
-    asked = words_of(words, 'release', 'Makes the tar file of a release, and its checksum, in FOLDER. Unpack it, and copy what '
-                     'is in it under a prefix.', 'FOLDER', '.')
-    print(release(asked.target, asked.program))
+    asked = parser_for('release', 'Makes the tar file of a release, and its checksum, in FOLDER. Unpack it, and copy what '
+                       'is in it under a prefix.', 'FOLDER', '.').parse_args(words)
+    print(escaped(str(release(asked.target, program_of(asked)))))
     return 0

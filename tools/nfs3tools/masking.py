@@ -1,6 +1,6 @@
 """Captures with masked values, so that `nfs3canon same` passes over them. nfs3mask masks them."""
 from .classes import BY_NAME, Mask
-from .programs import Answer, program_beside, run_program
+from .programs import MASKED, program_beside, run_program
 
 
 def words_for(mask: Mask) -> list[str]:
@@ -8,9 +8,9 @@ def words_for(mask: Mask) -> list[str]:
     return [f'{name}={mask[name].value if name in mask else "keep"}' for name in BY_NAME]
 
 
-def write_masked(program: str, capture: str, path: str, mask: Mask) -> Answer:
-    """Writes a well-formed capture with masked values to a path, and returns what nfs3mask answered.
+def write_masked(program: str, capture: str, path: str, mask: Mask) -> None:
+    """Writes a well-formed capture with masked values to a path.
 
-    Raises `Missing` if nfs3mask is not there.
+    Raises `Missing` if nfs3mask is not there, and `Died` if it fails.
     """
-    return run_program(program_beside(program, 'nfs3mask'), [capture, path, *words_for(mask)])
+    run_program(program_beside(program, 'nfs3mask'), [capture, path, *words_for(mask)], MASKED)

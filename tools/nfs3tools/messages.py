@@ -5,8 +5,10 @@ import signal
 import sys
 import typing
 
+from .outputs import ENDING, Refused
 from .places import NoPlace
-from .programs import FilterRefused, Missing
+from .printed import escaped, printable
+from .programs import Died, FilterRefused, Missing
 from .selection import Options
 from .taken import NotTaken, Taken
 from .version import version
@@ -19,26 +21,86 @@ READING = {'from_pcap': '- OUT', 'where': '- PLACE', 'verdicts': '-'}
 
 
 def run(name: str, main: typing.Callable[[list[str]], int]) -> int:
-    """Runs a tool with the words of its command line, and returns its status: 2 if an input is refused, 3 if a file, a
-    device or memory fails."""
-    signal.signal(signal.SIGTERM, interrupted)
+    """Runs a tool with the words of its command line, and returns its status: 2 if an input or an output is refused, 3 if a file, a
+    device, a program or memory fails, also one of the standard streams."""
     try:
-        status = main(sys.argv[1:])
-        sys.stdout.flush()
+        end_by_signals()
+        status = status_of(name, main)
+        ignore_signals()
+    except KeyboardInterrupt:
+        status = INTERRUPTED
+    drop_unwritten()
+    return status
+
+
+def status_of(name: str, main: typing.Callable[[list[str]], int]) -> int:
+    closed = [named for named, stream in (('standard output', sys.stdout), ('standard error', sys.stderr)) if stream is None]
+    occupy_closed_streams()
+    if closed:
+        return ended(name, f'{closed[0]} is closed', FAILED)
+    try:
+        status = exit_status(main)
+        flush_all()
         return status
     except NotTaken as refused:
         return ended(name, advice_on(refused, name), REFUSED)
-    except (NoPlace, Missing, FilterRefused) as refused:
+    except (NoPlace, Missing, FilterRefused, Refused) as refused:
         return ended(name, str(refused), REFUSED)
     except BrokenPipeError:
-        os.dup2(os.open(os.devnull, os.O_WRONLY), sys.stdout.fileno())
         return FAILED
     except OSError as failed:
         return ended(name, words_of(failed), FAILED)
+    except Died as died:
+        return ended(name, str(died), FAILED)
     except MemoryError:
         return ended(name, 'out of memory', FAILED)
-    except KeyboardInterrupt:
-        return INTERRUPTED
+
+
+def exit_status(main: typing.Callable[[list[str]], int]) -> int:
+    """The status of a tool, which may end while its command line is read."""
+    try:
+        return main(sys.argv[1:])
+    except SystemExit as end:
+        return end.code if isinstance(end.code, int) else 0
+
+
+# --- The standard streams ---
+
+def occupy_closed_streams() -> None:
+    """Makes sure that no other file gets the number of a standard stream. Standard input that is closed cannot be read."""
+    while (number := os.open(os.devnull, os.O_WRONLY)) <= 2:
+        pass
+    os.close(number)
+    for stream, number in (('stdin', 0), ('stdout', 1), ('stderr', 2)):
+        if getattr(sys, stream) is None:
+            setattr(sys, stream, open(number, 'w' if number else 'r', closefd=False))
+
+
+def flush_all() -> None:
+    """Raises `OSError`, with the name of the stream, if what was printed cannot be written."""
+    for stream, named in ((sys.stdout, 'standard output'), (sys.stderr, 'standard error')):
+        try:
+            stream.flush()
+        except BrokenPipeError:
+            raise
+        except OSError as failed:
+            raise OSError(failed.errno, failed.strerror, named) from failed
+
+
+def drop_unwritten() -> None:
+    """Leaves nothing that Python would try to write at its end, and then tell of in its own way."""
+    for stream in (sys.stdout, sys.stderr):
+        try:
+            stream.flush()
+        except OSError:
+            os.dup2(os.open(os.devnull, os.O_WRONLY), stream.fileno())
+
+
+def end_by_signals() -> None:
+    """The tool ends by these signals as after a failure, unless whoever started it has them ignored."""
+    for number in ENDING:
+        if signal.getsignal(number) is not signal.SIG_IGN:
+            signal.signal(number, interrupted)
 
 
 def advice_on(refused: NotTaken, name: str) -> str:
@@ -52,23 +114,46 @@ def advice_on(refused: NotTaken, name: str) -> str:
 
 
 def interrupted(*_: object) -> None:
+    ignore_signals()
     raise KeyboardInterrupt
 
+
+def ignore_signals() -> None:
+    """Those that come while the tool ends change nothing."""
+    for number in ENDING:
+        signal.signal(number, signal.SIG_IGN)
+
+
+# --- Messages ---
 
 def words_of(failed: OSError) -> str:
     """What failed, with the name of the file if there is one."""
     words = failed.strerror or str(failed)
-    return f'{failed.filename}: {words}' if failed.filename else words
+    return f'{escaped(os.fsdecode(failed.filename))}: {words}' if isinstance(failed.filename, (str, bytes)) and failed.filename else words
 
 
 def ended(name: str, message: str, status: int) -> int:
-    print(f'{name}: {message}', file=sys.stderr)
+    """Prints how a tool ends, and returns its status, which is another if that cannot be printed."""
+    try:
+        print(f'{name}: {printable(message)}', file=sys.stderr, flush=True)
+    except OSError:
+        return FAILED
     return status
+
+
+class Parser(argparse.ArgumentParser):
+    """A parser of command lines that repeats no control characters, and fails if it cannot print."""
+
+    def error(self, message: str) -> typing.NoReturn:
+        super().error(printable(message))
+
+    def _print_message(self, message: str, file: typing.IO[str] | None = None) -> None:
+        (file or sys.stderr).write(message)
 
 
 def parser_of(text: str | None, words: str) -> argparse.ArgumentParser:
     """A parser of command lines, whose help is the text of a module."""
-    parser = argparse.ArgumentParser(prog=words, description=text, formatter_class=argparse.RawDescriptionHelpFormatter)
+    parser = Parser(prog=words, description=text, formatter_class=argparse.RawDescriptionHelpFormatter)
     parser.add_argument('--version', action='version', version=f'{words} {version()}')
     return parser
 

@@ -8,6 +8,7 @@ import re
 import shlex
 import typing
 
+from .printed import escaped
 from .recordings import Damaged, NoRecording, Recording, Source, opened
 
 
@@ -38,7 +39,7 @@ def first_time(path: str) -> int:
         try:
             return next((frame.time for frame in Recording(Source(file)).frames()), 0)
         except (NoRecording, Damaged) as refused:
-            raise NoRecording(f'{path}: {refused}') from refused
+            raise NoRecording(f'{escaped(path)}: {refused}') from refused
 
 
 def pattern_beside(path: str) -> str | None:

@@ -1,16 +1,28 @@
-"""Running the built program, and tshark."""
+"""Running the built programs, and tshark. Each is asked how it ended."""
 import contextlib
 import pathlib
 import shutil
+import signal
 import subprocess
 import tempfile
 import typing
 
+from .outputs import write_whole
+from .printed import escaped, printable
+
 TOP = pathlib.Path(__file__).resolve().parent.parent.parent
+# How the programs answer: by which status, and how standard output begins then.
+CHECKED, COMPARED, MASKED = {0: 'ok ', 2: ''}, {0: 'same\n', 1: 'differ at '}, {0: 'ok '}
+COMMANDS = ('check', 'same', 'show')
+MOST_STATUS = 125  # of a program itself; a shell and a loader have those above for one that cannot run
 
 
 class Missing(Exception):
     """A program is not there; its text is the message for the user."""
+
+
+class Died(Exception):
+    """A program did not end as one that has done its work; the text is the message for the user."""
 
 
 class Answer(typing.NamedTuple):
@@ -31,7 +43,7 @@ def program_path(named: str | None = None) -> str:
         found = shutil.which(name)
         if found:
             return found
-    raise Missing(f'{named or "nfs3canon"} is missing')
+    raise Missing(f'{escaped(named or "nfs3canon")} is missing')
 
 
 def program_beside(program: str, name: str) -> str:
@@ -60,22 +72,57 @@ def made_programs(names: typing.Iterable[str]) -> None:
             raise Missing(f'{name} cannot be made: ' + done.stderr.decode(errors='replace').strip().rpartition('\n')[2])
 
 
-def run_program(program: str, words: list[str], content: typing.Iterable[bytes] = ()) -> Answer:
-    """Runs the program with the content as its standard input, which it may leave unread."""
+def run_program(program: str, words: list[str], expected: typing.Mapping[int, str], content: typing.Iterable[bytes] = ()) -> Answer:
+    """Runs the program with the content as its standard input, which it may leave unread. `expected` has each status that is an answer,
+    and how its standard output begins then.
+
+    Raises `Died` if it ends in another way.
+    """
     with tempfile.TemporaryFile() as out, tempfile.TemporaryFile() as error:
-        with subprocess.Popen([program, *words], bufsize=0, stdin=subprocess.PIPE, stdout=out, stderr=error) as process:
+        with begun([program, *words], stdin=subprocess.PIPE, stdout=out, stderr=error) as process:
             assert process.stdin is not None
             with contextlib.suppress(BrokenPipeError):
                 for block in content:
-                    write_whole(process.stdin, block)
-        out.seek(0)
-        error.seek(0)
-        return Answer(process.returncode, *(file.read().decode(errors='replace') for file in (out, error)))
+                    write_whole(process.stdin.fileno(), block)
+        answer = Answer(process.returncode, *map(text_of, (out, error)))
+    if answer.status not in expected or not answer.out.startswith(expected[answer.status]):
+        raise died([program, *words], answer.status, answer.error)
+    return answer
 
 
-def write_whole(file: typing.IO[bytes], block: bytes) -> None:
-    while block:
-        block = block[file.write(block):]
+def lines_of_program(program: str, words: list[str]) -> typing.Iterator[str]:
+    """Iterates over the lines that a program prints.
+
+    Raises `Died` after the last of them unless its status is 0.
+    """
+    with tempfile.TemporaryFile() as error:
+        with begun([program, *words], stdin=subprocess.DEVNULL, stdout=subprocess.PIPE, stderr=error) as process:
+            assert process.stdout is not None
+            for line in process.stdout:
+                if line.endswith(b'\n'):
+                    yield line.decode('latin-1')
+        if process.returncode:
+            raise died([program, *words], process.returncode, text_of(error))
+
+
+def begun(command: list[str], stdin: int, stdout: typing.IO[bytes] | int, stderr: typing.IO[bytes] | int) -> 'subprocess.Popen[bytes]':
+    """Raises `Died` if the program cannot be started, as when memory is short."""
+    try:
+        return subprocess.Popen(command, stdin=stdin, stdout=stdout, stderr=stderr)
+    except OSError as failed:
+        raise Died(f'{escaped(command[0])} cannot be started: {failed.strerror or failed}') from failed
+
+
+def text_of(file: typing.IO[bytes]) -> str:
+    file.seek(0)
+    return file.read().decode(errors='replace')
+
+
+def died(command: list[str], status: int, error: str) -> Died:
+    """Says which program ended how, and what it said last."""
+    name = ' '.join([pathlib.Path(command[0]).name, *(word for word in command[1:2] if word in COMMANDS)])
+    how = f'was killed by signal {-status} ({signal.strsignal(-status)})' if status < 0 else f'ended with status {status}'
+    return Died(f'{escaped(name)} {how}' + ''.join(f': {printable(line)}' for line in error.splitlines()[-1:]))
 
 
 def chosen_frames(recording: str, display_filter: str) -> set[int]:
@@ -86,11 +133,14 @@ def chosen_frames(recording: str, display_filter: str) -> set[int]:
     if not shutil.which('tshark'):
         raise Missing('tshark is missing, which --filter needs')
     words = ['tshark', '-n', '-r', recording, '-Y', f'tcp && ({display_filter})', '-T', 'fields', '-e', 'frame.number']
-    done = subprocess.run(words, stdin=subprocess.DEVNULL, stdout=subprocess.PIPE, stderr=subprocess.PIPE, text=True, check=False)
-    complaints = [line for line in done.stderr.splitlines() if line and not line.startswith('Running as user "root"')]
-    if done.returncode not in (0, 2) or done.returncode and not done.stdout:
-        raise FilterRefused('\n'.join(complaints) or f'tshark ended with status {done.returncode}')
-    return set(map(int, done.stdout.split()))
+    with begun(words, stdin=subprocess.DEVNULL, stdout=subprocess.PIPE, stderr=subprocess.PIPE) as process:
+        out, error = (piece.decode(errors='replace') for piece in process.communicate())
+    complaints = [line for line in error.splitlines() if line and not line.startswith('Running as user "root"')]
+    if process.returncode < 0 or process.returncode > MOST_STATUS:
+        raise died(words[:1], process.returncode, error)
+    if process.returncode not in (0, 2) or process.returncode and not out:
+        raise FilterRefused('; '.join(map(printable, complaints)) or f'tshark ended with status {process.returncode}')
+    return set(map(int, out.split()))
 
 
 class FilterRefused(Exception):

@@ -21,7 +21,8 @@ import tempfile
 import time
 import typing
 
-from .captures import CHUNK, MAGICS, MOST_BYTES, MOST_CONNECTIONS, BadCapture, Container, capture_of, place_in, write_file
+from .captures import CHUNK, MAGICS, MOST_BYTES, MOST_CONNECTIONS, BadCapture, Container, capture_of, place_in
+from .outputs import CAPTURE, write_file
 from .parts import Part, files_of, in_order, pattern_beside
 from .places import SIDES, FilePlace, NoPlace, Place, Side
 from .programs import chosen_frames
@@ -188,19 +189,19 @@ class Taken:
     def pairs(self) -> list[tuple[TakenStream, TakenStream]]:
         return [(connection.client, connection.server) for connection in self.connections]
 
-    def write_capture(self, path: str) -> None:
+    def write_capture(self, path: str, inputs: typing.Iterable[str] = ()) -> None:
         """Writes the connections as a capture of version 1, in chunks of 65,536 bytes.
 
-        The file is written beside its name and renamed once it is whole. A device or a pipe is written as it is.
+        An older capture may be replaced.
 
-        Raises `NotTaken` if they are more than a capture may have, and `OSError`; then the file is as it was.
+        Raises `NotTaken` if they are more than a capture may have, and what `write_file` does; then the file is as it was.
         """
         size = sum(stream.size for pair in self.pairs() for stream in pair)
         if len(self.connections) > MOST_CONNECTIONS:
             raise NotTaken(f'{len(self.connections)} connections are more than the {MOST_CONNECTIONS} of a capture')
         if size > MOST_BYTES:
             raise NotTaken(f'{size} bytes of streams are more than the {MOST_BYTES} of a capture')
-        write_file(path, capture_of(self.pairs()))
+        write_file(path, capture_of(self.pairs()), inputs, (CAPTURE,))
 
     def frames(self, place: Place | FilePlace) -> list[FrameRef]:
         """Returns the frames that carry a byte, or all frames that carry a record if the place names no byte.

@@ -28,11 +28,12 @@ import time
 import typing
 import xml.etree.ElementTree
 
-from .captures import write_file
 from .messages import add_losses, add_options, advice_on, options_of, parser_of, words_of
+from .outputs import check_output, write_file
 from .parts import files_of
 from .places import FilePlace, Place, parse_fault
-from .programs import Answer, FilterRefused, Missing, program_path, run_program
+from .printed import escaped, printable
+from .programs import CHECKED, Answer, Died, FilterRefused, Missing, program_path, run_program
 from .selection import Options, count
 from .taken import FrameRef, LeftOut, NotTaken, Taken, TakenConnection, take
 
@@ -83,6 +84,8 @@ class Judge(typing.NamedTuple):
             return [error_of(recording, str(refused))]
         except OSError as failed:
             return [error_of(recording, words_of(failed))]
+        except Died as died:
+            raise Died(f'{escaped(recording)}: {died}') from died
         except MemoryError:
             return [error_of(recording, 'out of memory')]
 
@@ -100,13 +103,13 @@ class Judge(typing.NamedTuple):
 
     def of_connection(self, recording: str, taken: Taken, connection: TakenConnection) -> Verdict:
         begin = time.monotonic()
-        answer = run_program(self.program, ['check', '/dev/stdin'], connection.capture())
+        answer = run_program(self.program, ['check', '/dev/stdin'], CHECKED, connection.capture())
         verdict = verdict_of(recording, taken, connection, answer)
         return verdict._replace(notes=connection.notes, seconds=time.monotonic() - begin)
 
     def of_container(self, recording: str, others: list[Verdict]) -> list[Verdict]:
         """The verdict on a capture that is not whole, unless it is that on one of its connections."""
-        answer = run_program(self.program, ['check', *files_of(recording)])
+        answer = run_program(self.program, ['check', *files_of(recording)], CHECKED)
         fault = parse_fault(answer.error)
         if fault is None:
             return [error_of(recording, told(answer))]
@@ -167,6 +170,9 @@ def main(words: list[str]) -> int:
     add_losses(parser, 'ok in part')
     chosen = parser.parse_args(words)
     at_once = max(1, min(CONNECTIONS_AT_ONCE, chosen.j // len(chosen.recordings)))
+    inputs = [file for recording in chosen.recordings for file in files_of(recording)]
+    for path in [path for path in (chosen.junit, chosen.json) if path]:
+        check_output(path, inputs)
     judge = Judge(program_path(chosen.program), options_of(chosen), at_once, len(chosen.recordings) == 1)
     try:
         verdicts = list(judged(judge, chosen.recordings, chosen.j))
@@ -174,9 +180,9 @@ def main(words: list[str]) -> int:
         raise OSError('a process that judged a recording was killed, as when memory runs out') from broken
     print_table(verdicts)
     if chosen.junit:
-        write_file(chosen.junit, [junit_of(verdicts, chosen.allow_losses)])
+        write_file(chosen.junit, [junit_of(verdicts, chosen.allow_losses)], inputs)
     if chosen.json:
-        write_file(chosen.json, [json_of(verdicts)])
+        write_file(chosen.json, [json_of(verdicts)], inputs)
     good = ['ok', 'skipped', 'note', *(['in part'] if chosen.allow_losses else [])]
     return 0 if all(verdict.state in good for verdict in verdicts) else NOT_ALL_OK
 
@@ -206,6 +212,7 @@ def judged(judge: Judge, recordings: list[str], at_once: int) -> typing.Iterator
 def leave_interrupts() -> None:
     """An interrupt from the keyboard is for the process that waits for this one."""
     signal.signal(signal.SIGINT, signal.SIG_IGN)
+    signal.signal(signal.SIGHUP, signal.SIG_IGN)
     signal.signal(signal.SIGTERM, signal.SIG_DFL)
 
 
@@ -214,7 +221,8 @@ def leave_interrupts() -> None:
 def print_table(verdicts: list[Verdict]) -> None:
     """Prints a row for each verdict but those on connections that are left out, which with all notes go to standard error."""
     for verdict in verdicts:
-        named = verdict.recording if verdict.connection is None else f'{verdict.recording}: connection {verdict.connection}'
+        name = escaped(verdict.recording)
+        named = name if verdict.connection is None else f'{name}: connection {verdict.connection}'
         said = {'skipped': [f'left out: {verdict.message}'], 'note': [verdict.message]}.get(verdict.state, [])
         for line in [*verdict.notes, *said]:
             print(printable(f'{named}: {line}'), file=sys.stderr)
@@ -230,13 +238,8 @@ def print_table(verdicts: list[Verdict]) -> None:
 def row_of(verdict: Verdict) -> tuple[str, ...]:
     numbers = (verdict.connection, verdict.calls, verdict.replies)
     connection, calls, replies = ('-' if number is None else str(number) for number in numbers)
-    return (printable(verdict.recording), connection, verdict.client or '-', verdict.server or '-', calls, replies,
+    return (escaped(verdict.recording), connection, verdict.client or '-', verdict.server or '-', calls, replies,
             printable(verdict.message))
-
-
-def printable(text: str) -> str:
-    """A text without control characters and without bytes that are no UTF-8, which no terminal and no XML should get."""
-    return ''.join(letter if letter.isprintable() else letter.encode('unicode_escape').decode() for letter in text)
 
 
 def junit_of(verdicts: list[Verdict], allows_losses: bool) -> bytes:
@@ -252,14 +255,14 @@ def junit_of(verdicts: list[Verdict], allows_losses: bool) -> bytes:
     number = sum(verdict.state == 'in part' for verdict in cases)
     element(element(suite, 'properties'), 'property', name='in part', value=str(number))
     for verdict, tag in zip(cases, found):
-        case = element(suite, 'testcase', classname=printable(verdict.recording), name=name_of(verdict),
+        case = element(suite, 'testcase', classname=escaped(verdict.recording), name=name_of(verdict),
                        time=f'{verdict.seconds:.3f}')
         if tag:
             element(case, tag, {'type': 'in part'} if verdict.state == 'in part' else {}, message=printable(verdict.message))
         told = [verdict.message] * (verdict.state == 'in part') + verdict.notes
         if told:
             element(case, 'system-out').text = '\n'.join(map(printable, told))
-    notes = [printable(f'{verdict.recording}: {verdict.message}') for verdict in verdicts if verdict.state == 'note']
+    notes = [printable(f'{escaped(verdict.recording)}: {verdict.message}') for verdict in verdicts if verdict.state == 'note']
     if notes:
         element(suite, 'system-out').text = '\n'.join(notes)
     return bytes(xml.etree.ElementTree.tostring(suites, encoding='utf-8', xml_declaration=True)) + b'\n'
@@ -276,7 +279,7 @@ def json_of(verdicts: list[Verdict]) -> bytes:
     rows = []
     for verdict in verdicts:
         row = verdict._asdict()
-        row.update(recording=printable(verdict.recording), frames=[frame._asdict() for frame in verdict.frames],
+        row.update(recording=escaped(verdict.recording), frames=[frame._asdict() for frame in verdict.frames],
                    seconds=round(verdict.seconds, 3))
         rows.append(row)
     return json.dumps(rows, indent=1).encode() + b'\n'

@@ -23,8 +23,8 @@ import typing
 
 from .messages import REFUSED, add_options, ended, options_of, parser_of
 from .places import FilePlace, NoPlace, Place, parse_place
+from .printed import escaped
 from .taken import FrameRef, NotTaken, Taken, take
-from .verdicts import printable
 
 ABSENT = 1
 SHOWN_AT_MOST = 12  # frames of which the time is printed
@@ -41,7 +41,7 @@ def main(words: list[str]) -> int:
     place = parse_place(chosen.place if chosen.place is not None else sys.stdin.buffer.read().decode(errors='replace'))
     with take(chosen.recording, options_of(chosen)) as taken:
         if not taken.is_recording:
-            raise NotTaken(f'{chosen.recording} is a capture, which has no frames')
+            raise NotTaken(f'{escaped(chosen.recording)} is a capture, which has no frames')
         try:
             frames = taken.frames(place)
         except NoPlace as absent:
@@ -67,7 +67,7 @@ def lines_of(taken: Taken, place: Place | FilePlace, frames: list[FrameRef]) -> 
     for part, after in zip(taken.parts, [*(part.before for part in taken.parts[1:]), sys.maxsize]):
         numbers = [frame.number - part.before for frame in frames if part.before < frame.number <= after]
         if numbers:
-            yield f'{printable(part.path)}: {filter_of(numbers)}'
+            yield f'{escaped(part.path)}: {filter_of(numbers)}'
 
 
 def time_of(frame: FrameRef) -> str:

@@ -1,0 +1,16 @@
+"""How names and foreign texts are printed: without what a terminal or a page would take for its own."""
+
+
+def escaped(name: str) -> str:
+    """Returns the name of a file as nfs3canon prints it: a control character, a backslash, and a byte that is no text, is `\\x` and two
+    digits."""
+    return ''.join(letter if letter != '\\' and letter.isprintable() else hexadecimal(letter) for letter in name)
+
+
+def printable(text: str) -> str:
+    """Returns a text in which names are escaped already, and nothing else is a control character."""
+    return ''.join(letter if letter.isprintable() else hexadecimal(letter) for letter in text)
+
+
+def hexadecimal(letter: str) -> str:
+    return ''.join(f'\\x{byte:02x}' for byte in letter.encode(errors='surrogateescape'))
