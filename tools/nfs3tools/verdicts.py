@@ -11,8 +11,9 @@ The recordings are taken as by `tools/from_pcap` (--midstream, --whole-records, 
 the verdicts as JUnit XML, as Jenkins and GitLab take it, and --json as a list with an object for each row. N recordings are
 judged at once, as many as there are processors if it is not said.
 
-The status is 0 if all are ok, 1 if one is not, 2 if the command line is refused or the program is missing, 3 if FILE cannot be
-written.
+FILE is written beside its name, and gets it once it is whole. It is refused if it is an input, or begins as a recording or a
+capture. The status is 0 if all are ok, 1 if one is not, 2 if the command line or FILE is refused or the program is missing, 3 if
+FILE cannot be written or a program died.
 """
 import concurrent.futures
 import contextlib
