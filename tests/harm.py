@@ -10,7 +10,6 @@ import errno
 import gzip
 import lzma
 import os
-import pathlib
 import re
 import signal
 import stat

@@ -1,6 +1,5 @@
 """How the tools speak and end: messages on standard error, a status, and never a traceback."""
 import argparse
-import contextlib
 import os
 import signal
 import sys
