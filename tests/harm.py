@@ -54,6 +54,10 @@ def parts(tools: Tools) -> list[str]:
     return [name for name in tools.names() if name.startswith('.nfs3canon')]
 
 
+def last_of(error: str) -> str:
+    return ''.join(error.splitlines()[-1:])
+
+
 def one_line(tools: Tools, what: str, answer: Answer, status: int, *texts: str) -> None:
     """It ends with the status and one line on standard error, which has the texts."""
     lines = answer[2].splitlines()
@@ -120,7 +124,7 @@ def full_disks(tools: Tools) -> None:
         tools.want('the old one', (tools.read('page'), parts(tools)), (AS_IT_WAS, []))
     for words in writers(tools, '/dev/full', FIRST):
         status, _, error = tools.tool(*words)
-        tools.want('a full device', (status, error.splitlines()[-1]), (3, f'{words[0]}: /dev/full: No space left on device'))
+        tools.want('a full device', (status, last_of(error)), (3, f'{words[0]}: /dev/full: No space left on device'))
 
 
 # The look number N of those at a name fails.
@@ -178,7 +182,7 @@ def names_that_another_gets(tools: Tools) -> None:
             elif tools.exists('out'):
                 os.remove(tools.path('out'))
             status, _, error = patched(tools, ANOTHER, *words)
-            tools.want('the end', (status, error.splitlines()[-1].startswith(f'{words[0]}: out: ')), (3, True))
+            tools.want('the end', (status, last_of(error).startswith(f'{words[0]}: out: ')), (3, True))
             tools.want('what is there', (tools.read('out'), parts(tools)), (b'theirs', []))
 
 
@@ -188,7 +192,7 @@ def removed_files(tools: Tools) -> None:
     os.symlink('absent', tools.path('link'))
     for words in writers(tools, '/proc/self/fd/7', FIRST):
         status, _, error = through_bash(tools, 'exec 7<>del; rm del; exec "$@"', tool(words[0]), *words[1:])
-        tools.want(words[0], (status, error.splitlines()[-1].startswith(f'{words[0]}: /proc/self/fd/7: ')), (3, True))
+        tools.want(words[0], (status, last_of(error).startswith(f'{words[0]}: /proc/self/fd/7: ')), (3, True))
         tools.want('the other file', tools.read('del (deleted)'), AS_IT_WAS)
     for words in writers(tools, 'link', FIRST):
         tools.want('a link to nothing', (tools.tool(*words)[0], tools.exists('absent')), (3, False))
@@ -376,7 +380,7 @@ def names(tools: Tools) -> None:
     for words in rows:
         command = [tool(words[0]), *words[1:]]
         done = ended([os.fsencode(word) for word in command], tools.folder)
-        printed = (done.out + done.error).decode()
+        printed = (done.out + done.error).decode(errors='replace')
         what = f'{words[0]} {words[-1]!r}'
         tools.want(what, (re.findall(r'[\x00-\x09\x0b-\x1f]|Traceback', printed), SHOWN in printed or SHOWN.replace('\\x5c', '\\') in printed),
                    ([], True))

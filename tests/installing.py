@@ -95,7 +95,7 @@ def nothing_changes(place: Place, status: int, *words: str) -> None:
 
 
 def without_a_program(place: Place) -> None:
-    """In a clone that is not built, with a program that is mistyped, and with one that cannot be run."""
+    """Where no launcher can make the programs, with a program that is mistyped, and with one that cannot be run."""
     clone = pathlib.Path(place.folder, 'clone')
     for name in ('tools', 'man', 'completions'):
         shutil.copytree(TOP / name, clone / name)

@@ -177,7 +177,7 @@ def parts_of_a_recording(tools: Tools) -> None:
         'frame 4, ' + time % 3, 'frame 5, ' + time % 4, 'run.pcap1: frame.number in {4..5}'])
     tools.want('where, in two parts', tools.tool('where', 'run.pcap*', 'connection 2 client record 16')[1].splitlines()[1:], [
         'frame 20, ' + time % 19, 'frame 21, ' + time % 20, 'run.pcap2: frame.number == 14', 'run.pcap10: frame.number == 1'])
-    tools.want('OUT is a part', tools.tool('from_pcap', 'run.pcap*', 'run.pcap10'), (2, '', 'from_pcap: OUT is the recording\n'))
+    tools.want('OUT is a part', tools.tool('from_pcap', 'run.pcap*', 'run.pcap10'), (2, '', 'from_pcap: run.pcap10 is an input, and is not replaced\n'))
     tools.write('run.pcap*', pcap(whole()))
     tools.want('the name of a file', len(verdicts(tools, 'run.pcap*')[1]), 1)
     os.remove(tools.path('run.pcap*'))

@@ -12,8 +12,9 @@ is told. If the runs differ, calls are brought together by connection, procedure
 --mask times,ids masks these classes alone, --mask +owners one more, --mask=-times one less, --mask none nothing; NAME=zero and
 NAME=number say how.
 
-The status is 0 if the runs are the same under the mask (with --allow-losses also in part), 1 if they differ or are the same in
-part, 2 if a recording, a capture or the command line is refused, 3 if a file or memory failed.
+FILE is written beside its name, and gets it once it is whole. It is refused if it is an input, or begins as a recording or a
+capture. The status is 0 if the runs are the same under the mask (with --allow-losses also in part), 1 if they differ or are the
+same in part, 2 if a recording, a capture, FILE or the command line is refused, 3 if a file, a program or memory failed.
 """
 import argparse
 import re

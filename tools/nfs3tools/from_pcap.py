@@ -27,8 +27,8 @@ FILTER is a display filter of Wireshark that is true of whole connections, as `t
 it alone needs tshark (Debian's package tshark).
 
 OUT is written under a short name beside its own, `.nfs3canon-` and 16 digits, and gets its name once it is whole.
-The status is 0 if OUT was written, 1 if no connection is taken, 2 if RECORDING or FILTER is refused or tshark is missing, 3
-if a file or memory failed.
+It is refused if it begins as a recording; an older capture is replaced. The status is 0 if OUT was written, 1 if no connection is
+taken, 2 if RECORDING, OUT or FILTER is refused or tshark is missing, 3 if a file, tshark or memory failed.
 """
 import argparse
 

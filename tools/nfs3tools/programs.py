@@ -67,7 +67,10 @@ def made_programs(names: typing.Iterable[str]) -> None:
     """
     for name in names:
         # (without words a program prints its usage)
-        done = subprocess.run([TOP / name], stdin=subprocess.DEVNULL, stdout=subprocess.DEVNULL, stderr=subprocess.PIPE, check=False)
+        launcher = shutil.which(TOP / name)
+        if launcher is None:
+            raise Missing(f'{name} is missing')
+        done = subprocess.run([launcher], stdin=subprocess.DEVNULL, stdout=subprocess.DEVNULL, stderr=subprocess.PIPE, check=False)
         if not (TOP / f'crates/{name}/out/{name}').exists():
             raise Missing(f'{name} cannot be made: ' + done.stderr.decode(errors='replace').strip().rpartition('\n')[2])
 

@@ -13,8 +13,9 @@ recording); `-` is standard input. --junit writes the verdicts as JUnit XML, as 
 with an object for each row and for each note on a recording. N recordings are judged at once, as many as there are processors if
 it is not said.
 
-The status is 0 if all are ok (with --allow-losses also if they are ok in part), 1 if one is not, 2 if the command line is
-refused or the program is missing, 3 if FILE cannot be written.
+FILE is written beside its name, and gets it once it is whole. It is refused if it is an input, or begins as a recording or a
+capture. The status is 0 if all are ok (with --allow-losses also if they are ok in part), 1 if one is not, 2 if the command line
+or FILE is refused or the program is missing, 3 if FILE cannot be written or a program died.
 """
 import concurrent.futures
 import contextlib
