@@ -444,6 +444,28 @@ def rights_on_an_output(place: Place) -> None:
         place.want('canon to a new file', (answer, os.stat(path).st_mode & 0o7777), ((0, GOOD_LINE, ''), 0o666 & ~mask))
 
 
+def rights_that_cannot_be_given_back(place: Place) -> None:
+    """Nobody but the owner of an output may do more with it than before. A class of which somebody may be in another one now has what
+    each of them had."""
+    place.write('a', GOOD)
+    run = as_nobody(place)
+    if run is None:
+        print('left out, since the tests do not run as root: rights that cannot be given back')
+        return
+    path, new = place.path('out'), 0o666 & ~umask()
+    of_another_group = {0o600: 0o600, 0o640: 0o600, 0o644: 0o604, 0o664: 0o604, 0o755: 0o705, 0o606: 0o600, 0o2666: 0o606}
+    of_another_owner = {0o666: new, 0o622: new & 0o722, 0o606: new & 0o700, 0o266: new & 0o722, 0o676: new}
+    for owner, modes in ((NOBODY, of_another_group), (0, of_another_owner)):
+        for mode, wanted in modes.items():
+            place.write('out', b'as it was')
+            os.chown(path, owner, 0)
+            os.chmod(path, mode)
+            place.want('canon', run('canon', 'a', 'out'), (0, GOOD_LINE, ''))
+            state = os.stat(path)
+            found = state.st_mode & 0o7777, state.st_uid, state.st_gid
+            place.want('rights of %o, of %d and group 0' % (mode, owner), found, (wanted, NOBODY, NOBODY))
+
+
 def umask() -> int:
     """The modes that a new file does not get."""
     with open('/proc/self/status') as file:
@@ -773,7 +795,7 @@ TESTS: list[Test] = [
     lengths_with_nothing_after_them, disks_that_are_full_in_the_middle, readers_that_go_away,
     standard_error_that_nobody_reads, standard_files_that_are_closed, signals_in_the_middle,
     names_that_are_taken_in_the_middle, pipes_that_do_not_wait, names_of_the_most_bytes, folders_that_no_path_names,
-    outputs_that_are_refused_before_the_work, rights_on_an_output, files_of_two_devices_with_one_number,
+    outputs_that_are_refused_before_the_work, rights_on_an_output, rights_that_cannot_be_given_back, files_of_two_devices_with_one_number,
     outputs_on_which_something_is_mounted, many_streams_and_few_open_files, inputs_that_never_end, fifos,
     reads_cut_at_each_length,
     files_that_may_not_be_read, files_that_change_while_they_are_read]

@@ -13,6 +13,7 @@ mod part;
 mod place;
 mod printed;
 mod rewriting;
+mod rights;
 mod system;
 mod writing;
 
@@ -27,5 +28,6 @@ pub use outcome::{Ended, Outcome, Report};
 pub use place::Place;
 pub use printed::{on_standard_error, report};
 pub use rewriting::{Rewriting, form_written, named, run_rewriting};
+pub use rights::{Kept, permissions};
 pub use system::System;
 pub use writing::{WRITTEN_AT_ONCE, written_out};

@@ -5,11 +5,12 @@ ghost use Rattle.hex.specs.Hex.{encode_lower};
 
 use crate::identity::{FileId, if_there};
 use crate::opening::OpenError;
+use crate::rights::{OWNER_ALONE, PERMISSIONS, give_permissions, owner_given, permissions};
 use std::alloc::{AllocError, Global};
-use std::fs::{File, OpenOptions, Permissions};
+use std::fs::{File, OpenOptions};
 use std::io::ErrorKind;
 use std::os::fd::AsRawFd;
-use std::os::unix::fs::{MetadataExt, OpenOptionsExt, PermissionsExt, fchown};
+use std::os::unix::fs::{MetadataExt, OpenOptionsExt};
 use std::random::RandomSource;
 use std::{fs, io};
 
@@ -17,10 +18,6 @@ use std::{fs, io};
 const MOST_TRIES: u32 = 16;
 /// How many links Linux follows.
 const MOST_LINKS: u32 = 40;
-/// Who may read, write and execute a file. The other bits of a mode lend the rights of its owner.
-const PERMISSIONS: u32 = 0o777;
-
-const OWNER_ALONE: u32 = 0o600;
 
 const EVERYBODY: u32 = 0o666;
 
@@ -101,13 +98,9 @@ impl Part {
         }
     }
 
-    /// Gives the whole file its owner and its mode, and makes its bytes safe on the disk.
+    /// Gives the whole file its owner and its permissions, and makes its bytes safe on the disk.
     pub fn make_safe(&self, file: &File) -> io::Result<()> {
-        let mode = self.mode_at_last(file)?;
-        // A file system with one mode for all files need not be able to change it.
-        if file.metadata()?.mode() & PERMISSIONS != mode {
-            file.set_permissions(Permissions::from_mode(mode))?;
-        }
+        give_permissions(file, self.permissions_at_last(file)?)?;
         // A server of files may tell of a full disk only when the data is to be safe.
         file.sync_all()
     }
@@ -120,16 +113,13 @@ impl Part {
         }
     }
 
-    /// Who may open the file that is replaced may open the new one, if its owner can be given to it.
-    fn mode_at_last(&self, file: &File) -> io::Result<u32> {
+    fn permissions_at_last(&self, file: &File) -> io::Result<u32> {
         let Some(replaced) = &self.replaced else {
             return Ok(self.mode_of_new);
         };
         let data = replaced.file.metadata()?;
-        match fchown(file, Some(data.uid()), Some(data.gid())) {
-            Ok(()) => Ok(data.mode() & PERMISSIONS),
-            Err(_) => Ok(self.mode_of_new),
-        }
+        let kept = owner_given(file, &data)?;
+        Ok(permissions(kept, data.mode(), self.mode_of_new))
     }
 
     /// Another file that has got the name meanwhile is left alone.
