@@ -46,7 +46,7 @@ WRITTEN_AT_ONCE = 499
 OF_FILE: dict[int | None, str] = {3: 'first: ', 4: 'second: '}
 # The calls of the system that each fail once for each kind of output, and how.
 LOOKING = (errno.ENOMEM, errno.EIO, errno.EACCES)
-FAILING = {'stat': LOOKING, 'open': LOOKING, 'readlink': LOOKING, 'link': (errno.EIO, errno.EPERM, errno.EEXIST), 'rename': (errno.EIO,),
+FAILING = {'stat': (*LOOKING, errno.ENOENT), 'open': LOOKING, 'readlink': LOOKING, 'link': (errno.EIO, errno.EPERM, errno.EEXIST), 'rename': (errno.EIO,),
            'unlink': (errno.EIO,), 'mode': (errno.EPERM,), 'owner': (errno.EPERM,), 'sync': (errno.EIO,), 'random': (errno.EAGAIN,)}
 MIXED = messages.interleaved(messages.in_turn([call(1, NFS, 3, 0)], [success(1)]))
 
@@ -154,6 +154,20 @@ def reads(line: str, capture: bytes, piece: int, place: Place) -> None:
     answer = place.fail(line, Fault('read', 1, takes=1), pieces)
     place.want_end(line + ' with a read of a byte', answer, *printed(plain))
     place.want('files', place.files() == written, True)
+
+
+def interrupted(line: str, place: Place) -> None:
+    """A read that a signal interrupts is tried again."""
+    place.put(example('two_connections'))
+    pieces = {'read': GIVEN_AT_ONCE['two_connections']}
+    plain = place.fail(line, pieces=pieces)
+    written, last = place.files(), plain.counts['read']
+    for number in (1, 2, last // 2, last):
+        answer = place.fail(line, Fault('read', number, errno.EINTR), pieces)
+        what = '%s with read %d interrupted' % (line, number)
+        place.want_end(what, answer, *printed(plain))
+        place.want(what + ': reads', answer.counts['read'], last + 1)
+        place.want(what + ': files', place.files() == written, True)
 
 
 def before_the_read(place: Place, line: str, count: int, plain: Answer, answer: Answer) -> str:
@@ -376,6 +390,8 @@ def tries() -> Iterator[tuple[str, Callable[..., None], *tuple[object, ...]]]:
             yield 'writes: %s of %s' % (line, name), writes, line, examples[name]
     for line in COMMANDS:
         yield 'reads: %s of version 2 byte by byte' % line, reads, line, MIXED, 1
+    for line in COMMANDS:
+        yield 'interrupted reads: ' + line, interrupted, line
     for line in ('canon a out', 'canon a new', 'nfs3mask a out', 'nfs3mask a new', 'pack out a a', 'pack new a a'):
         yield 'syncs: ' + line, syncs, line
     for line in ('check a', 'show a', 'canon a out', 'nfs3mask a out', 'same a a', 'pack out a a'):

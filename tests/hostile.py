@@ -337,6 +337,69 @@ def names_that_are_taken_in_the_middle(place: Place) -> None:
     take('out', lambda path: None, b'as it was')
 
 
+def files_that_get_the_name_in_the_middle(place: Place) -> None:
+    """A capture is replaced, as one that another run has put there, and the output has its rights. It is left alone if it is one of the
+    inputs or nobody may write it, as is any other file."""
+    def take(words: list[str], make: Callable[[str], object], answer: tuple[int, bytes], wanted: bool) -> None:
+        for old in place.names():
+            remove(place.path(old))
+        for name in ('a', 'out', 'other'):
+            place.write(name, b'as it was' if name == 'out' else LARGE)
+        with place.begin(*words, stdin=subprocess.PIPE) as process:
+            given = pipe_of(process.stdin)
+            given.write(LARGE[:2_000_000])
+            part_in(place)
+            make(place.path('out'))
+            feed(given, [LARGE[2_000_000:]])
+            found = process.wait(LIMIT), pipe_of(process.stderr).read()
+            pipe_of(process.stdout).read()
+        place.want(' '.join(words), (*found, place.read('out') == LARGE), (*answer, wanted))
+        place.want('parts', [name for name in place.names() if PART.fullmatch(name)], [])
+
+    def taken(name: str, mode: int) -> Callable[[str], object]:
+        def make(path: str) -> None:
+            os.chmod(place.path(name), mode)
+            os.replace(place.path(name), path)
+        return make
+
+    for mode in (0o600, 0o644):
+        take(['canon', '/dev/stdin', 'out'], taken('other', mode), (0, b''), True)
+        place.want('mode', os.stat(place.path('out')).st_mode & 0o7777, mode)
+    take(['pack', 'out', '/dev/stdin', 'a'], taken('other', 0o600), (0, b''), False)
+    failed = 3, b'write failed\n'
+    take(['canon', '/dev/stdin', 'out'], taken('other', 0o444), failed, True)
+    take(['pack', 'out', '/dev/stdin', 'a'], taken('a', 0o600), failed, True)
+
+
+def runs_at_once(place: Place) -> None:
+    """All of them succeed, whichever is the last."""
+    sides = [[call(number, NFSACL, 3, 1, bytes(4_000))] * 100 for number in range(1, 13)]
+    captures, streams = [messages.capture((side, [])) for side in sides], [b''.join(map(fragment, side)) for side in sides]
+    place.write('no', b'')
+    for words, others in ((['canon', '/dev/stdin', 'out'], captures), (['nfs3mask', '/dev/stdin', 'out'], captures),
+                          (['pack', 'out', '/dev/stdin', 'no'], streams)):
+        for before in (b'as it was', None):
+            if before is None:
+                os.remove(place.path('out'))
+            else:
+                place.write('out', before)
+            runs = [place.begin(*words, stdin=subprocess.PIPE) for _ in others]
+            for process, content in zip(runs, others):
+                given = pipe_of(process.stdin)
+                given.write(content[:300_000])
+                given.flush()
+            wait_for(lambda: len([name for name in place.names() if PART.fullmatch(name) and place.read(name)]) == len(runs))
+            for process, content in zip(runs, others):
+                feed(pipe_of(process.stdin), [content[300_000:]])
+            ends = [(process.wait(LIMIT), pipe_of(process.stderr).read()) for process in runs]
+            for process in runs:
+                pipe_of(process.stdout).close()
+                pipe_of(process.stderr).close()
+            place.want('%s, before: %r' % (words[0], before), ends, [(0, b'')] * len(runs))
+            place.want('check of the output', place.run('check', 'out'), (0, 'ok connections=1 calls=100 replies=0 handles=0\n', ''))
+            place.want('files', place.names(), ['no', 'out'])
+
+
 def remove(path: str) -> None:
     if os.path.isdir(path) and not os.path.islink(path):
         os.rmdir(path)
@@ -510,6 +573,54 @@ def outputs_on_which_something_is_mounted(place: Place) -> None:
             return
         place.want(script, answer, (3, '', 'open failed: out\n'))
     place.want('files', place.names(), ['a', 'far', 'other', 'out'])
+
+
+def standard_output_without_its_name(place: Place) -> None:
+    """The line of the command does not follow the capture if there is no /dev/stdout."""
+    place.write('a', GOOD)
+    before = hiding('/dev')
+    if before is None:
+        print('left out, since nothing can be mounted here: standard output without its name')
+        return
+    for words, wanted in ((['canon', 'a', '/proc/self/fd/1'], GOOD_LINE), (['nfs3mask', 'a', '/proc/self/fd/1', 'ids=keep'], GOOD_LINE),
+                          (['pack', '/proc/self/fd/1', 'a', 'a'], '')):
+        found = place.ended(*words, before=before)
+        place.want(words[0], (found.status, found.error.decode().startswith(wanted), b'ok ' in found.out), (0, True, False))
+        if words[0] == 'canon':
+            place.want('what was written', found.out, GOOD)
+        with open(place.path('log'), 'wb') as log:
+            log.write(b'first')
+            log.flush()
+            found = place.ended(*words, before=before, stdout=log)
+        content = place.read('log') or b''
+        place.want(words[0] + ' to a file', (found.status, content.startswith(b'firstNFS3CAP1'), b'ok ' in content), (0, True, False))
+
+
+def hiding(folder: str) -> list[str] | None:
+    """The words that run a program with nothing in this folder, or None if that may not be."""
+    flags = '-m' if os.geteuid() == 0 else '-rm'
+    before = ['unshare', flags, *by_shell('mount -t tmpfs none %s 2>/dev/null || exit 77; exec "$@"' % folder)]
+    try:
+        return before if ended([*before, '/bin/true'], '/').status == 0 else None
+    except FileNotFoundError:
+        return None
+
+
+def removed_files_by_their_numbers(place: Place) -> None:
+    """The link in /proc to a removed file leads to that file, and not to the one that has the name which it tells."""
+    place.write('a', GOOD)
+    for words in (['canon', 'a', '/proc/self/fd/7'], ['pack', '/proc/self/fd/7', 'a', 'a'], ['nfs3mask', 'a', '/proc/self/fd/7']):
+        for other in (b'of somebody else', GOOD, None):
+            if other is not None:
+                place.write('del (deleted)', other)
+            answer = place.run(*words, before=by_shell('echo as it was > del; exec 7<> del; rm del; exec "$@"'))
+            place.want(words[0], answer, (3, '', 'open failed: /proc/self/fd/7\n'))
+            place.want('the other file', place.read('del (deleted)'), other)
+            if other is not None:
+                os.remove(place.path('del (deleted)'))
+    place.want('files', place.names(), ['a'])
+    answer = place.run('canon', 'a', '/proc/self/fd/7', before=by_shell('echo as it was > out; exec 7<> out; exec "$@"'))
+    place.want('a file that has its name', (answer, place.read('out')), ((0, GOOD_LINE, ''), GOOD))
 
 
 # --- Inputs ---
@@ -794,8 +905,9 @@ TESTS: list[Test] = [
     memory_that_is_refused, memory_that_is_refused_to_version_2, memory_of_one_connection, streams_without_an_end,
     lengths_with_nothing_after_them, disks_that_are_full_in_the_middle, readers_that_go_away,
     standard_error_that_nobody_reads, standard_files_that_are_closed, signals_in_the_middle,
-    names_that_are_taken_in_the_middle, pipes_that_do_not_wait, names_of_the_most_bytes, folders_that_no_path_names,
-    outputs_that_are_refused_before_the_work, rights_on_an_output, rights_that_cannot_be_given_back, files_of_two_devices_with_one_number,
+    names_that_are_taken_in_the_middle, files_that_get_the_name_in_the_middle, runs_at_once, pipes_that_do_not_wait, names_of_the_most_bytes, folders_that_no_path_names,
+    outputs_that_are_refused_before_the_work, rights_on_an_output, rights_that_cannot_be_given_back,
+    standard_output_without_its_name, removed_files_by_their_numbers, files_of_two_devices_with_one_number,
     outputs_on_which_something_is_mounted, many_streams_and_few_open_files, inputs_that_never_end, fifos,
     reads_cut_at_each_length,
     files_that_may_not_be_read, files_that_change_while_they_are_read]

@@ -46,6 +46,8 @@ SETTINGS = {
     'standard output, a file': Setting('canon a /dev/stdout', 'out', stdout='out'),
     'the file that standard output is': Setting('canon a out', 'out', stdout='out'),
     'standard output, a pipe': Setting('canon a /dev/stdout', '', stdout='pipe'),
+    'standard output by its number, a pipe': Setting('canon a /proc/self/fd/1', '', stdout='pipe'),
+    'standard output by its number, a file': Setting('canon a /proc/self/fd/1', 'out', stdout='out'),
     'standard output that is closed': Setting('canon a /dev/stdout', '', closed=(1,), status=4),
     'the input': Setting('canon a ./a', 'a', status=4),
     'a link to the input': Setting('canon a link', '', (('symlink', 'link', 'a'),), status=4),

@@ -4,5 +4,6 @@ pub mod Opening
 pub mod Places
 pub mod Printed
 pub mod Rights
+pub mod Standard
 pub mod Systems
 pub mod Writing

@@ -1,6 +1,8 @@
 //! What the name of an output leads to, before anything is made.
 
 use crate::identity::{FileId, if_there};
+use crate::standard::StandardOutput;
+use crate::standing::MOST_LOOKS;
 use std::fs::Metadata;
 use std::io::ErrorKind;
 use std::{fs, io};
@@ -13,7 +15,8 @@ pub enum Destination {
     /// To a regular file, which is replaced once the new one is whole.
     Replaced(Metadata),
     /// To what is written as it is: to a device or a pipe, which hold nothing, or to the program's own
-    /// standard output, which may have been written before.
+    /// standard output, which may have been written before. A device or a pipe counts as standard output if
+    /// nothing tells what that is.
     AsItIs {
         found: Metadata,
         is_standard_output: bool,
@@ -21,24 +24,33 @@ pub enum Destination {
 }
 
 impl Destination {
-    /// Asks the system what a name leads to. `own` is the file to which the program prints. Makes nothing.
+    /// Asks the system what a name leads to. `own` is what the program prints to. Makes nothing.
     ///
     /// # Errors
     ///
     /// That of the system if it does not say what has the name. `NotFound` if the name is empty, or is that of
     /// a link that leads to nothing.
-    pub fn of(rt: &HostRuntime, name: &str, own: Option<FileId>) -> io::Result<Destination> {
-        let Some(found) = if_there(fs::metadata(rt, name))? else {
-            return unused(rt, name);
-        };
-        let is_standard_output = own == Some(FileId::of(&found));
-        if found.is_file() && !is_standard_output {
-            return Ok(Destination::Replaced(found));
+    pub fn of(rt: &HostRuntime, name: &str, own: StandardOutput) -> io::Result<Destination> {
+        for _ in 0..MOST_LOOKS {
+            if let Some(found) = if_there(fs::metadata(rt, name))? {
+                return Ok(Destination::found(found, own));
+            }
+            if is_unused(rt, name)? {
+                return Ok(Destination::New);
+            }
         }
-        Ok(Destination::AsItIs {
+        Err(io::Error::from(ErrorKind::NotFound))
+    }
+
+    fn found(found: Metadata, own: StandardOutput) -> Destination {
+        let id = FileId::of(&found);
+        if found.is_file() && !own.is(id) {
+            return Destination::Replaced(found);
+        }
+        Destination::AsItIs {
             found,
-            is_standard_output,
-        })
+            is_standard_output: own.may_be(id),
+        }
     }
 
     /// Whether this is the regular file of which the system says `data`.
@@ -52,10 +64,11 @@ impl Destination {
     }
 }
 
-/// A name that leads to nothing is new, unless a link has it.
-fn unused(rt: &HostRuntime, name: &str) -> io::Result<Destination> {
+/// A name that leads to nothing is new, unless a link has it, or another file has got it just now.
+fn is_unused(rt: &HostRuntime, name: &str) -> io::Result<bool> {
     match if_there(fs::symlink_metadata(rt, name))? {
-        None if !name.is_empty() => Ok(Destination::New),
+        None if !name.is_empty() => Ok(true),
+        Some(found) if !found.is_symlink() => Ok(false),
         _ => Err(io::Error::from(ErrorKind::NotFound)),
     }
 }

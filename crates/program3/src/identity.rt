@@ -4,9 +4,9 @@ ghost use Rattle.std.specs.Prelude.{◌≡◌, ◌≢◌, IfErr, IfOk, None, Ok,
 ghost use Rattle.std.specs.IoError.{error_kind};
 
 use std::fs::Metadata;
+use std::io;
 use std::io::ErrorKind;
 use std::os::unix::fs::MetadataExt;
-use std::{fs, io};
 
 /// Returns what the system found, or `None` if it says that nothing has the name.
 ///
@@ -47,15 +47,4 @@ impl FileId {
     pub fn is_regular(self, data: &Metadata) -> bool {
         data.is_file() && self == FileId::of(data)
     }
-}
-
-/// Returns the file to which the program prints, or `None` if its standard output is closed. Call it before
-/// any file is opened, since the first one gets the number of a standard output that is closed.
-///
-/// # Errors
-///
-/// That of the system if it does not say which file it is.
-pub fn standard_output(rt: &HostRuntime) -> io::Result<Option<FileId>> {
-    let found = if_there(fs::metadata(rt, "/dev/stdout"))?;
-    Ok(found.map(|data| FileId::of(&data)))
 }

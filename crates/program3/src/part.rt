@@ -6,6 +6,7 @@ ghost use Rattle.hex.specs.Hex.{encode_lower};
 use crate::identity::{FileId, if_there};
 use crate::opening::OpenError;
 use crate::rights::{OWNER_ALONE, PERMISSIONS, give_permissions, owner_given, permissions};
+use crate::standing::{MOST_LOOKS, Standing, in_folder_of};
 use std::alloc::{AllocError, Global};
 use std::fs::{File, OpenOptions};
 use std::io::ErrorKind;
@@ -16,8 +17,6 @@ use std::{fs, io};
 
 /// How often another name is tried if one exists.
 const MOST_TRIES: u32 = 16;
-/// How many links Linux follows.
-const MOST_LINKS: u32 = 40;
 
 const EVERYBODY: u32 = 0o666;
 
@@ -26,15 +25,9 @@ const EVERYBODY: u32 = 0o666;
 pub struct Part {
     name: String,
     whole: String,
-    replaced: Option<Replaced>,
+    // The file that has the name.
+    replaced: Option<Standing>,
     mode_of_new: u32,
-}
-
-/// The file that has the name. It is open, so that no other file gets its number.
-#[derive(Drop)]
-struct Replaced {
-    file: File,
-    id: FileId,
 }
 
 impl Part {
@@ -43,23 +36,20 @@ impl Part {
         Part::make(rt, String::from_str(rt.alloc(), name)?, None)
     }
 
-    /// Makes the part of the regular file to which this name leads. That file is opened for writing, since
-    /// what is refused there is refused here; nothing is written to it.
-    pub fn of_replaced(rt: &HostRuntime, name: &str) -> Result<(Part, File), OpenError> {
-        let path = followed(rt, name)?;
-        let file = OpenOptions::new().write(true).open(rt, path.as_str())?;
-        let data = file.metadata()?;
-        if !data.is_file() {
-            return Err(OpenError::Unopened);
-        }
-        let id = FileId::of(&data);
-        Part::make(rt, path, Some(Replaced { file, id }))
+    /// Makes the part of the regular file to which this name leads, unless it is one of `spared`.
+    pub fn of_replaced(
+        rt: &HostRuntime,
+        name: &str,
+        spared: &[FileId],
+    ) -> Result<(Part, File), OpenError> {
+        let (path, replaced) = Standing::found(rt, name, spared)?;
+        Part::make(rt, path, Some(replaced))
     }
 
     fn make(
         rt: &HostRuntime,
         whole: String,
-        replaced: Option<Replaced>,
+        replaced: Option<Standing>,
     ) -> Result<(Part, File), OpenError> {
         let mode_of_new = mode_of_new(rt, whole.as_str())?;
         let (name, file) = made_beside(rt, whole.as_str(), OWNER_ALONE)?;
@@ -85,7 +75,7 @@ impl Part {
     /// Whether the part would replace this file.
     pub fn replaces(&self, id: FileId) -> bool {
         match &self.replaced {
-            Some(replaced) => replaced.id == id,
+            Some(replaced) => replaced.id() == id,
             None => false,
         }
     }
@@ -93,93 +83,82 @@ impl Part {
     /// A file on which something is mounted cannot be replaced.
     fn is_on_mount_point(&self, rt: &HostRuntime, file: &File) -> Result<bool, OpenError> {
         match &self.replaced {
-            Some(replaced) => Ok(mount_of(rt, file)? != mount_of(rt, &replaced.file)?),
+            Some(replaced) => Ok(mount_of(rt, file)? != mount_of(rt, replaced.file())?),
             None => Ok(false),
         }
     }
 
     /// Gives the whole file its owner and its permissions, and makes its bytes safe on the disk.
     pub fn make_safe(&self, file: &File) -> io::Result<()> {
-        give_permissions(file, self.permissions_at_last(file)?)?;
+        self.give_rights(file, self.replaced.as_ref())?;
         // A server of files may tell of a full disk only when the data is to be safe.
         file.sync_all()
     }
 
-    /// Gives the file its name.
-    pub fn give_name(&self, rt: &HostRuntime) -> io::Result<()> {
-        match &self.replaced {
-            Some(replaced) => self.replace(rt, replaced.id),
-            None => self.appear(rt),
+    /// Gives the file its name. If another run has given it to its own file meanwhile, that one is replaced.
+    pub fn give_name(&self, rt: &HostRuntime, file: &File, spared: &[FileId]) -> io::Result<()> {
+        if self.is_named(rt, self.replaced.as_ref())? {
+            return Ok(());
+        }
+        for _ in 1..MOST_LOOKS {
+            let standing = Standing::again(rt, self.whole.as_str(), spared)?;
+            self.give_rights(file, Some(&standing))?;
+            if self.is_named(rt, Some(&standing))? {
+                return Ok(());
+            }
+        }
+        Err(io::Error::from(ErrorKind::AlreadyExists))
+    }
+
+    fn give_rights(&self, file: &File, replaced: Option<&Standing>) -> io::Result<()> {
+        let Some(replaced) = replaced else {
+            return give_permissions(file, self.mode_of_new);
+        };
+        let data = replaced.file().metadata()?;
+        let kept = owner_given(file, &data)?;
+        give_permissions(file, permissions(kept, data.mode(), self.mode_of_new))
+    }
+
+    /// Gives the file its name, unless another file than this one has it.
+    fn is_named(&self, rt: &HostRuntime, replaced: Option<&Standing>) -> io::Result<bool> {
+        match replaced {
+            Some(replaced) => self.has_replaced(rt, replaced.id()),
+            None => self.has_appeared(rt),
         }
     }
 
-    fn permissions_at_last(&self, file: &File) -> io::Result<u32> {
-        let Some(replaced) = &self.replaced else {
-            return Ok(self.mode_of_new);
-        };
-        let data = replaced.file.metadata()?;
-        let kept = owner_given(file, &data)?;
-        Ok(permissions(kept, data.mode(), self.mode_of_new))
-    }
-
-    /// Another file that has got the name meanwhile is left alone.
-    fn replace(&self, rt: &HostRuntime, replaced: FileId) -> io::Result<()> {
+    fn has_replaced(&self, rt: &HostRuntime, replaced: FileId) -> io::Result<bool> {
         let there = fs::symlink_metadata(rt, self.whole.as_str())?;
         if FileId::of(&there) != replaced {
-            return Err(io::Error::from(ErrorKind::AlreadyExists));
+            return Ok(false);
         }
-        fs::rename(rt, self.name.as_str(), self.whole.as_str())
+        fs::rename(rt, self.name.as_str(), self.whole.as_str())?;
+        Ok(true)
     }
 
-    /// Whatever has got the name meanwhile is left alone.
-    fn appear(&self, rt: &HostRuntime) -> io::Result<()> {
+    fn has_appeared(&self, rt: &HostRuntime) -> io::Result<bool> {
         match fs::hard_link(rt, self.name.as_str(), self.whole.as_str()) {
             Ok(()) => {
                 self.remove(rt);
-                Ok(())
+                Ok(true)
             }
-            Err(error) if error.kind() == ErrorKind::AlreadyExists => Err(error),
-            Err(_) => self.appear_by_rename(rt),
+            Err(error) if error.kind() == ErrorKind::AlreadyExists => Ok(false),
+            Err(_) => self.has_appeared_by_rename(rt),
         }
     }
 
     /// Without hard links there is no way to look for the name and to give it at once.
-    fn appear_by_rename(&self, rt: &HostRuntime) -> io::Result<()> {
-        match if_there(fs::symlink_metadata(rt, self.whole.as_str()))? {
-            Some(_) => Err(io::Error::from(ErrorKind::AlreadyExists)),
-            None => fs::rename(rt, self.name.as_str(), self.whole.as_str()),
+    fn has_appeared_by_rename(&self, rt: &HostRuntime) -> io::Result<bool> {
+        if if_there(fs::symlink_metadata(rt, self.whole.as_str()))?.is_some() {
+            return Ok(false);
         }
+        fs::rename(rt, self.name.as_str(), self.whole.as_str())?;
+        Ok(true)
     }
 
     /// Removes the part. If that fails, it stays, as after a signal.
     pub fn remove(&self, rt: &HostRuntime) {
         let _ = fs::remove_file(rt, self.name.as_str());
-    }
-}
-
-/// The name at the end of the links to which a name leads. The folder's own name is taken as it is given,
-/// so it may be long, and need not be text.
-fn followed(rt: &HostRuntime, name: &str) -> Result<String, OpenError> {
-    let mut path = String::from_str(rt.alloc(), name)?;
-    for _ in 0..=MOST_LINKS {
-        if !fs::symlink_metadata(rt, path.as_str())?.is_symlink() {
-            return Ok(path);
-        }
-        let target = fs::read_link(rt, path.as_str())?.into_string();
-        path = if target.as_str().starts_with('/') {
-            target
-        } else {
-            in_folder_of(rt.alloc(), path.as_str(), target.as_str())?
-        };
-    }
-    Err(OpenError::Unopened)
-}
-
-/// The path of another name in the folder of a path.
-fn in_folder_of(alloc: Global, path: &str, name: &str) -> Result<String, AllocError> {
-    match path.rsplit_once('/') {
-        Some((folder, _)) => format!(in alloc; "{folder}/{name}"),
-        None => String::from_str(alloc, name),
     }
 }
 

@@ -21,35 +21,39 @@ pub struct Place {
     id: FileId,
     part: Option<Part>,
     is_standard_output: bool,
+    spared: Vec<FileId>,
 }
 
 impl Place {
-    /// Opens or makes the file of this name. `destination` is what the name leads to.
+    /// Opens or makes the file of this name. `destination` is what the name leads to. `spared` are the files
+    /// that are read, or to which the program prints: whatever gets the name meanwhile, none of them is
+    /// replaced.
     ///
     /// # Errors
     ///
     /// Nothing is left behind, and what has the name is unchanged.
-    /// - `Unopened` if the file cannot be opened or made, is not writable or has something mounted on it, or
-    ///   if the name leads to another device or pipe by now.
+    /// - `Unopened` if the file cannot be opened or made, is not writable or has something mounted on it, if
+    ///   the name leads to another device or pipe by now, or if what the name leads to has no path.
     /// - `Memory` if memory ran out.
     pub fn make(
         rt: &HostRuntime,
         name: &str,
         destination: &Destination,
+        spared: Vec<FileId>,
     ) -> Result<Made<Traced<File>, Place>, OpenError>
         ensures { IfOk result (λ made. IsMade made name.now) }
     {
         let word = String::from_str(rt.alloc(), name)?;
         match destination {
-            Destination::New => open_part_file(rt, word, Part::of_new(rt, name)?),
-            Destination::Replaced(found) if found.permissions().readonly() => {
-                Err(OpenError::Unopened)
+            Destination::New => open_part_file(rt, word, Part::of_new(rt, name)?, spared),
+            Destination::Replaced(_) => {
+                let made = Part::of_replaced(rt, name, spared.as_slice())?;
+                open_part_file(rt, word, made, spared)
             }
-            Destination::Replaced(_) => open_part_file(rt, word, Part::of_replaced(rt, name)?),
             Destination::AsItIs {
                 found,
                 is_standard_output,
-            } => open_existing(rt, word, found, *is_standard_output),
+            } => open_existing(rt, word, found, *is_standard_output, spared),
         }
     }
 
@@ -83,15 +87,16 @@ impl Place {
         }
     }
 
-    /// Gives the file its name. Does nothing for a file that is written as it is.
+    /// Gives the file its name. Does nothing for a file that is written as it is. If another run has given the
+    /// name to its own file meanwhile, that one is replaced.
     ///
     /// # Errors
     ///
-    /// That of the system, or `AlreadyExists` if another file has got the name meanwhile. What has the name
+    /// That of the system, or `AlreadyExists` if anything else has got the name meanwhile. What has the name
     /// is unchanged.
-    pub fn give_name(&self, rt: &HostRuntime) -> io::Result<()> {
+    pub fn give_name(&self, rt: &HostRuntime, file: &File) -> io::Result<()> {
         match &self.part {
-            Some(part) => part.give_name(rt),
+            Some(part) => part.give_name(rt, file, self.spared.as_slice()),
             None => Ok(()),
         }
     }
@@ -108,6 +113,7 @@ fn open_part_file(
     rt: &HostRuntime,
     name: String,
     made: (Part, File),
+    spared: Vec<FileId>,
 ) -> Result<Made<Traced<File>, Place>, OpenError>
     ensures { IfOk result (λ made. IsMade made (string_bytes name)) }
 {
@@ -120,6 +126,7 @@ fn open_part_file(
                 id: FileId::of(&data),
                 part: Some(part),
                 is_standard_output: false,
+                spared,
             },
         }),
         Err(error) => {
@@ -136,6 +143,7 @@ fn open_existing(
     name: String,
     found: &Metadata,
     is_standard_output: bool,
+    spared: Vec<FileId>,
 ) -> Result<Made<Traced<File>, Place>, OpenError>
     ensures { IfOk result (λ made. IsMade made (string_bytes name)) }
 {
@@ -151,6 +159,7 @@ fn open_existing(
             id,
             part: None,
             is_standard_output,
+            spared,
         },
     })
 }

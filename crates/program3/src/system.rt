@@ -9,14 +9,16 @@ ghost use Rattle.program3.specs.Places.{IsMade};
 
 use crate::destination::Destination;
 use crate::files::{Files, Made};
-use crate::identity::{FileId, if_there, standard_output};
+use crate::identity::{FileId, if_there};
 use crate::opening::{OpenError, opened, uncounted, unopened};
 use crate::outcome::Outcome;
 use crate::place::Place;
+use crate::retried::Retried;
+use crate::standard::StandardOutput;
 use canon3::Traced;
 use capture3::Error;
 use line3::LineFault;
-use std::alloc::Global;
+use std::alloc::{AllocError, Global};
 use std::fs::{File, Metadata};
 use std::{fs, io};
 
@@ -47,16 +49,19 @@ impl<'a> System<'a> {
     fn made_apart(
         &self,
         output: &str,
-        own: io::Result<Option<FileId>>,
+        own: io::Result<StandardOutput>,
         read: &Metadata,
     ) -> Result<Option<Made<Traced<File>, Place>>, OpenError>
         ensures { IfOk result (λ found. IfSome found (λ made. IsMade made output.now)) }
     {
-        let destination = Destination::of(self.rt, output, own?)?;
+        let own = own?;
+        let destination = Destination::of(self.rt, output, own)?;
         if destination.is_regular(read) {
             return Ok(None);
         }
-        let made = Place::make(self.rt, output, &destination)?;
+        let mut spared = printed_to(self.rt.alloc(), own)?;
+        added(&mut spared, FileId::of(read))?;
+        let made = Place::make(self.rt, output, &destination, spared)?;
         if made.place.is_regular(read) {
             made.place.remove(self.rt);
             return Ok(None);
@@ -67,14 +72,17 @@ impl<'a> System<'a> {
     /// Gives the last file its name, and returns whether it has it.
     fn last_is_named(&self) -> bool {
         match self.finished.last() {
-            Some(made) => made.place.give_name(self.rt).is_ok(),
+            Some(made) => {
+                let file = made.file.file.inner();
+                made.place.give_name(self.rt, file).is_ok()
+            }
             None => false,
         }
     }
 }
 
 impl Files for System<'_> {
-    type Input = File;
+    type Input = Retried<File>;
 
     type Output = Traced<File>;
 
@@ -93,23 +101,25 @@ impl Files for System<'_> {
 
     ghost bytes_of = { λ safe. Some safe.file.taken };
 
-    fn open(&self, name: &str) -> io::Result<File> {
-        fs::open(self.rt, name)
+    fn open(&self, name: &str) -> io::Result<Retried<File>> {
+        Ok(Retried {
+            reader: fs::open(self.rt, name)?,
+        })
     }
 
     fn both_opened(
         &self,
         input: &str,
         output: &str,
-    ) -> Result<(File, Made<Traced<File>, Place>), Outcome> {
+    ) -> Result<(Retried<File>, Made<Traced<File>, Place>), Outcome> {
         let alloc = self.rt.alloc();
-        let own = standard_output(self.rt);
+        let own = StandardOutput::new(self.rt);
         let (source, read) = match opened(self.rt, input) {
             Ok(opened) => opened,
             Err(error) => return Err(uncounted(alloc, input, error)),
         };
         match self.made_apart(output, own, &read) {
-            Ok(Some(made)) => Ok((source, made)),
+            Ok(Some(made)) => Ok((Retried { reader: source }, made)),
             Ok(None) => Err(Outcome::Line(LineFault::SameName)),
             Err(error) => Err(uncounted(alloc, output, error)),
         }
@@ -121,22 +131,30 @@ impl Files for System<'_> {
         streams: &[String],
     ) -> Result<Made<Traced<File>, Place>, Outcome> {
         let alloc = self.rt.alloc();
-        let destination = match destination(self.rt, output) {
-            Ok(destination) => destination,
-            Err(error) => return Err(unpacked(alloc, output, error)),
+        let own = match StandardOutput::new(self.rt) {
+            Ok(own) => own,
+            Err(error) => return Err(unpacked(alloc, output, OpenError::from(error))),
         };
-        all_stand_apart(self.rt, &destination, streams)?;
-        match Place::make(self.rt, output, &destination) {
+        let destination = match Destination::of(self.rt, output, own) {
+            Ok(destination) => destination,
+            Err(error) => return Err(unpacked(alloc, output, OpenError::from(error))),
+        };
+        let mut spared = match printed_to(alloc, own) {
+            Ok(spared) => spared,
+            Err(error) => return Err(unpacked(alloc, output, OpenError::from(error))),
+        };
+        all_stand_apart(self.rt, &destination, streams, &mut spared)?;
+        match Place::make(self.rt, output, &destination, spared) {
             Ok(made) => Ok(made),
             Err(error) => Err(unpacked(alloc, output, error)),
         }
     }
 
     // The part may have got the number of a standard input that is closed.
-    fn opened_apart(&self, place: &Place, stream: &str) -> Result<File, Outcome> {
+    fn opened_apart(&self, place: &Place, stream: &str) -> Result<Retried<File>, Outcome> {
         match opened(self.rt, stream) {
             Ok((_, data)) if place.is_regular(&data) => Err(Outcome::Line(LineFault::SameName)),
-            Ok((file, _)) => Ok(file),
+            Ok((file, _)) => Ok(Retried { reader: file }),
             Err(error) => Err(unpacked(self.rt.alloc(), stream, error)),
         }
     }
@@ -169,35 +187,55 @@ impl Files for System<'_> {
     }
 }
 
-fn destination(rt: &HostRuntime, output: &str) -> Result<Destination, OpenError> {
-    let own = standard_output(rt)?;
-    Ok(Destination::of(rt, output, own)?)
+/// The file to which the program prints, if there is one.
+fn printed_to(alloc: Global, own: StandardOutput) -> Result<Vec<FileId>, AllocError> {
+    let mut ids = Vec::new(alloc);
+    if let Some(id) = own.id() {
+        added(&mut ids, id)?;
+    }
+    Ok(ids)
 }
 
-/// None of the streams is the output.
+fn added(ids: &mut Vec<FileId>, id: FileId) -> Result<(), AllocError> {
+    ids.push(id).map_err(|_| AllocError)
+}
+
+/// None of the streams is the output. Adds them to `ids`.
 fn all_stand_apart(
     rt: &HostRuntime,
     destination: &Destination,
     streams: &[String],
+    ids: &mut Vec<FileId>,
 ) -> Result<(), Outcome>
     ensures { IfErr result (λ outcome.
         Any (λ stream. FailsToOpenStream stream outcome) (map string_bytes streams.now)) }
 {
     for stream in streams {
-        stands_apart(rt, destination, stream.as_str())?;
+        if let Err(outcome) = stands_apart(rt, destination, stream.as_str(), ids) {
+            return Err(outcome);
+        }
     }
     Ok(())
 }
 
 /// The stream of this name is not the output. If there is none, that is told when it is opened.
-fn stands_apart(rt: &HostRuntime, destination: &Destination, stream: &str) -> Result<(), Outcome>
+fn stands_apart(
+    rt: &HostRuntime,
+    destination: &Destination,
+    stream: &str,
+    ids: &mut Vec<FileId>,
+) -> Result<(), Outcome>
     ensures { IfErr result (FailsToOpenStream stream.now) }
 {
     match if_there(fs::metadata(rt, stream)) {
         Ok(Some(data)) if destination.is_regular(&data) => {
             Err(Outcome::Line(LineFault::SameName))
         }
-        Ok(_) => Ok(()),
+        Ok(Some(data)) => match added(ids, FileId::of(&data)) {
+            Ok(()) => Ok(()),
+            Err(_) => Err(Outcome::Packed(Err(Error::Memory))),
+        },
+        Ok(None) => Ok(()),
         Err(error) => Err(unpacked(rt.alloc(), stream, OpenError::from(error))),
     }
 }

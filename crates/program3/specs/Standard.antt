@@ -1,0 +1,25 @@
+-- The file to which a program prints.
+use Rattle.std.specs.Prelude.{◌==◌, ◌&&◌, ℕ, Bool, true, false}
+use Rattle.program3.specs.declared.identity.FileId.{FileId}
+use Rattle.program3.specs.declared.standard.StandardOutput.{StandardOutput}
+use Rattle.program3.specs.declared.standard.StandardOutput.TheVariants.{Closed, Open, Unknown}
+
+-- the number of the error that no file is open under a number, as Linux has it (EBADF)
+abbrev pub bad_number : ℕ
+bad_number = 9
+
+-- a file has its device and its number there under each of its names
+abbrev pub is_one_file : (one other : FileId) → Bool
+is_one_file one other = one.device == other.device && one.inode == other.inode
+
+-- it is known to be this file
+abbrev pub is_known_as : StandardOutput → FileId → Bool
+is_known_as (Open own) id = is_one_file own id
+is_known_as Closed id = false
+is_known_as Unknown id = false
+
+-- it is this file, or nothing tells which one it is
+abbrev pub may_be : StandardOutput → FileId → Bool
+may_be (Open own) id = is_one_file own id
+may_be Closed id = false
+may_be Unknown id = true
