@@ -46,8 +46,9 @@ WRITTEN_AT_ONCE = 499
 OF_FILE: dict[int | None, str] = {3: 'first: ', 4: 'second: '}
 # The calls of the system that each fail once for each kind of output, and how.
 LOOKING = (errno.ENOMEM, errno.EIO, errno.EACCES)
-FAILING = {'stat': (*LOOKING, errno.ENOENT), 'open': LOOKING, 'readlink': LOOKING, 'link': (errno.EIO, errno.EPERM, errno.EEXIST), 'rename': (errno.EIO,),
-           'unlink': (errno.EIO,), 'mode': (errno.EPERM,), 'owner': (errno.EPERM,), 'sync': (errno.EIO,), 'random': (errno.EAGAIN,)}
+FAILING = {'stat': (*LOOKING, errno.ENOENT), 'open': LOOKING, 'readlink': LOOKING, 'link': (errno.EIO, errno.EPERM, errno.EEXIST),
+           'rename': (errno.EIO,), 'unlink': (errno.EIO,), 'mode': (errno.EPERM,), 'owner': (errno.EPERM,), 'sync': (errno.EIO,),
+           'random': (errno.EAGAIN,)}
 MIXED = messages.interleaved(messages.in_turn([call(1, NFS, 3, 0)], [success(1)]))
 
 
