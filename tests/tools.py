@@ -308,6 +308,16 @@ def what_is_not_proved(tools: Tools) -> None:
         tools.want(row, row[0].lower() + row[1:] in rest.partition('\n## ')[0], True)
 
 
+def bugs_are_counted(tools: Tools) -> None:
+    """A heading of docs/PROOFS.md has the number of must-fail edits of its crates."""
+    headings = re.findall(r'^### (.*): .* \((\d+) bugs\)$', (TOP / 'docs/PROOFS.md').read_text(), re.M)
+    for names, number in headings:
+        crates = names.split(' and ')
+        tools.want(names, sum(len(list((TOP / 'crates' / crate / 'must-fail').glob('*.edit'))) for crate in crates), int(number))
+    told = {crate for names, _ in headings for crate in names.split(' and ')}
+    tools.want('crates', told, {path.parent.name for path in (TOP / 'crates').glob('*/must-fail')})
+
+
 def clauses_of_each_function(tools: Tools) -> None:
     """tools/api gives a function its own clauses: those before its body, or before the semicolon that no bracket encloses."""
     members = runpy.run_path(str(TOP / 'tools/api'))['members']
@@ -329,7 +339,7 @@ def pages_of_the_crates(tools: Tools) -> None:
 STRINGS = ('name', 'path', 'machinename', 'dirpath', 'hostname', 'directory')
 TESTS = [explained, explained_as_documented, layouts_agree_with_the_listing, commands_of_the_readme,
          lines_for_many_captures, examples_are_used, answers_of_the_examples, examples_are_made_alike, pages_agree, pages_of_the_tools,
-         what_is_believed, rooms_stand_apart, pages_are_plain, tables_are_whole, what_is_not_proved, clauses_of_each_function,
+         what_is_believed, rooms_stand_apart, pages_are_plain, tables_are_whole, what_is_not_proved, bugs_are_counted, clauses_of_each_function,
          pages_of_the_crates]
 
 
