@@ -13,11 +13,12 @@ import re
 import sys
 import tempfile
 import time
+from array import array
 from collections import Counter
 from collections.abc import Callable
 from html.parser import HTMLParser
 
-from running import Runs, try_all, words_of
+from running import Runs, ended, try_all, words_of
 from traffic import Names, Traffic
 
 TOP = pathlib.Path(__file__).resolve().parent.parent
@@ -27,7 +28,7 @@ from messages import NFS, NFSACL, auth_sys, call, dirop, fattr, fh, hyper, ok, p
 from packets import Talk, pcap  # noqa: E402
 from nfs3tools.classes import CLASSES, Way, default_mask, mask_of, told  # noqa: E402
 from nfs3tools.comparing import Run, compare  # noqa: E402
-from nfs3tools.matching import aligned, increasing, matched  # noqa: E402
+from nfs3tools.matching import aligned, blocks_of, increasing, matched  # noqa: E402
 
 Conversation = tuple[list[bytes], list[bytes]]
 
@@ -72,6 +73,24 @@ def sequences_brought_together(place: Comparisons) -> None:
     place.want('increasing', increasing(list(enumerate([3, 1, 2, 5, 4]))), [(1, 1), (2, 2), (4, 4)])
 
 
+def sequences_in_blocks(place: Comparisons) -> None:
+    """Blocks are equal, increase on both sides, and are as few as what differs asks for."""
+    chance = random.Random(6)
+    for _ in range(300):
+        first, second = (array('q', [chance.randrange(6) for _ in range(chance.randrange(90))]) for _ in range(2))
+        blocks = blocks_of(first, second)
+        place.want('equal', [first[at:at + size] == second[to:to + size] and size > 0 for at, to, size in blocks], [True] * len(blocks))
+        place.want('in order', [before.at + before.size <= after.at and before.to + before.size <= after.to
+                                for before, after in zip(blocks, blocks[1:])], [True] * (len(blocks) - 1 if blocks else 0))
+    many = array('q', range(10_000))
+    other = many[:2_000] + array('q', [-1, -2]) + many[2_000:5_000] + many[5_001:9_000] + array('q', [-3]) + many[9_001:]
+    place.want('blocks', blocks_of(many, other), [(0, 0, 2_000), (2_000, 2_002, 3_000), (5_001, 5_002, 3_999), (9_001, 9_002, 999)])
+    place.want('nothing in common', blocks_of(many[:100], many[5_000:]), [])
+    far = array('q', range(-900, 0))
+    place.want('far on', [(block.at, block.to) for block in blocks_of(many, many[:10] + far + many[10:])],
+               [(0, 0), (10, 910)])
+
+
 def elements_that_differ(place: Comparisons) -> None:
     """Equal ones first, then those of one coarser key, then those that have changed their turn."""
     def keys(*words: str) -> list[tuple[str, str]]:
@@ -88,11 +107,11 @@ def retransmissions_are_linear(place: Comparisons) -> None:
     def listed(statuses: list[int], more: int) -> Run:
         lines = [f'1 client {number} xid=7 NFSPROC3_GETATTR mtype=0 fh=6161' for number, _ in enumerate(statuses, 1)]
         lines += [f'1 client {len(statuses) + number} xid={number + 7} NFSPROC3_ACCESS mtype=0 fh=6262' for number in range(1, more + 1)]
-        return Run('', lines + [f'1 server {number} xid=7 NFSPROC3_GETATTR mtype=1 status={status}'
-                                for number, status in enumerate(statuses, 1)], lambda _: [])
+        lines += [f'1 server {number} xid=7 NFSPROC3_GETATTR mtype=1 status={status}' for number, status in enumerate(statuses, 1)]
+        return Run('', lambda: lines, lambda _: [], lambda: lines)
     statuses = [5] * 40_000
     begin = time.thread_time()
-    compared = compare(listed(statuses, 0), listed([*statuses[:-1], 13], 5_000), {})
+    compared = compare(listed(statuses, 0), listed([*statuses[:-1], 13], 5_000), {}, is_whole=True)
     place.want('seconds', time.thread_time() - begin < 40, True)
     place.want('findings', Counter(finding.kind for finding in compared.findings), {'changed': 1, 'only': 5_000})
     place.want('pairs', (compared.exchanges, len(compared.pairs)), (40_000, 45_000))
@@ -342,9 +361,9 @@ def connections_of_one_run(place: Comparisons) -> None:
     null = ([call(1, NFS, 3, 0)], [success(1)])
     place.put('a', null, first.conversation())
     place.put('b', second.conversation())
-    lines = place.compare('a', 'b')[1][2:]
-    place.want('connection', lines[:2], ['only in the first run: connection 1',
-                                         '  a connection of 1 calls that the other run does not have'])
+    told = '  a connection of 1 calls that the other run does not have'
+    place.want('first', place.compare('a', 'b')[1][2:4], ['only in the first run: connection 1', told])
+    place.want('second', place.compare('b', 'a')[1][2:4], ['only in the second run: connection 1', told])
 
 
 def random_traffic(place: Comparisons) -> None:
@@ -358,6 +377,55 @@ def random_traffic(place: Comparisons) -> None:
         number = sum(len(calls) for calls, _ in connections)
         size = '%d call%s in %d connection%s' % (number, 's' * (number != 1), len(connections), 's' * (len(connections) != 1))
         place.want('seed %d' % seed, (status, out[1], error), (0, 'same: ' + size, ''))
+
+
+# --- Cost ---
+
+MANY, FILES_OF_MANY = 100_000, 5_000
+# Runs a tool, and then prints the processor time and the memory that it took itself, without the programs that it ran.
+MEASURED = """import resource, runpy, sys
+sys.argv = sys.argv[1:]
+try:
+    runpy.run_path(sys.argv[0], run_name='__main__')
+finally:
+    taken = resource.getrusage(resource.RUSAGE_SELF)
+    print(taken.ru_utime + taken.ru_stime, taken.ru_maxrss * 1024, file=sys.stderr)
+"""
+
+
+def many_calls(first_handle: int, changed: int | None = None) -> Conversation:
+    """LOOKUP of each file, and then GETATTR and WRITE by turns. One reply to GETATTR may have another mode."""
+    calls, replies = list[bytes](), list[bytes]()
+    for number in range(MANY):
+        file, xid = number % FILES_OF_MANY, number + 1
+        handle = b'%08d' % (first_handle + file)
+        attributes = fattr(1, file + 2, size=number, mode=0o645 if number == changed else 0o644)
+        if number < FILES_OF_MANY:
+            calls.append(call(xid, NFS, 3, 3, dirop(b'folder', b'name%d' % file)))
+            replies.append(success(xid, ok(fh(handle), post_op_attr(attributes), post_op_attr())))
+        elif number % 2:
+            calls.append(call(xid, NFS, 3, 1, fh(handle)))
+            replies.append(success(xid, ok(attributes)))
+        else:
+            calls.append(call(xid, NFS, 3, 7, fh(handle) + hyper(number) + word(200) + word(0) + messages.opaque(bytes(200))))
+            replies.append(success(xid, ok(wcc(20, attributes), word(200), word(0), b'verifier')))
+    return calls, replies
+
+
+def one_bit_of_many_calls(place: Comparisons) -> None:
+    """What is equal is not taken apart: a changed bit costs little time and memory, and is told with its path. The limits are four
+    times what is promised."""
+    place.put('a', many_calls(1))
+    place.put('b', many_calls(7_000, changed=70_001))
+    words = [sys.executable, '-c', MEASURED, str(TOP / 'tools/compare'), '--program', place.program, 'a', 'b']
+    status, out, error = ended(words, place.folder, limit=None).text()
+    where = 'connection 1 server record 70002'
+    place.want('finding', (status, out.splitlines()[2:]), (1, [
+        f'NFSPROC3_GETATTR reply ?/name1: {where} | {where}', '  - mode=420', '  + mode=421',
+        'fields that differ, and how often: mode of NFSPROC3_GETATTR 1']))
+    seconds, memory = map(float, error.split())
+    place.want(f'{seconds} seconds', seconds < 20, True)
+    place.want(f'{memory} bytes', memory < 800e6, True)
 
 
 # --- Recordings ---
@@ -453,9 +521,10 @@ def refused_runs(place: Comparisons) -> None:
 
 
 TESTS: list[Callable[[Comparisons], None]] = [
-    sequences_brought_together, elements_that_differ, retransmissions_are_linear, words_of_masks, ordinary_runs, changed_fields,
-    statuses_that_differ, one_call_more, other_orders, bound_values, zero_cookies, equal_numbers_of_two_classes, users_and_groups, directories, replies_of_one_call, files_by_their_paths,
-    raw_messages, connections_of_one_run, random_traffic, example_recordings, same_in_part, pages, refused_runs]
+    sequences_brought_together, sequences_in_blocks, elements_that_differ, retransmissions_are_linear, words_of_masks,
+    ordinary_runs, changed_fields, statuses_that_differ, one_call_more, other_orders, bound_values, zero_cookies,
+    equal_numbers_of_two_classes, users_and_groups, directories, replies_of_one_call, files_by_their_paths, raw_messages,
+    connections_of_one_run, random_traffic, one_bit_of_many_calls, example_recordings, same_in_part, pages, refused_runs]
 
 
 def tried(program: str, test: Callable[[Comparisons], None]) -> list[str]:

@@ -90,19 +90,23 @@ def checked(program: str, taken: Taken, capture: str, name: str) -> str:
     raise Ended(REFUSED, f'{escaped(name)}: {line}' + ''.join(f' (frame {frame.number})' for frame in frames))
 
 
-def verdict_of(program: str, folder: Path, captures: list[str], mask: Mask) -> str:
-    """Returns what `same` says of the masked captures."""
-    masked = [str(folder / f'masked{number}') for number, _ in enumerate(captures)]
+def verdict_of(program: str, captures: list[str], masked: list[str], mask: Mask) -> str:
+    """Returns what `same` says of the masked captures, which it writes."""
     for capture, path in zip(captures, masked):
         write_masked(program, capture, path, mask)
     return run_program(program, ['same', *masked], COMPARED).out.strip()
 
 
-def run_of(program: str, taken: Taken, capture: str, name: str) -> Run:
+def run_of(program: str, taken: Taken, capture: str, masked: str, name: str) -> Run:
+    """A run, with its masked capture in canonical form, which is written beside the masked one."""
+    canonical = masked + '.canonical'
+    run_program(program, ['canon', masked, canonical], CHECKED)
+
     def frames(message: Message) -> list[int]:
         place = Place(message.connection, 'client' if message.is_call else 'server', message.record)
         return [frame.number for frame in taken.frames(place)]
-    return Run(escaped(name), lines_of_program(program, ['show', capture]), frames)
+    return Run(escaped(name), lambda: lines_of_program(program, ['show', capture]), frames,
+               lambda: lines_of_program(program, ['show', canonical]))
 
 
 def write_page(path: str, inputs: list[str], compared: Compared, first: Run, second: Run, verdict: str, mask: str) -> None:
@@ -139,15 +143,16 @@ def compared_runs(words: argparse.Namespace, stack: ExitStack) -> int:
         tell(name, taken)
         sizes.append(checked(program, taken, capture, name))
     print(f'masked: {told(words.mask)}', flush=True)
-    verdict = verdict_of(program, folder, captures, words.mask)
+    masked = [capture + '.masked' for capture in captures]
+    verdict = verdict_of(program, captures, masked, words.mask)
     losses = losses_of(*runs)
     line = line_of(verdict, sizes[0], losses)
     print(line, flush=True)
     status = DIFFERENT if verdict != 'same' or losses and not words.allow_losses else SAME
     if verdict == 'same' and not words.html:
         return status
-    first, second = (run_of(program, taken, capture, name) for taken, capture, name in zip(runs, captures, names))
-    compared = compare(first, second, words.mask)
+    first, second = (run_of(program, *one) for one in zip(runs, captures, masked, names))
+    compared = compare(first, second, words.mask, is_whole=bool(words.html))
     if words.html:
         write_page(words.html, inputs, compared, first, second, line, told(words.mask))
     if verdict == 'same':

@@ -1,24 +1,31 @@
 """Two runs compared: what the program says of their masked captures, and what differs."""
 import bisect
+import itertools
+from array import array
 from collections import Counter
 from collections.abc import Callable, Iterable, Iterator, Sequence
 from dataclasses import dataclass, field
 
 from .classes import Mask
 from .differing import Comparison, Difference
+from .kept import Together, chosen, keep_what_is_needed, together
 from .listings import Exchange, Message, exchanges_of, messages_of
 from .matching import Matched, aligned, increasing, matched
+from .outlines import Outline, Outlines
 from .paths import Paths
 
 Framing = Callable[[Message], Sequence[int]]
+Listing = Callable[[], Iterable[str]]
 
 
 @dataclass
 class Run:
-    """One of two runs: its name, the lines of its listing, and the frames that carry a message (none of a capture)."""
+    """One of two runs: its name, its listing, the frames that carry a message (none of a capture), and the listing of its masked
+    capture in canonical form. Each listing begins anew if it is called."""
     name: str
-    listing: Iterable[str]
+    listing: Listing
     frames: Framing
+    canonical: Listing
 
 
 @dataclass(frozen=True)
@@ -37,7 +44,7 @@ class Compared:
     """All findings, in the order of the first run, and how many exchanges were brought together."""
     findings: list[Finding] = field(default_factory=list)
     exchanges: int = 0
-    # The exchanges that were brought together, for those who show both runs side by side.
+    # The exchanges that were taken apart, for those who show both runs side by side.
     pairs: list[tuple[Exchange | None, Exchange | None]] = field(default_factory=list)
 
     def fields(self) -> Counter[tuple[str, str]]:
@@ -47,10 +54,10 @@ class Compared:
 
 
 class Conversation:
-    """A connection of one run, with the paths of its files and the keys by which its exchanges are brought together."""
+    """The exchanges of a connection that are taken apart, with the paths of their files and the keys by which they are brought together."""
 
-    def __init__(self, exchanges: list[Exchange], paths: Paths, comparison: Comparison) -> None:
-        self.exchanges = exchanges
+    def __init__(self, places: list[int], exchanges: list[Exchange], paths: Paths, comparison: Comparison) -> None:
+        self.places, self.exchanges = places, exchanges
         self.paths: list[str | None] = []
         self.keys: list[tuple[object, object, object]] = []
         for exchange in exchanges:
@@ -63,19 +70,19 @@ class Conversation:
             self.keys.append(((exchange.procedure, asked, files), (exchange.procedure, files, name), exchange.procedure))
 
 
-def conversations(run: Run, comparison: Comparison) -> dict[int, Conversation]:
-    paths = Paths()
-    return {number: Conversation(exchanges, paths, comparison)
-            for number, exchanges in sorted(exchanges_of(messages_of(run.listing)).items())}
+def conversations(run: Run, comparison: Comparison, rows: Sequence[tuple[Outline, set[int]]]) -> dict[int, Conversation]:
+    """Takes some calls of each connection apart, with their replies."""
+    paths, places = Paths(), {outline.number: sorted(kept) for outline, kept in rows}
+    return {number: Conversation(places[number], exchanges, paths, comparison)
+            for number, exchanges in sorted(exchanges_of(messages_of(chosen(run.listing(), rows))).items())}
 
 
-def connections_together(first: dict[int, Conversation], second: dict[int, Conversation]) -> list[tuple[int | None, int | None]]:
+def connections_together(first: dict[int, Outline], second: dict[int, Outline]) -> list[tuple[int | None, int | None]]:
     """Returns which connection belongs to which: by turn if there are as many, and else by what they ask."""
-    here, there = list(first), list(second)
+    here, there = sorted(first), sorted(second)
     if len(here) == len(there):
         return list(zip(here, there))
-    keys, others = ([tuple(key[2] for key in one.keys[:50]) for one in side.values()] for side in (first, second))
-    pairs = aligned(keys, others)
+    pairs = aligned([tuple(first[number].procedures) for number in here], [tuple(second[number].procedures) for number in there])
     edges, out = [(-1, -1), *pairs, (len(here), len(there))], []
     for (at, to), (end, other_end) in zip(edges, edges[1:]):
         left, right = here[at + 1:end], there[to + 1:other_end]
@@ -86,38 +93,59 @@ def connections_together(first: dict[int, Conversation], second: dict[int, Conve
     return out
 
 
-def compare(first: Run, second: Run, mask: Mask) -> Compared:
+def brought_together(first: Run, second: Run, mask: Mask, is_whole: bool) -> list[Together]:
+    """Returns the connections that belong together, each with the exchanges that are to be taken apart: all of them, or what differs
+    and what it needs. A connection of one run alone belongs to one without calls."""
+    here, there = Outlines(first.canonical(), mask), Outlines(second.canonical(), mask)
+    pairs = [together(Outline(0) if number is None else here.connections[number],
+                      Outline(0) if other is None else there.connections[other])
+             for number, other in connections_together(here.connections, there.connections)]
+    if is_whole:
+        for pair in pairs:
+            pair.keep_all()
+    else:
+        keep_what_is_needed(here, there, pairs, (first.canonical, second.canonical), mask)
+    return pairs
+
+
+def compare(first: Run, second: Run, mask: Mask, is_whole: bool = False) -> Compared:
     """Compares two runs by their listings. Exchanges are brought together first; then values that are renamed are bound one to one,
-    first by the pairs that are surest."""
+    first by the pairs that are surest. Only what differs is taken apart, unless all is asked for."""
     comparison, result = Comparison(mask), Compared()
-    here, there = conversations(first, comparison), conversations(second, comparison)
-    together = []
-    for number, second_number in connections_together(here, there):
-        own = None if number is None else here[number]
-        its = None if second_number is None else there[second_number]
-        if own is None or its is None:
-            result.findings += of_one_connection(own, its)
+    pairs = brought_together(first, second, mask, is_whole)
+    here = conversations(first, comparison, [(pair.first, pair.kept) for pair in pairs if pair.first])
+    there = conversations(second, comparison, [(pair.second, pair.kept_there) for pair in pairs if pair.second])
+    both = []
+    for pair in pairs:
+        if pair.first and pair.second:
+            own, its = here[pair.first.number], there[pair.second.number]
+            both.append((pair, own, its, matched(own.keys, its.keys, known_pairs(pair, own, its))))
         else:
-            together.append((own, its, matched(own.keys, its.keys)))
+            result.findings += of_one_connection(pair, here, there)
     findings: dict[int, list[Finding]] = {}
     for is_sure in (True, False):
-        for at, (one, other, match) in enumerate(together):
-            findings.setdefault(at, []).extend(of_pairs(one, other, match.equal if is_sure else match.changed + match.moved, comparison))
-    for at, (one, other, match) in enumerate(together):
-        result.exchanges += len(match.equal) + len(match.changed) + len(match.moved)
-        result.findings += in_order([*findings[at], *of_turns(one, other, match), *of_the_unmatched(one, other, match)])
-        result.pairs += side_by_side(one, other, match)
+        for at, (_, own, its, match) in enumerate(both):
+            findings.setdefault(at, []).extend(of_pairs(own, its, match.equal if is_sure else match.changed + match.moved, comparison))
+    for at, (pair, own, its, match) in enumerate(both):
+        result.exchanges += sum(block.size for block in pair.blocks) + len(match.changed) + len(match.moved)
+        result.findings += in_order([*findings[at], *of_turns(pair, own, its, match), *of_the_unmatched(own, its, match)])
+        result.pairs += side_by_side(own, its, match)
     return result
 
 
-def of_one_connection(first: Conversation | None, second: Conversation | None) -> Iterator[Finding]:
+def known_pairs(pair: Together, first: Conversation, second: Conversation) -> list[tuple[int, int]]:
+    """Returns which of the exchanges that are taken apart ask the same, by their numbers among these."""
+    numbers = {to: number for number, to in enumerate(second.places)}
+    partners = [(number, pair.partner(at)) for number, at in enumerate(first.places)]
+    return [(number, numbers[to]) for number, to in partners if to is not None]
+
+
+def of_one_connection(pair: Together, first: dict[int, Conversation], second: dict[int, Conversation]) -> Iterator[Finding]:
     """A connection that one run alone has."""
-    conversation = first or second
-    if conversation:
-        call = conversation.exchanges[0].call
-        count = len(conversation.exchanges)
-        yield Finding('connection', call if first else None, call if second else None,
-                      remark=f'a connection of {count} calls that the other run does not have')
+    outline, side = (pair.first, first) if pair.first else (pair.second, second)
+    call = side[outline.number].exchanges[0].call
+    yield Finding('connection', call if pair.first else None, None if pair.first else call,
+                  remark=f'a connection of {len(outline)} calls that the other run does not have')
 
 
 def of_pairs(first: Conversation, second: Conversation, pairs: Iterable[tuple[int, int]], comparison: Comparison) -> Iterator[Finding]:
@@ -136,16 +164,32 @@ def of_pairs(first: Conversation, second: Conversation, pairs: Iterable[tuple[in
                           remark=f'{len(one.replies)} replies in the first run, {len(other.replies)} in the second')
 
 
-def of_turns(first: Conversation, second: Conversation, match: Matched) -> Iterator[Finding]:
+def of_turns(pair: Together, first: Conversation, second: Conversation, match: Matched) -> Iterator[Finding]:
     """Calls that have changed their turn, and replies that come in another order."""
     for at, to in match.moved:
         yield Finding('moved', first.exchanges[at].call, second.exchanges[to].call, first.paths[at], remark='the call has changed its turn')
-    pairs = sorted((one.record, other.record) for at, to in sorted(match.equal + match.changed)
-                   for one, other in zip(first.exchanges[at].replies, second.exchanges[to].replies))
-    late = len(pairs) - len(increasing(pairs))
+    more = [(first.places[at], second.places[to]) for at, to in match.changed]
+    turns = turns_of_replies(pair, more)
+    late = late_of(turns)
     if late:
         reply = next(reply for exchange in first.exchanges for reply in exchange.replies)
-        yield Finding('order', reply, None, remark=f'{late} of {len(pairs)} replies of the connection come in another order')
+        yield Finding('order', reply, None, remark=f'{late} of {len(turns)} replies of the connection come in another order')
+
+
+def turns_of_replies(pair: Together, more: Iterable[tuple[int, int]]) -> 'array[int]':
+    """Returns the records of the second run's replies, in the order of those of the first run to which they belong."""
+    turns = array('I', bytes(array('I').itemsize * (1 + pair.first.last_reply())))
+    for at, to in itertools.chain(pair.pairs(), more):
+        for record, other in zip(pair.first.records_of(at), pair.second.records_of(to)):
+            turns[record] = other
+    return array('I', filter(None, turns))
+
+
+def late_of(turns: 'array[int]') -> int:
+    """Returns how many numbers are not in order."""
+    if all(one < other for one, other in zip(turns, itertools.islice(turns, 1, None))):
+        return 0
+    return len(turns) - len(increasing(list(enumerate(turns))))
 
 
 def of_the_unmatched(first: Conversation, second: Conversation, match: Matched) -> Iterator[Finding]:

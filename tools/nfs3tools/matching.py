@@ -1,14 +1,26 @@
 """Sequences brought together: which elements of one run belong to which of the other."""
 import difflib
+from array import array
 from bisect import bisect_left
 from collections import Counter, defaultdict
-from collections.abc import Hashable, Sequence
+from collections.abc import Hashable, Iterable, Sequence
 from dataclasses import dataclass, field
+from typing import NamedTuple
 
 # Up to so many pairs of elements that have no anchor are compared each with each.
 COMPARED_AT_MOST = 1_000_000
+# Two sequences that part meet again if so many elements are equal, at most so many elements on.
+ENOUGH, NEAR = 4, 32
+STEP = 1_024
 
 Pair = tuple[int, int]
+
+
+class Block(NamedTuple):
+    """Elements that follow one another on both sides and are equal: where they begin, and how many there are."""
+    at: int
+    to: int
+    size: int
 
 
 def increasing(pairs: Sequence[Pair]) -> list[Pair]:
@@ -77,6 +89,53 @@ def aligned(first: Sequence[Hashable], second: Sequence[Hashable]) -> list[Pair]
     return sorted(pairs)
 
 
+def common(first: 'array[int]', second: 'array[int]', at: int, to: int) -> int:
+    """Returns how many elements are equal from these places on."""
+    size, done = min(len(first) - at, len(second) - to), 0
+    while done < size:
+        part, other = first[at + done:at + done + STEP], second[to + done:to + done + STEP]
+        shorter = min(len(part), len(other))
+        if part[:shorter] != other[:shorter]:
+            return done + next(number for number in range(shorter) if part[number] != other[number])
+        done += shorter
+    return size
+
+
+def common_end(first: 'array[int]', second: 'array[int]', at: int, to: int) -> int:
+    """Returns how many elements are equal at the ends, back to these places."""
+    size, done = min(len(first) - at, len(second) - to), 0
+    while done < size and first[-1 - done] == second[-1 - done]:
+        done += 1
+    return done
+
+
+def meeting(first: 'array[int]', second: 'array[int]', at: int, to: int) -> Pair:
+    """Returns where two sequences meet again that part at these places: near, or else at their equal ends."""
+    for distance in range(1, NEAR):
+        for here in range(max(0, distance - len(second) + to), min(distance, len(first) - at) + 1):
+            end, other_end = at + here, to + distance - here
+            part, other = first[end:end + ENOUGH], second[other_end:other_end + ENOUGH]
+            if part == other and (len(part) == ENOUGH or end + len(part) == len(first) and other_end + len(other) == len(second)):
+                return end, other_end
+    size = common_end(first, second, at, to)
+    return len(first) - size, len(second) - size
+
+
+def blocks_of(first: 'array[int]', second: 'array[int]') -> list[Block]:
+    """Returns what `aligned` does, in blocks: memory is for what differs."""
+    blocks, at, to = list[Block](), 0, 0
+    while True:
+        size = common(first, second, at, to)
+        if size:
+            blocks.append(Block(at, to, size))
+        at, to = at + size, to + size
+        if at == len(first) or to == len(second):
+            return blocks
+        end, other_end = meeting(first, second, at, to)
+        blocks += [Block(at + here, to + there, 1) for here, there in aligned(first[at:end], second[to:other_end])]
+        at, to = end, other_end
+
+
 @dataclass
 class Matched:
     """Which elements belong together: those that are equal and in order, those in order that differ, those that are equal and have
@@ -104,9 +163,9 @@ def filled(pairs: Sequence[Pair], first: Sequence[Hashable], second: Sequence[Ha
     return more
 
 
-def matched(first: Sequence[Sequence[Hashable]], second: Sequence[Sequence[Hashable]]) -> Matched:
-    """Brings two sequences together. Each element is given by its keys, the finest first."""
-    result = Matched(equal=aligned([keys[0] for keys in first], [keys[0] for keys in second]))
+def matched(first: Sequence[Sequence[Hashable]], second: Sequence[Sequence[Hashable]], equal: Iterable[Pair] | None = None) -> Matched:
+    """Brings two sequences together. Each element is given by its keys, the finest first. The pairs that are equal by it may be known."""
+    result = Matched(equal=aligned([keys[0] for keys in first], [keys[0] for keys in second]) if equal is None else list(equal))
     pairs = list(result.equal)
     for level in range(1, len(first[0]) if first else 0):
         more = filled(pairs, [keys[level] for keys in first], [keys[level] for keys in second])

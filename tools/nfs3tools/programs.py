@@ -14,6 +14,7 @@ TOP = pathlib.Path(__file__).resolve().parent.parent.parent
 # How the programs answer: by which status, and how standard output begins then.
 CHECKED, COMPARED, MASKED = {0: 'ok ', 2: ''}, {0: 'same\n', 1: 'differ at '}, {0: 'ok '}
 COMMANDS = ('check', 'same', 'show')
+PIPE_SIZE = 1 << 16  # of Linux
 MOST_STATUS = 125  # of a program itself; a shell and a loader have those above for one that cannot run
 
 
@@ -111,7 +112,7 @@ def lines_of_program(program: str, words: list[str]) -> typing.Iterator[str]:
 def begun(command: list[str], stdin: int, stdout: typing.IO[bytes] | int, stderr: typing.IO[bytes] | int) -> 'subprocess.Popen[bytes]':
     """Raises `Died` if the program cannot be started, as when memory is short."""
     try:
-        return subprocess.Popen(command, stdin=stdin, stdout=stdout, stderr=stderr)
+        return subprocess.Popen(command, bufsize=PIPE_SIZE, stdin=stdin, stdout=stdout, stderr=stderr)
     except OSError as failed:
         raise Died(f'{escaped(command[0])} cannot be started: {failed.strerror or failed}') from failed
 
