@@ -317,6 +317,26 @@ def directories(place: Comparisons) -> None:
     place.want('more entries', found, ['  + name="y"'])
 
 
+def entries_of_one_name(place: Comparisons) -> None:
+    """A name that a directory has twice is another directory than one that has it once, and each of its entries counts."""
+    def run(*entries: tuple[int, bytes]) -> Conversation:
+        listed = [messages.entry(fileid, name, 0) for fileid, name in entries]
+        return ([call(1, NFS, 3, 16, fh(b'folder') + hyper(0) + bytes(8) + word(512))],
+                [success(1, ok(messages.entries(None, bytes(8), listed, is_end=True)))])
+    heading = 'NFSPROC3_READDIR reply: connection 1 server record 1 | connection 1 server record 1'
+    def wants(what: str, name: str, *lines: str) -> None:
+        place.wants(what, 1, [heading, *lines, f'fields that differ, and how often: {name} of NFSPROC3_READDIR 1'], '--mask', 'none')
+    place.put('a', run((1, b'a'), (2, b'b')))
+    place.put('b', run((1, b'a'), (2, b'b'), (2, b'b')))
+    wants('once more', 'name', '  + name="b"')
+    place.put('a', run((1, b'a'), (2, b'b'), (2, b'b'), (2, b'b')))
+    wants('once less', 'name', '  - name="b"')
+    place.put('a', run((1, b'a'), (3, b'b'), (2, b'b')))
+    wants('the first of two', 'fileid', '  - fileid=3', '  + fileid=2')
+    place.put('a', run((2, b'b'), (1, b'a'), (2, b'b')))
+    wants('order', 'entry', '  - entry="b"', '  + entry="a"    # the entries come in another order')
+
+
 def replies_of_one_call(place: Comparisons) -> None:
     first, second = Made(17), Made(18)
     place.put('a', first.conversation())
@@ -523,8 +543,8 @@ def refused_runs(place: Comparisons) -> None:
 TESTS: list[Callable[[Comparisons], None]] = [
     sequences_brought_together, sequences_in_blocks, elements_that_differ, retransmissions_are_linear, words_of_masks,
     ordinary_runs, changed_fields, statuses_that_differ, one_call_more, other_orders, bound_values, zero_cookies,
-    equal_numbers_of_two_classes, users_and_groups, directories, replies_of_one_call, files_by_their_paths, raw_messages,
-    connections_of_one_run, random_traffic, one_bit_of_many_calls, example_recordings, same_in_part, pages, refused_runs]
+    equal_numbers_of_two_classes, users_and_groups, directories, entries_of_one_name, replies_of_one_call, files_by_their_paths,
+    raw_messages, connections_of_one_run, random_traffic, one_bit_of_many_calls, example_recordings, same_in_part, pages, refused_runs]
 
 
 def tried(program: str, test: Callable[[Comparisons], None]) -> list[str]:

@@ -1,5 +1,6 @@
 """How two messages that belong together differ, item by item."""
-from collections.abc import Sequence
+from collections import Counter
+from collections.abc import Iterable, Sequence
 from dataclasses import dataclass
 
 from .binding import HANDLES, VERIFIERS, Bindings
@@ -92,7 +93,7 @@ class Comparison:
         return found
 
     def of_messages(self, first: Message, second: Message) -> list[Difference]:
-        """Returns how two messages differ. Entries of a directory are brought together by their names."""
+        """Returns how two messages differ. Entries of a directory are brought together by their names, and those of one name by turn."""
         if first.is_call or first.procedure not in ('NFSPROC3_READDIR', 'NFSPROC3_READDIRPLUS'):
             return self.of_items(first.items, second.items, first.is_call)
         head, entries, tail = parts_of(first.items)
@@ -104,19 +105,29 @@ class Comparison:
 
     def of_entries(self, first: list[list[Item]], second: list[list[Item]]) -> list[Difference]:
         """Returns how the entries of two directories differ, and whether they come in another order."""
-        here = {name_of(entry): entry for entry in first}
-        there = {name_of(entry): entry for entry in second}
-        found = [Difference('name', name, None) for name in here if name not in there]
-        found += [Difference('name', None, name) for name in there if name not in here]
-        for name, entry in here.items():
-            if name in there:
-                found += self.of_items(entry, there[name], False)
-        common = [name for name in here if name in there]
-        others = [name for name in there if name in here]
+        here, there = by_name(first), by_name(second)
+        found = [Difference('name', key[0], None) for key in here if key not in there]
+        found += [Difference('name', None, key[0]) for key in there if key not in here]
+        for key, entry in here.items():
+            if key in there:
+                found += self.of_items(entry, there[key], False)
+        common = [key[0] for key in here if key in there]
+        others = [key[0] for key in there if key in here]
         if common != others:
             at = next(number for number, pair in enumerate(zip(common, others)) if pair[0] != pair[1])
             found.append(Difference('entry', common[at], others[at], 'the entries come in another order'))
         return found
+
+
+def by_name(entries: Iterable[list[Item]]) -> dict[tuple[str, int], list[Item]]:
+    """Returns the entries by their names, and by how many of the name are before. A broken directory may have several."""
+    counts = Counter[str]()
+    out = dict[tuple[str, int], list[Item]]()
+    for entry in entries:
+        name = name_of(entry)
+        out[name, counts[name]] = entry
+        counts[name] += 1
+    return out
 
 
 def name_of(entry: Sequence[Item]) -> str:

@@ -7,8 +7,6 @@ from .classes import Mask
 from .matching import Block, Pair, blocks_of
 from .outlines import HANDLE, Outline, Outlines, classes_of_items, renamed_values
 
-Row = tuple[int, int]  # a connection and a call
-
 
 @dataclass
 class Together:
