@@ -78,6 +78,24 @@ def mask_of(text: str) -> Mask:
     return mask
 
 
+def mask_word(text: str) -> str:
+    """Returns the word of `--mask` if it is one."""
+    mask_of(text)
+    return text
+
+
+def in_any_order(text: str | None) -> list[Mask]:
+    """Returns the masks under which runs are compared in another order, each with more than the one before: that of `--mask`, then ids as
+    zero, since they are given out in the order of creation, and then what is seen in the middle of others' changes as zero. A class
+    that `--mask` names stays as it is, and so does a mask that is given as a whole."""
+    words = [] if text is None else [word for word in text.split(',') if word]
+    masks, named = [default_mask() if text is None else mask_of(text)], {word.lstrip('+-').partition('=')[0] for word in words}
+    for name in ('ids', 'wcc'):
+        if name in BY_NAME and name not in named and all(word[0] in '+-' for word in words):
+            masks.append({**masks[-1], name: Way.ZERO})
+    return masks
+
+
 def told(mask: Mask) -> str:
     """Returns the mask as `--mask` takes it."""
     return ','.join(f'{name}={way.value}' for name, way in mask.items()) or 'none'

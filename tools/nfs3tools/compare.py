@@ -23,23 +23,26 @@ import tempfile
 from contextlib import ExitStack
 from pathlib import Path
 
-from . import pages, telling
-from .classes import CLASSES, Mask, default_mask, mask_of, told
-from .comparing import Compared, Run, compare
+from . import pages, summing, telling
+from .classes import CLASSES, in_any_order, mask_word, told
+from .comparing import Compared, Run
 from .listings import Message
-from .masking import write_masked
 from .messages import REFUSED, add_losses, add_options, options_of, parser_of
+from .orders import Choices, Orders
 from .outputs import check_output, held, write_file
+from .pairing import ASKING
 from .parts import files_of
 from .places import Place, parse_fault
 from .printed import escaped
-from .programs import CHECKED, COMPARED, lines_of_program, program_path, run_program
+from .programs import CHECKED, program_path, run_program
 from .selection import count
 from .taken import Taken, take
+from .trial import Trial
 
 SAME, DIFFERENT = range(2)
 COUNTS = re.compile(r'ok connections=(\d+) calls=(\d+) ')
 FINDINGS_AT_MOST = 20
+AROUND = 3  # equal pairs before and after what differs, on a page
 
 
 class Ended(Exception):
@@ -59,7 +62,10 @@ def classes_told() -> str:
 def words_of(words: list[str]) -> argparse.Namespace:
     parser = parser_of(__doc__, 'compare')
     parser.epilog = classes_told()
-    parser.add_argument('--mask', type=mask_of, default=default_mask(), metavar='CLASS,..', help='the classes of values to mask')
+    parser.add_argument('--mask', type=mask_word, metavar='CLASS,..', help='the classes of values to mask')
+    parser.add_argument('--order', choices=('strict', 'any'), help='whether the order of calls counts; without it, any order is tried second')
+    parser.add_argument('--extra', choices=('none', 'asking'), default='asking',
+                        help='what may be in one run alone in any order: calls that ask and change nothing, or none')
     parser.add_argument('--all', action='store_true', help=f'prints all findings, not the first {FINDINGS_AT_MOST}')
     parser.add_argument('--html', metavar='FILE', help='writes a page with both runs side by side')
     add_options(parser)
@@ -90,23 +96,11 @@ def checked(program: str, taken: Taken, capture: str, name: str) -> str:
     raise Ended(REFUSED, f'{escaped(name)}: {line}' + ''.join(f' (frame {frame.number})' for frame in frames))
 
 
-def verdict_of(program: str, captures: list[str], masked: list[str], mask: Mask) -> str:
-    """Returns what `same` says of the masked captures, which it writes."""
-    for capture, path in zip(captures, masked):
-        write_masked(program, capture, path, mask)
-    return run_program(program, ['same', *masked], COMPARED).out.strip()
-
-
-def run_of(program: str, taken: Taken, capture: str, masked: str, name: str) -> Run:
-    """A run, with its masked capture in canonical form, which is written beside the masked one."""
-    canonical = masked + '.canonical'
-    run_program(program, ['canon', masked, canonical], CHECKED)
-
+def run_of(trial: Trial, taken: Taken, capture: str, name: str) -> Run:
     def frames(message: Message) -> list[int]:
         place = Place(message.connection, 'client' if message.is_call else 'server', message.record)
         return [frame.number for frame in taken.frames(place)]
-    return Run(escaped(name), lambda: lines_of_program(program, ['show', capture]), frames,
-               lambda: lines_of_program(program, ['show', canonical]))
+    return Run(escaped(name), trial.listing(capture), frames)
 
 
 def write_page(path: str, inputs: list[str], compared: Compared, first: Run, second: Run, verdict: str, mask: str) -> None:
@@ -122,9 +116,9 @@ def losses_of(first: Taken, second: Taken) -> str:
 
 def line_of(verdict: str, compared: str, losses: str) -> str:
     """What is printed of the verdict: how much was compared, and in which part."""
-    if verdict == 'same':
-        return f'same in part: {compared}, {losses}' if losses else f'same: {compared}'
-    return f'{verdict}\ncompared in part: {losses}' if losses else verdict
+    if verdict.startswith('differ'):
+        return f'{verdict}\ncompared in part: {losses}' if losses else verdict
+    return f'{verdict} in part: {compared}, {losses}' if losses else f'{verdict}: {compared}'
 
 
 def compared_runs(words: argparse.Namespace, stack: ExitStack) -> int:
@@ -136,30 +130,33 @@ def compared_runs(words: argparse.Namespace, stack: ExitStack) -> int:
     with held():
         folder = Path(stack.enter_context(tempfile.TemporaryDirectory(prefix='nfs3canon')))
     runs = [stack.enter_context(take(name, options_of(words))) for name in names]
-    captures = [str(folder / letter) for letter in 'ab']
-    sizes = list[str]()
-    for taken, capture, name in zip(runs, captures, names):
-        taken.write_capture(capture)
+    trial = Trial(program, folder, runs)
+    for taken, name in zip(runs, names):
         tell(name, taken)
-        sizes.append(checked(program, taken, capture, name))
-    print(f'masked: {told(words.mask)}', flush=True)
-    masked = [capture + '.masked' for capture in captures]
-    verdict = verdict_of(program, captures, masked, words.mask)
-    losses = losses_of(*runs)
-    line = line_of(verdict, sizes[0], losses)
-    print(line, flush=True)
-    status = DIFFERENT if verdict != 'same' or losses and not words.allow_losses else SAME
+    sizes = [checked(program, *one) for one in zip(runs, trial.captures, names)]
+    masks = in_any_order(words.mask)
+    print(f'masked: {told(masks[0])}', flush=True)
+    verdict, losses = trial.same(trial.masked(trial.captures, masks[0])), losses_of(*runs)
     if verdict == 'same' and not words.html:
-        return status
-    first, second = (run_of(program, *one) for one in zip(runs, captures, masked, names))
-    compared = compare(first, second, words.mask, is_whole=bool(words.html))
+        print(line_of(verdict, sizes[0], losses))
+        return DIFFERENT if losses and not words.allow_losses else SAME
+    first, second = (run_of(trial, *one) for one in zip(runs, trial.captures, names))
+    leaves_out, order = frozenset() if words.extra == 'none' else ASKING, 'strict' if verdict == 'same' else words.order
+    found = Orders(trial, first, second, Choices(order, masks, leaves_out, AROUND if words.html else 0)).found()
+    if found.same_under is not None:
+        line = line_of('same in another order', summing.of_same(found, masks[0]), losses)
+    else:
+        line = line_of(verdict, sizes[0], losses)
+    print(line, flush=True)
     if words.html:
-        write_page(words.html, inputs, compared, first, second, line, told(words.mask))
-    if verdict == 'same':
-        return status
-    for line in telling.of_compared(compared, first.frames, second.frames, None if words.all else FINDINGS_AT_MOST):
-        print(line)
-    return status
+        write_page(words.html, inputs, found.compared, first, second, line, told(masks[0]))
+    if verdict != 'same' and (found.same_under is None or words.all):
+        for told_line in telling.of_compared(found.compared, first.frames, second.frames, None if words.all else FINDINGS_AT_MOST):
+            print(told_line)
+    if verdict != 'same':
+        print(summing.of_compared(found.compared))
+    is_same = verdict == 'same' or found.same_under is not None and words.order == 'any'
+    return SAME if is_same and (words.allow_losses or not losses) else DIFFERENT
 
 
 def main(words: list[str]) -> int:

@@ -1,31 +1,28 @@
-"""Two runs compared: what the program says of their masked captures, and what differs."""
-import bisect
+"""Two runs compared: which exchanges belong together, and what differs."""
 import itertools
-from array import array
 from collections import Counter
 from collections.abc import Callable, Iterable, Iterator, Sequence
 from dataclasses import dataclass, field
 
 from .classes import Mask
 from .differing import Comparison, Difference
-from .kept import Together, chosen, keep_what_is_needed, together
 from .listings import Exchange, Message, exchanges_of, messages_of
-from .matching import Matched, aligned, increasing, matched
-from .outlines import Outline, Outlines
+from .matching import Pair
+from .outlines import Outlines
+from .pairing import Listing, Pairing
 from .paths import Paths
 
 Framing = Callable[[Message], Sequence[int]]
-Listing = Callable[[], Iterable[str]]
+Row = tuple[Exchange | None, Exchange | None]
 
 
 @dataclass
 class Run:
-    """One of two runs: its name, its listing, the frames that carry a message (none of a capture), and the listing of its masked
-    capture in canonical form. Each listing begins anew if it is called."""
+    """One of two runs: its name, its listing, which begins anew if it is called, and the frames that carry a message (none of a
+    capture)."""
     name: str
     listing: Listing
     frames: Framing
-    canonical: Listing
 
 
 @dataclass(frozen=True)
@@ -41,11 +38,25 @@ class Finding:
 
 @dataclass
 class Compared:
-    """All findings, in the order of the first run, and how many exchanges were brought together."""
+    """All findings, in the order of the first run, and what belongs together.
+
+    exchanges: how many exchanges were brought together
+    calls: how many each run has
+    moved, elsewhere: how many of those have another turn, or are on another connection
+    late: how many replies come in another order
+    lonely: how many calls the first and the second run have alone, which are told
+    left_out: how often a procedure was left out of the first and of the second run
+    rows: what differs with some pairs before and after it, for those who show both runs side by side
+    """
     findings: list[Finding] = field(default_factory=list)
     exchanges: int = 0
-    # The exchanges that were taken apart, for those who show both runs side by side.
-    pairs: list[tuple[Exchange | None, Exchange | None]] = field(default_factory=list)
+    calls: tuple[int, int] = (0, 0)
+    moved: int = 0
+    elsewhere: int = 0
+    late: int = 0
+    lonely: tuple[int, int] = (0, 0)
+    left_out: tuple[Counter[str], Counter[str]] = field(default_factory=lambda: (Counter(), Counter()))
+    rows: list[Row] = field(default_factory=list)
 
     def fields(self) -> Counter[tuple[str, str]]:
         """Returns how often each field of each procedure differs."""
@@ -53,168 +64,168 @@ class Compared:
                        if (message := finding.first or finding.second) for difference in finding.differences)
 
 
-class Conversation:
-    """The exchanges of a connection that are taken apart, with the paths of their files and the keys by which they are brought together."""
+class Apart:
+    """Exchanges of a run that are taken apart, with the paths of their files."""
 
-    def __init__(self, places: list[int], exchanges: list[Exchange], paths: Paths, comparison: Comparison) -> None:
-        self.places, self.exchanges = places, exchanges
-        self.paths: list[str | None] = []
-        self.keys: list[tuple[object, object, object]] = []
-        for exchange in exchanges:
-            paths.take(exchange)
-            path = paths.of(exchange.call.value_of('fh') or '')
-            asked = tuple(comparison.key_of(item, True) for item in exchange.call.items)
-            files = tuple(paths.of(item.value) for item in exchange.call.items if item.name == 'fh')
-            name = exchange.call.value_of('name')
-            self.paths.append(path if name is None or path is None else f'{path.rstrip("/")}/{name.strip(chr(34))}')
-            self.keys.append(((exchange.procedure, asked, files), (exchange.procedure, files, name), exchange.procedure))
+    def __init__(self, run: Run, outlines: Outlines, wanted: Iterable[int]) -> None:
+        kept = sorted(outlines.with_origins(wanted))
+        found = exchanges_of(messages_of(chosen(run.listing(), outlines, kept)))
+        self.exchanges = dict(zip(kept, itertools.chain.from_iterable(some for _, some in sorted(found.items()))))
+        self.paths = Paths()
+        for exchange in self.exchanges.values():
+            self.paths.take(exchange)
 
-
-def conversations(run: Run, comparison: Comparison, rows: Sequence[tuple[Outline, set[int]]]) -> dict[int, Conversation]:
-    """Takes some calls of each connection apart, with their replies."""
-    paths, places = Paths(), {outline.number: sorted(kept) for outline, kept in rows}
-    return {number: Conversation(places[number], exchanges, paths, comparison)
-            for number, exchanges in sorted(exchanges_of(messages_of(chosen(run.listing(), rows))).items())}
+    def path(self, at: int) -> str | None:
+        """Returns the path of what a call is about."""
+        call = self.exchanges[at].call
+        path, name = self.paths.of(call.value_of('fh') or ''), call.value_of('name')
+        return path if name is None or path is None else f'{path.rstrip("/")}/{name.strip(chr(34))}'
 
 
-def connections_together(first: dict[int, Outline], second: dict[int, Outline]) -> list[tuple[int | None, int | None]]:
-    """Returns which connection belongs to which: by turn if there are as many, and else by what they ask."""
-    here, there = sorted(first), sorted(second)
-    if len(here) == len(there):
-        return list(zip(here, there))
-    pairs = aligned([tuple(first[number].procedures) for number in here], [tuple(second[number].procedures) for number in there])
-    edges, out = [(-1, -1), *pairs, (len(here), len(there))], []
-    for (at, to), (end, other_end) in zip(edges, edges[1:]):
-        left, right = here[at + 1:end], there[to + 1:other_end]
-        for number in range(max(len(left), len(right))):
-            out.append((left[number] if number < len(left) else None, right[number] if number < len(right) else None))
-        if end < len(here):
-            out.append((here[end], there[other_end]))
-    return out
+def chosen(lines: Iterable[str], outlines: Outlines, some: Iterable[int]) -> Iterator[str]:
+    """Returns the lines of some calls, and of their replies."""
+    wanted = set[str]()
+    for at in some:
+        connection, record = outlines.record_of(at)
+        wanted.add(f'{connection} client {record}')
+        wanted.update(f'{connection} server {reply}' for reply in outlines.replies_of(at))
+    return (line for line in lines if line[:line.find(' xid=')] in wanted)
 
 
-def brought_together(first: Run, second: Run, mask: Mask, is_whole: bool) -> list[Together]:
-    """Returns the connections that belong together, each with the exchanges that are to be taken apart: all of them, or what differs
-    and what it needs. A connection of one run alone belongs to one without calls."""
-    here, there = Outlines(first.canonical(), mask), Outlines(second.canonical(), mask)
-    pairs = [together(Outline(0) if number is None else here.connections[number],
-                      Outline(0) if other is None else there.connections[other])
-             for number, other in connections_together(here.connections, there.connections)]
-    if is_whole:
-        for pair in pairs:
-            pair.keep_all()
-    else:
-        keep_what_is_needed(here, there, pairs, (first.canonical, second.canonical), mask)
-    return pairs
+@dataclass
+class Lonely:
+    """The exchanges of a run that have no partner: those that are told, the connections of which there are no others (the first
+    exchange of each, and how many it has), and how often a procedure is left out."""
+    told: list[int] = field(default_factory=list)
+    connections: dict[int, int] = field(default_factory=dict)
+    left_out: Counter[str] = field(default_factory=Counter)
+
+    @classmethod
+    def of(cls, outlines: Outlines, only: Iterable[int], leaves_out: frozenset[str]) -> 'Lonely':
+        out = cls()
+        for place, group in itertools.groupby(only, outlines.connection_of):
+            some, all_of_it = list(group), outlines.exchanges_of(place)
+            told = [at for at in some if outlines.procedure_of(at) not in leaves_out]
+            if told and len(some) == len(all_of_it):
+                out.connections[some[0]] = len(some)
+            else:
+                out.told += told
+                out.left_out.update(outlines.procedure_of(at) for at in some if outlines.procedure_of(at) in leaves_out)
+        return out
 
 
-def compare(first: Run, second: Run, mask: Mask, is_whole: bool = False) -> Compared:
-    """Compares two runs by their listings. Exchanges are brought together first; then values that are renamed are bound one to one,
-    first by the pairs that are surest. Only what differs is taken apart, unless all is asked for."""
-    comparison, result = Comparison(mask), Compared()
-    pairs = brought_together(first, second, mask, is_whole)
-    here = conversations(first, comparison, [(pair.first, pair.kept) for pair in pairs if pair.first])
-    there = conversations(second, comparison, [(pair.second, pair.kept_there) for pair in pairs if pair.second])
-    both = []
-    for pair in pairs:
-        if pair.first and pair.second:
-            own, its = here[pair.first.number], there[pair.second.number]
-            both.append((pair, own, its, matched(own.keys, its.keys, known_pairs(pair, own, its))))
-        else:
-            result.findings += of_one_connection(pair, here, there)
-    findings: dict[int, list[Finding]] = {}
-    for is_sure in (True, False):
-        for at, (_, own, its, match) in enumerate(both):
-            findings.setdefault(at, []).extend(of_pairs(own, its, match.equal if is_sure else match.changed + match.moved, comparison))
-    for at, (pair, own, its, match) in enumerate(both):
-        result.exchanges += sum(block.size for block in pair.blocks) + len(match.changed) + len(match.moved)
-        result.findings += in_order([*findings[at], *of_turns(pair, own, its, match), *of_the_unmatched(own, its, match)])
-        result.pairs += side_by_side(own, its, match)
-    return result
+    def number(self) -> int:
+        """Returns how many exchanges are told."""
+        return len(self.told) + sum(self.connections.values())
 
 
-def known_pairs(pair: Together, first: Conversation, second: Conversation) -> list[tuple[int, int]]:
-    """Returns which of the exchanges that are taken apart ask the same, by their numbers among these."""
-    numbers = {to: number for number, to in enumerate(second.places)}
-    partners = [(number, pair.partner(at)) for number, at in enumerate(first.places)]
-    return [(number, numbers[to]) for number, to in partners if to is not None]
+class Explaining:
+    """Tells what differs between two runs whose exchanges are brought together. What is in one run alone is told, unless its procedure
+    is one of those that are left out."""
+
+    def __init__(self, first: Run, second: Run, pairing: Pairing, leaves_out: frozenset[str]) -> None:
+        self.first, self.second, self.pairing = first, second, pairing
+        self.firsts, self.seconds = pairing.order_of_first(), pairing.order_of_second()
+        self.lonely = Lonely.of(pairing.here, pairing.only_first(), leaves_out)
+        self.others = Lonely.of(pairing.there, pairing.only_second(), leaves_out)
+
+    def explained(self, unequal: set[int], named: set[int], mask: Mask, tells_order: bool, around: int) -> Compared:
+        """Returns what differs in the pairs of the unequal turns, and besides.
+
+        named: the turns of equal pairs that say what stands for what
+        around: how many pairs before and after what differs are in the rows
+        """
+        pairing, moved = self.pairing, [*self.pairing.moved, *self.pairing.elsewhere]
+        shown = unequal | self.neighbours(unequal, around)
+        turns = self.take_apart(shown | named, moved if tells_order else [])
+        findings = [*self.of_turns(unequal, turns, Comparison(mask)), *self.of_the_lonely()]
+        if tells_order:
+            findings += [*self.of_moved(), *self.of_late()]
+        return Compared(sorted(findings, key=lambda finding: self.place_of(finding.first, finding.second)),
+                        len(self.firsts), (len(pairing.here), len(pairing.there)), len(pairing.moved), len(pairing.elsewhere),
+                        sum(number for _, number, _ in pairing.late_replies), (self.lonely.number(), self.others.number()),
+                        (self.lonely.left_out, self.others.left_out), self.rows(shown) if around else [])
+
+    def has_another_order(self) -> bool:
+        """Returns whether it makes a difference that the order does not count."""
+        pairing = self.pairing
+        return bool(self.lonely.left_out or self.others.left_out or pairing.moved or pairing.elsewhere or pairing.late_replies)
+
+    def tells_lonely(self) -> bool:
+        """Returns whether something is told that one run alone has."""
+        return any(some.told or some.connections for some in (self.lonely, self.others))
+
+    def neighbours(self, unequal: set[int], around: int) -> set[int]:
+        """Returns the turns that are at most so many before or after what differs."""
+        near = range(-around, around + 1)
+        here = {self.firsts[turn] + step for turn in unequal for step in near} | {at + step for at in self.lonely.told for step in near}
+        there = {to + step for to in self.others.told for step in near}
+        return {turn for turn, (at, to) in enumerate(zip(self.firsts, self.seconds)) if at in here or to in there}
+
+    def take_apart(self, turns: set[int], moved: Iterable[Pair]) -> set[int]:
+        """Takes the exchanges of some turns apart, and all that are told. Returns the turns, with those of the exchanges that say where
+        the files are."""
+        pairs = [*((self.firsts[turn], self.seconds[turn]) for turn in turns), *moved]
+        here = self.pairing.here.with_origins({*(at for at, _ in pairs), *self.lonely.told, *self.lonely.connections})
+        there = self.pairing.there.with_origins({*(to for _, to in pairs), *self.others.told, *self.others.connections})
+        turns = {turn for turn, (at, to) in enumerate(zip(self.firsts, self.seconds)) if at in here or to in there}
+        self.here = Apart(self.first, self.pairing.here, here.union(self.firsts[turn] for turn in turns))
+        self.there = Apart(self.second, self.pairing.there, there.union(self.seconds[turn] for turn in turns))
+        return turns
+
+    def of_turns(self, unequal: set[int], turns: set[int], comparison: Comparison) -> Iterator[Finding]:
+        """The differences between exchanges that belong together. Those of equal ones bind what stands for what."""
+        for turn in (*sorted(turns - unequal), *sorted(unequal)):
+            at, to = self.firsts[turn], self.seconds[turn]
+            found = list(of_pair(self.here.exchanges[at], self.there.exchanges[to], self.here.path(at), comparison))
+            if turn in unequal:
+                yield from found
+
+    def of_moved(self) -> Iterator[Finding]:
+        for pairs, remark in ((self.pairing.moved, 'the call has changed its turn'),
+                              (self.pairing.elsewhere, 'the call is on another connection')):
+            for at, to in pairs:
+                yield Finding('moved', self.here.exchanges[at].call, self.there.exchanges[to].call, self.here.path(at), remark=remark)
+
+    def of_late(self) -> Iterator[Finding]:
+        for connection, number, among in self.pairing.late_replies:
+            yield Finding('order', Message(connection, 'server', 1, 0, '', ()), None,
+                          remark=f'{number} of {among} replies of the connection come in another order')
+
+    def of_the_lonely(self) -> Iterator[Finding]:
+        for at in self.lonely.told:
+            yield Finding('only', self.here.exchanges[at].call, None, self.here.path(at))
+        for to in self.others.told:
+            yield Finding('only', None, self.there.exchanges[to].call, self.there.path(to))
+        remark = 'a connection of %d calls that the other run does not have'
+        for at, number in self.lonely.connections.items():
+            yield Finding('connection', self.here.exchanges[at].call, None, remark=remark % number)
+        for to, number in self.others.connections.items():
+            yield Finding('connection', None, self.there.exchanges[to].call, remark=remark % number)
+
+    def place_of(self, first: Message | None, second: Message | None) -> tuple[int, int, bool]:
+        """Where a finding stands: in the order of the first run; what the second run alone has comes at its own place."""
+        message, outlines = first or second, (self.pairing.here if first else self.pairing.there)
+        assert message
+        place = outlines.place_of(message.connection)
+        if first is None:
+            place = self.pairing.places_of_homes.get(place, len(self.pairing.homes))
+        return place, message.record, first is None
+
+    def rows(self, turns: set[int]) -> list[Row]:
+        """The exchanges of some turns, and those that are told, in the order of the first run."""
+        rows: list[Row] = [(self.here.exchanges[self.firsts[turn]], self.there.exchanges[self.seconds[turn]]) for turn in turns]
+        rows += [(self.here.exchanges[at], None) for at in (*self.lonely.told, *self.lonely.connections)]
+        rows += [(None, self.there.exchanges[to]) for to in (*self.others.told, *self.others.connections)]
+        return sorted(rows, key=lambda row: self.place_of(row[0] and row[0].call, row[1] and row[1].call))
 
 
-def of_one_connection(pair: Together, first: dict[int, Conversation], second: dict[int, Conversation]) -> Iterator[Finding]:
-    """A connection that one run alone has."""
-    outline, side = (pair.first, first) if pair.first else (pair.second, second)
-    call = side[outline.number].exchanges[0].call
-    yield Finding('connection', call if pair.first else None, None if pair.first else call,
-                  remark=f'a connection of {len(outline)} calls that the other run does not have')
-
-
-def of_pairs(first: Conversation, second: Conversation, pairs: Iterable[tuple[int, int]], comparison: Comparison) -> Iterator[Finding]:
-    """The differences between exchanges that belong together: of the calls, and then of the replies, in their order."""
-    for at, to in pairs:
-        one, other, path = first.exchanges[at], second.exchanges[to], first.paths[at]
-        found = comparison.of_messages(one.call, other.call)
+def of_pair(one: Exchange, other: Exchange, path: str | None, comparison: Comparison) -> Iterator[Finding]:
+    """How two exchanges differ: their calls, and then their replies, in their order."""
+    for message, its in ((one.call, other.call), *zip(one.replies, other.replies)):
+        found = comparison.of_messages(message, its)
         if found:
-            yield Finding('changed', one.call, other.call, path, tuple(found))
-        for reply, answer in zip(one.replies, other.replies):
-            found = comparison.of_messages(reply, answer)
-            if found:
-                yield Finding('changed', reply, answer, path, tuple(found))
-        if len(one.replies) != len(other.replies):
-            yield Finding('replies', one.call, other.call, path,
-                          remark=f'{len(one.replies)} replies in the first run, {len(other.replies)} in the second')
-
-
-def of_turns(pair: Together, first: Conversation, second: Conversation, match: Matched) -> Iterator[Finding]:
-    """Calls that have changed their turn, and replies that come in another order."""
-    for at, to in match.moved:
-        yield Finding('moved', first.exchanges[at].call, second.exchanges[to].call, first.paths[at], remark='the call has changed its turn')
-    more = [(first.places[at], second.places[to]) for at, to in match.changed]
-    turns = turns_of_replies(pair, more)
-    late = late_of(turns)
-    if late:
-        reply = next(reply for exchange in first.exchanges for reply in exchange.replies)
-        yield Finding('order', reply, None, remark=f'{late} of {len(turns)} replies of the connection come in another order')
-
-
-def turns_of_replies(pair: Together, more: Iterable[tuple[int, int]]) -> 'array[int]':
-    """Returns the records of the second run's replies, in the order of those of the first run to which they belong."""
-    turns = array('I', bytes(array('I').itemsize * (1 + pair.first.last_reply())))
-    for at, to in itertools.chain(pair.pairs(), more):
-        for record, other in zip(pair.first.records_of(at), pair.second.records_of(to)):
-            turns[record] = other
-    return array('I', filter(None, turns))
-
-
-def late_of(turns: 'array[int]') -> int:
-    """Returns how many numbers are not in order."""
-    if all(one < other for one, other in zip(turns, itertools.islice(turns, 1, None))):
-        return 0
-    return len(turns) - len(increasing(list(enumerate(turns))))
-
-
-def of_the_unmatched(first: Conversation, second: Conversation, match: Matched) -> Iterator[Finding]:
-    for at in match.only_first:
-        yield Finding('only', first.exchanges[at].call, None, first.paths[at])
-    for to in match.only_second:
-        yield Finding('only', None, second.exchanges[to].call, second.paths[to])
-
-
-def in_order(findings: Sequence[Finding]) -> list[Finding]:
-    """In the order of the first run's calls and replies; what the second run alone has comes at its own place."""
-    def turn(finding: Finding) -> tuple[int, bool]:
-        message = finding.first or finding.second
-        return (message.record if message else 0, finding.first is None)
-    return sorted(findings, key=turn)
-
-
-def side_by_side(first: Conversation, second: Conversation, match: Matched) -> list[tuple[Exchange | None, Exchange | None]]:
-    """All exchanges of a connection, those that belong together in one row, in the order of the first run."""
-    rows: list[tuple[float, Exchange | None, Exchange | None]] = []
-    pairs = sorted(match.equal + match.changed + match.moved)
-    rows += [(at, first.exchanges[at], second.exchanges[to]) for at, to in pairs]
-    rows += [(at, first.exchanges[at], None) for at in match.only_first]
-    inverse = sorted((to, at) for at, to in match.equal + match.changed)
-    for to in match.only_second:
-        before = bisect.bisect_left(inverse, (to, 0))
-        rows.append((inverse[before - 1][1] + 0.5 if before else -0.5, None, second.exchanges[to]))
-    return [(one, other) for _, one, other in sorted(rows, key=lambda row: row[0])]
+            yield Finding('changed', message, its, path, tuple(found))
+    if len(one.replies) != len(other.replies):
+        yield Finding('replies', one.call, other.call, path,
+                      remark=f'{len(one.replies)} replies in the first run, {len(other.replies)} in the second')

@@ -3,8 +3,7 @@ import difflib
 from array import array
 from bisect import bisect_left
 from collections import Counter, defaultdict
-from collections.abc import Hashable, Iterable, Sequence
-from dataclasses import dataclass, field
+from collections.abc import Hashable, Sequence
 from typing import NamedTuple
 
 # Up to so many pairs of elements that have no anchor are compared each with each.
@@ -134,55 +133,3 @@ def blocks_of(first: 'array[int]', second: 'array[int]') -> list[Block]:
         end, other_end = meeting(first, second, at, to)
         blocks += [Block(at + here, to + there, 1) for here, there in aligned(first[at:end], second[to:other_end])]
         at, to = end, other_end
-
-
-@dataclass
-class Matched:
-    """Which elements belong together: those that are equal and in order, those in order that differ, those that are equal and have
-    changed their turn, and those of one side alone."""
-    equal: list[Pair] = field(default_factory=list)
-    changed: list[Pair] = field(default_factory=list)
-    moved: list[Pair] = field(default_factory=list)
-    only_first: list[int] = field(default_factory=list)
-    only_second: list[int] = field(default_factory=list)
-
-
-def gaps(pairs: Sequence[Pair], size: int, other_size: int) -> list[tuple[range, range]]:
-    """Returns the elements between each pair and the next, before the first and after the last."""
-    edges = [(-1, -1), *pairs, (size, other_size)]
-    return [(range(at + 1, end), range(to + 1, other_end)) for (at, to), (end, other_end) in zip(edges, edges[1:])]
-
-
-def filled(pairs: Sequence[Pair], first: Sequence[Hashable], second: Sequence[Hashable]) -> list[Pair]:
-    """Returns further pairs between these: elements that are equal by a coarser key."""
-    more: list[Pair] = []
-    for here, there in gaps(pairs, len(first), len(second)):
-        if here and there:
-            found = aligned([first[at] for at in here], [second[at] for at in there])
-            more += [(here[at], there[to]) for at, to in found]
-    return more
-
-
-def matched(first: Sequence[Sequence[Hashable]], second: Sequence[Sequence[Hashable]], equal: Iterable[Pair] | None = None) -> Matched:
-    """Brings two sequences together. Each element is given by its keys, the finest first. The pairs that are equal by it may be known."""
-    result = Matched(equal=aligned([keys[0] for keys in first], [keys[0] for keys in second]) if equal is None else list(equal))
-    pairs = list(result.equal)
-    for level in range(1, len(first[0]) if first else 0):
-        more = filled(pairs, [keys[level] for keys in first], [keys[level] for keys in second])
-        result.changed += more
-        pairs = sorted(pairs + more)
-    taken, others = {at for at, _ in pairs}, {to for _, to in pairs}
-    result.changed.sort()
-    left = [at for at in range(len(first)) if at not in taken]
-    right = [to for to in range(len(second)) if to not in others]
-    waiting: dict[Hashable, list[int]] = defaultdict(list)
-    for to in reversed(right):
-        waiting[second[to][0]].append(to)
-    for at in left:
-        if waiting[first[at][0]]:
-            result.moved.append((at, waiting[first[at][0]].pop()))
-        else:
-            result.only_first.append(at)
-    found = {to for _, to in result.moved}
-    result.only_second = [to for to in right if to not in found]
-    return result

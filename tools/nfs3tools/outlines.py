@@ -1,12 +1,13 @@
 """What is kept of a run in place of its texts: a few numbers for each call.
 
-They come from the listing of the masked capture in canonical form. There the xids, handles and masked values of two runs are numbered
-alike as long as the runs agree, so equal exchanges have equal lines.
+They come from the listing of the masked capture in canonical form. A call with its replies is an exchange. Exchanges of two runs are
+equal if their texts are, without the values that each run has its own of, and if their handles lead to the same objects.
 """
 import re
 from array import array
-from collections import deque
-from collections.abc import Iterable
+from bisect import bisect_left, bisect_right
+from collections import Counter, defaultdict, deque
+from collections.abc import Iterable, Iterator
 
 from .classes import CLASSES, Mask, Way
 from .differing import RENAMED
@@ -15,8 +16,10 @@ from .paths import MAKING
 HANDLE = re.compile(r' fh=([0-9a-f]{1,8})(?=\s)')
 NAME = re.compile(r' (?:name|dirpath)="([^"]*)"')
 NAME_OR_HANDLE = re.compile(r' name="([^"]*)"| fh=([0-9a-f]{1,8})(?=\s)')
+ALIKE = re.compile(r' (?:name|dirpath|offset)=("[^"]*"|\S+)')
 MOUNT, LISTING = 'MOUNTPROC3_MNT', 'NFSPROC3_READDIRPLUS'
-FIRST_CALLS = 50  # whose procedures are kept
+DOTS = hash('.'), hash('..')  # the folder itself, and the one above it
+UNKNOWN, SEEN, MADE = range(3)  # how well it is known where an object is
 
 
 def classes_of_items(mask: Mask) -> dict[str, str]:
@@ -29,125 +32,216 @@ def renamed_values(mask: Mask) -> re.Pattern[str]:
     return re.compile(f' ({"|".join(sorted(classes_of_items(mask)))})=([^\\s"]+)')
 
 
-class Outline:
-    """A connection: of each call a hash of what it asks, one of all that it and its replies say, and the records of these."""
+class Waiting:
+    """The calls of a connection that may be answered yet: by xid the first of them, counted from 1, or all if they are several."""
 
-    def __init__(self, number: int) -> None:
-        self.number = number
-        self.asked, self.said, self.named = array('q'), array('q'), array('q')
-        self.folders, self.replies = array('I'), array('I')  # the first handle of a call, and its first reply's record, or 0
+    def __init__(self) -> None:
+        self.first_of = array('I')
+        self.several: dict[int, deque[int]] = {}
+
+    def add(self, xid: int, at: int) -> None:
+        if xid >= len(self.first_of):
+            self.first_of.extend([0] * (xid + 1 - len(self.first_of)))
+        if self.first_of[xid]:
+            self.several.setdefault(xid, deque([self.first_of[xid] - 1])).append(at)
+        else:
+            self.first_of[xid] = at + 1
+
+    def answered(self, xid: int) -> int:
+        """Returns which call a reply belongs to. If several calls have one xid, its replies are given to them in their order, and what
+        is left to the last of them."""
+        several = self.several.get(xid)
+        at = several[0] if several else self.first_of[xid] - 1
+        if several and len(several) > 1:
+            several.popleft()
+        return at
+
+
+class Objects:
+    """What file handles stand for: the folder and the name by which each was made, or else reached first."""
+
+    def __init__(self) -> None:
+        self.folders, self.names, self.known, self.origins = array('I'), array('q'), bytearray(), array('I')
+
+    def learn(self, handle: int, folder: int, name: int, known: int, exchange: int) -> None:
+        """Learns where an object is from an exchange, unless it is known as well."""
+        if name in DOTS:
+            return
+        if handle >= len(self.folders):
+            more = handle + 1 - len(self.folders)
+            self.folders.extend([0] * more)
+            self.names.extend([0] * more)
+            self.origins.extend([0] * more)
+            self.known.extend([UNKNOWN] * more)
+        if known > self.known[handle]:
+            self.folders[handle], self.names[handle], self.known[handle], self.origins[handle] = folder, name, known, exchange
+
+    def origin_of(self, handle: int) -> int | None:
+        """Returns the exchange that says where an object is."""
+        return self.origins[handle] if handle < len(self.known) and self.known[handle] else None
+
+    def identities(self) -> 'array[int]':
+        """Returns a number for each object that is the same in all runs: of its path, and of how many were made there before. It is 0 if
+        the path is not known."""
+        below = defaultdict[int, list[int]](list)
+        for handle, known in enumerate(self.known):
+            if known:
+                below[self.folders[handle]].append(handle)
+        out, waiting = array('q', bytes(8 * len(self.known))), [0]
+        while waiting:
+            folder = waiting.pop()
+            before = Counter[int]()
+            for handle in below.pop(folder, ()):
+                name = self.names[handle]
+                out[handle] = hash((out[folder] if folder else 0, name, before[name]))
+                before[name] += 1
+                waiting.append(handle)
+        return out
+
+
+class Outlines:
+    """The exchanges of a run, numbered through all its connections, each in the order of its calls."""
+
+    def __init__(self, lines: Iterable[str], mask: Mask) -> None:
+        self.connections, self.starts = list[int](), list[int]()  # their numbers, and the first exchange of each
+        self.asked, self.said = array('q'), array('q')  # what a call asks, and what it and its replies say
+        self.folders, self.found = array('I'), array('I')  # the first handle of a call and of its reply, or 0
         self.seconds: dict[int, int] = {}  # the second handle of a call
+        self.kinds, self.procedures = array('B'), list[str]()  # the procedure of a call, by its place in the list of them
+        self.replies = array('I')  # the record of the first reply, or 0
         self.further: dict[int, list[int]] = {}  # the records of further replies
-        self.procedures: list[str] = []
-        self.first_of = array('I')  # by xid: the first call, counted from 1
-        self.waiting: dict[int, deque[int]] = {}  # by xid: the calls, if there are several
+        self.objects = Objects()
+        self.take(lines, renamed_values(mask))
+        self.ask_of_objects()
 
     def __len__(self) -> int:
         return len(self.asked)
 
-    def records_of(self, at: int) -> list[int]:
-        """Returns the records of a call's replies."""
-        return [self.replies[at], *self.further.get(at, ())] if self.replies[at] else []
+    def take(self, lines: Iterable[str], pattern: re.Pattern[str]) -> None:
+        waiting, named, start = Waiting(), array('q'), 0
+        for line in lines:
+            number, side, record, xid, rest = line.split(' ', 4)
+            if not self.connections or self.connections[-1] != int(number):
+                waiting, named, start = Waiting(), array('q'), len(self)
+                self.connections.append(int(number))
+                self.starts.append(start)
+            procedure, said = rest[:rest.find(' ')], hash(pattern.sub('', rest))
+            if side == 'client':
+                waiting.add(int(xid[4:]), len(self))
+                name = NAME.search(rest) if procedure in MAKING or procedure == MOUNT else None
+                named.append(hash(name[1]) if name else 0)
+                self.add_call(procedure, said, rest)
+            else:
+                at = waiting.answered(int(xid[4:]))
+                self.add_reply(at, int(record), said)
+                self.learn(at, procedure, rest, named[at - start])
 
-    def last_reply(self) -> int:
-        """Returns the largest record of a reply, or 0."""
-        return max(max(self.replies, default=0), max((some[-1] for some in self.further.values()), default=0))
-
-    def calls_of_replies(self) -> 'array[int]':
-        """Returns the call of each reply, by its record."""
-        out = array('I', bytes(array('I').itemsize * (1 + self.last_reply())))
-        for at in range(len(self)):
-            for record in self.records_of(at):
-                out[record] = at
-        return out
-
-    def add_call(self, xid: int, procedure: str, rest: str, pattern: re.Pattern[str]) -> None:
-        at = len(self.asked)
-        if xid >= len(self.first_of):
-            self.first_of.extend([0] * (xid + 1 - len(self.first_of)))
-        if self.first_of[xid]:
-            self.waiting.setdefault(xid, deque([self.first_of[xid] - 1])).append(at)
-        else:
-            self.first_of[xid] = at + 1
-        pieces = pattern.split(rest)
-        self.asked.append(hash(tuple(pieces[0::3] + pieces[1::3])))
-        self.said.append(hash(rest))
+    def add_call(self, procedure: str, said: int, rest: str) -> None:
         handles = [int(value, 16) for value in HANDLE.findall(rest)]
-        self.folders.append(handles[0] if handles else 0)
         if len(handles) > 1:
-            self.seconds[at] = handles[1]
-        name = NAME.search(rest) if procedure in MAKING or procedure == MOUNT else None
-        self.named.append(hash(name[1]) if name else 0)
-        self.replies.append(0)
-        if at < FIRST_CALLS:
+            self.seconds[len(self)] = handles[1]
+        if procedure not in self.procedures:
             self.procedures.append(procedure)
+        self.kinds.append(self.procedures.index(procedure))
+        self.folders.append(handles[0] if handles else 0)
+        self.found.append(0)
+        self.replies.append(0)
+        self.said.append(said)
+        self.asked.append(said)
 
-    def add_reply(self, xid: int, record: int, rest: str) -> int:
-        """Returns which call it belongs to, by the rule of `listings.exchanges_of`."""
-        several = self.waiting.get(xid)
-        at = several[0] if several else self.first_of[xid] - 1
-        if several and len(several) > 1:
-            several.popleft()
-        self.said[at] = hash((self.said[at], hash(rest)))
+    def add_reply(self, at: int, record: int, said: int) -> None:
+        self.said[at] = hash((self.said[at], said))
         if self.replies[at]:
             self.further.setdefault(at, []).append(record)
         else:
             self.replies[at] = record
-        return at
 
-
-class Outlines:
-    """The connections of a run, and of each handle a hash of the path by which it was reached first, and the exchange that says so."""
-
-    def __init__(self, lines: Iterable[str], mask: Mask) -> None:
-        self.connections: dict[int, Outline] = {}
-        self.paths, self.origins = array('q'), list[tuple[int, int] | None]()
-        pattern = renamed_values(mask)
-        for line in lines:
-            number, side, record, xid, rest = line.split(' ', 4)
-            outline = self.connections.get(int(number)) or self.connections.setdefault(int(number), Outline(int(number)))
-            procedure = rest[:rest.find(' ')]
-            if side == 'client':
-                outline.add_call(int(xid[4:]), procedure, rest, pattern)
-            else:
-                self.learn(outline, outline.add_reply(int(xid[4:]), int(record), rest), procedure, rest)
-        for outline in self.connections.values():
-            self.ask_by_paths(outline)
-
-    def path_of(self, handle: int) -> int:
-        return self.paths[handle] if handle < len(self.paths) else 0
-
-    def origin_of(self, handle: int) -> tuple[int, int] | None:
-        """Returns the connection and the call by which a handle was reached first."""
-        return self.origins[handle] if handle < len(self.origins) else None
-
-    def below(self, folder: int, name: int) -> int:
-        return self.path_of(folder) if name == hash('.') else hash((self.path_of(folder), name))
-
-    def learn(self, outline: Outline, at: int, procedure: str, rest: str) -> None:
-        """Learns from a reply which handles its call has reached."""
-        folder, name = outline.folders[at], outline.named[at]
+    def learn(self, at: int, procedure: str, rest: str, name: int) -> None:
+        """Learns from a reply which objects its call has reached."""
+        folder = self.folders[at]
         if procedure in MAKING or procedure == MOUNT:
             found = HANDLE.search(rest)
             if found:
-                self.reach(int(found[1], 16), outline, at, name if procedure == MOUNT else self.below(folder, name))
+                self.found[at] = int(found[1], 16)
+                known = SEEN if procedure == 'NFSPROC3_LOOKUP' else MADE
+                self.objects.learn(self.found[at], folder, name, known, at)
         elif procedure == LISTING:
             for found in NAME_OR_HANDLE.finditer(rest):
                 if found[2] is None:
                     name = hash(found[1])
                 else:
-                    self.reach(int(found[2], 16), outline, at, self.below(folder, name))
+                    self.objects.learn(int(found[2], 16), folder, name, SEEN, at)
 
-    def reach(self, handle: int, outline: Outline, at: int, path: int) -> None:
-        if handle >= len(self.paths):
-            more = handle + 1 - len(self.paths)
-            self.paths.extend([0] * more)
-            self.origins.extend([None] * more)
-        if self.origins[handle] is None:
-            self.origins[handle], self.paths[handle] = (outline.number, at), path
+    def ask_of_objects(self) -> None:
+        """Handles have another number in each run. So what a call asks has the objects in their place."""
+        identities = self.objects.identities()
+        of = identities.__getitem__
+        identities.extend([0] * (1 + max(max(self.folders, default=0), max(self.seconds.values(), default=0),
+                                         max(self.found, default=0)) - len(identities)))
+        for at, (asked, said, folder, found) in enumerate(zip(self.asked, self.said, self.folders, self.found)):
+            second = self.seconds.get(at, 0)
+            self.asked[at] = asked = hash((asked, of(folder), of(second) if second else 0))
+            self.said[at] = hash((said, asked, of(found)))
+        self.identities = identities
 
-    def ask_by_paths(self, outline: Outline) -> None:
-        """Handles have another number in each run once the runs part. So what a call asks has the paths in their place."""
-        for at, asked in enumerate(outline.asked):
-            outline.asked[at] = hash((asked, self.path_of(outline.folders[at]), self.path_of(outline.seconds.get(at, 0))))
-        outline.first_of, outline.waiting, outline.named = array('I'), {}, array('q')
+    def procedure_of(self, at: int) -> str:
+        return self.procedures[self.kinds[at]]
+
+    def connection_of(self, at: int) -> int:
+        """Returns the place of an exchange's connection among all."""
+        return bisect_right(self.starts, at) - 1
+
+    def place_of(self, connection: int) -> int:
+        """Returns the place of a connection, by its number."""
+        return bisect_left(self.connections, connection)
+
+    def exchanges_of(self, place: int) -> range:
+        """Returns the exchanges of a connection, by its place among all."""
+        return range(self.starts[place], self.starts[place + 1] if place + 1 < len(self.starts) else len(self))
+
+    def record_of(self, at: int) -> tuple[int, int]:
+        """Returns the number of a call's connection, and the call's record."""
+        place = self.connection_of(at)
+        return self.connections[place], at - self.starts[place] + 1
+
+    def replies_of(self, at: int) -> list[int]:
+        """Returns the records of a call's replies."""
+        return [self.replies[at], *self.further.get(at, ())] if self.replies[at] else []
+
+    def last_reply(self, place: int) -> int:
+        """Returns the largest record of a reply of a connection, or 0."""
+        return max((self.replies_of(at)[-1] for at in self.exchanges_of(place) if self.replies[at]), default=0)
+
+    def exchanges_of_replies(self, place: int) -> 'array[int]':
+        """Returns the exchange of each reply of a connection, by its record."""
+        out = array('I', [0]) * (1 + self.last_reply(place))
+        for at in self.exchanges_of(place):
+            for record in self.replies_of(at):
+                out[record] = at
+        return out
+
+    def objects_of(self, at: int) -> list[int]:
+        """Returns the handles of a call."""
+        return [handle for handle in (self.folders[at], self.seconds.get(at, 0)) if handle]
+
+    def calls_alike(self, lines: Iterable[str], wanted: set[int]) -> dict[int, tuple[object, ...]]:
+        """Returns of some exchanges what alike calls have in common: procedure, objects, names and offset. The lines are those of
+        the listing."""
+        return {at: (self.procedure_of(at), tuple(ALIKE.findall(line)), *map(self.identities.__getitem__, self.objects_of(at)))
+                for at, line in self.calls_of(lines) if at in wanted}
+
+    def calls_of(self, lines: Iterable[str]) -> Iterator[tuple[int, str]]:
+        """Returns the exchanges with the lines of their calls."""
+        return enumerate(line for line in lines if ' client ' in line[:24])
+
+    def with_origins(self, exchanges: Iterable[int]) -> set[int]:
+        """Returns these exchanges, and all that say where their objects are."""
+        out = set(exchanges)
+        waiting = list(out)
+        while waiting:
+            for handle in self.objects_of(waiting.pop()):
+                origin = self.objects.origin_of(handle)
+                if origin is not None and origin not in out:
+                    out.add(origin)
+                    waiting.append(origin)
+        return out

@@ -52,7 +52,7 @@ def messages_together(first: Exchange | None, second: Exchange | None) -> Iterat
 def rows(compared: Compared, first: Run, second: Run) -> Iterator[str]:
     found = {(finding.first.place if finding.first else None, finding.second.place if finding.second else None): finding
              for finding in compared.findings if finding.kind in ('changed', 'replies', 'moved', 'only')}
-    for pair in compared.pairs:
+    for pair in compared.rows:
         for one, other in messages_together(*pair):
             finding = found.get((one.place if one else None, other.place if other else None))
             kind = 'only' if one is None or other is None else 'differs' if finding else ''

@@ -1,60 +1,63 @@
-"""What file handles stand for, as far as a recording tells: the path by which each was first reached.
+"""What file handles stand for, as far as a recording tells: the path by which each was made, or else first reached.
 
 A handle has another value in each run, and its path the same. So exchanges of two runs are brought together by paths.
 """
-from .listings import Exchange, Item, Message
+from typing import NamedTuple
+
+from .listings import Exchange, Item
 
 MAKING = {'NFSPROC3_LOOKUP', 'NFSPROC3_CREATE', 'NFSPROC3_MKDIR', 'NFSPROC3_SYMLINK', 'NFSPROC3_MKNOD'}
+DOTS = ('.', '..')  # the folder itself, and the one above it
 
 
-def joined(directory: str, name: str) -> str:
-    """Returns the path of a name in a directory. `.` is the directory itself, and `..` the one above it."""
-    name = name.strip('"')
-    if name == '.':
-        return directory
-    if name == '..':
-        return directory.rstrip('/').rpartition('/')[0] or '/'
-    return f'{directory.rstrip("/")}/{name}'
+class Origin(NamedTuple):
+    """Where an object is: its folder's handle (None if its name is a whole path), its name, and whether it was made there."""
+    folder: str | None
+    name: str
+    is_made: bool
 
 
 class Paths:
-    """The paths of the handles of one run, each that by which it was reached first."""
+    """The paths of the handles of one run."""
 
     def __init__(self) -> None:
-        self.paths: dict[str, str] = {}
+        self.origins: dict[str, Origin] = {}
 
     def of(self, handle: str) -> str | None:
-        """Returns the path of a handle, in hexadecimal, if one is known."""
-        return self.paths.get(handle)
+        """Returns the path of a handle, in hexadecimal, if one is known. A folder that is not known is `?`."""
+        names, at = list[str](), self.origins.get(handle)
+        passed = {handle}
+        while at is not None and at.folder is not None and at.folder not in passed:
+            names.append(at.name)
+            passed.add(at.folder)
+            at = self.origins.get(at.folder)
+        if handle not in self.origins:
+            return None
+        top = '?' if at is None or at.folder is not None else at.name.rstrip('/')
+        return '/'.join([top, *reversed(names)]) or '/'
 
-    def learn(self, handle: str | None, path: str | None) -> None:
-        if handle and path is not None:
-            self.paths.setdefault(handle, path)
+    def learn(self, handle: str | None, origin: Origin) -> None:
+        known = self.origins.get(handle or '')
+        if handle and origin.name not in DOTS and (known is None or origin.is_made and not known.is_made):
+            self.origins[handle] = origin
 
     def take(self, exchange: Exchange) -> None:
         """Learns from what an exchange says of handles. A reply that failed has none."""
+        call = exchange.call
+        folder, name = call.value_of('fh') or '', (call.value_of('name') or '').strip('"')
         for reply in exchange.replies:
             if exchange.procedure == 'MOUNTPROC3_MNT':
-                path = exchange.call.value_of('dirpath')
-                self.learn(reply.value_of('fh'), path and path.strip('"'))
+                self.learn(reply.value_of('fh'), Origin(None, (call.value_of('dirpath') or '').strip('"'), True))
             elif exchange.procedure in MAKING:
-                self.learn(reply.value_of('fh'), self.named(exchange.call))
+                self.learn(reply.value_of('fh'), Origin(folder, name, exchange.procedure != 'NFSPROC3_LOOKUP'))
             elif exchange.procedure == 'NFSPROC3_READDIRPLUS':
-                self.take_entries(self.directory(exchange.call), reply.items)
+                self.take_entries(folder, reply.items)
 
-    def directory(self, call: Message) -> str:
-        handle = call.value_of('fh') or ''
-        return self.paths.get(handle, '?')
-
-    def named(self, call: Message) -> str | None:
-        name = call.value_of('name')
-        return None if name is None else joined(self.directory(call), name)
-
-    def take_entries(self, directory: str, items: tuple[Item, ...]) -> None:
+    def take_entries(self, folder: str, items: tuple[Item, ...]) -> None:
         """Learns the handles of a READDIRPLUS reply, each of which comes after the name of its entry."""
-        path = None
+        name = '.'
         for item in items:
             if item.name == 'name':
-                path = joined(directory, item.value)
+                name = item.value.strip('"')
             elif item.name == 'fh':
-                self.learn(item.value, path)
+                self.learn(item.value, Origin(folder, name, False))

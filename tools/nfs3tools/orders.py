@@ -1,0 +1,69 @@
+"""Two runs that differ in their own order: what differs, and whether they are the same in another."""
+from collections.abc import Sequence
+from dataclasses import dataclass
+from typing import Literal
+
+from .classes import Mask
+from .comparing import Compared, Explaining, Run
+from .pairing import ASKING, Pairing
+from .trial import Trial
+from .unequal import Listed, ListedInPlace
+
+Order = Literal['strict', 'any'] | None
+
+
+@dataclass(frozen=True)
+class Choices:
+    """How runs are compared.
+
+    order: whether the order counts; if it is None, any order is tried, and counts if it makes a difference
+    masks: that of the comparison, and those of any order, each with more than the one before
+    leaves_out: the procedures whose calls are left out in any order if one run alone has them
+    around: how many pairs before and after what differs are shown
+    """
+    order: Order
+    masks: Sequence[Mask]
+    leaves_out: frozenset[str] = ASKING
+    around: int = 0
+
+
+@dataclass(frozen=True)
+class Found:
+    """What was found: all that differs and belongs together, and the mask under which the runs are the same in another order, if they
+    are."""
+    compared: Compared
+    same_under: Mask | None = None
+
+
+class Orders:
+    """Two runs whose exchanges are brought together, and their captures in one order."""
+
+    def __init__(self, trial: Trial, first: Run, second: Run, choices: Choices) -> None:
+        self.trial, self.choices = trial, choices
+        leaves_out = frozenset[str]() if choices.order == 'strict' else choices.leaves_out
+        self.pairing = trial.paired(choices.masks[0 if choices.order == 'strict' else -1], leaves_out)
+        self.is_in_place = self.pairing.is_in_place()
+        self.captures = trial.captures if self.is_in_place else trial.in_one_order(self.pairing)
+        self.explaining = Explaining(first, second, self.pairing, leaves_out)
+
+    def found(self) -> Found:
+        """Finds what differs, or that nothing does in another order."""
+        masks = self.choices.masks
+        if self.choices.order == 'strict' or self.choices.order is None and not self.explaining.has_another_order():
+            return Found(self.explained(self.trial.masked(self.captures, masks[0]), masks[0]))
+        shown = list[str]()
+        for at, mask in enumerate(masks):
+            masked = self.trial.masked(self.captures, mask)
+            if not self.explaining.tells_lonely() and self.trial.same(masked) == 'same':
+                # (what only this mask makes the same is told)
+                return Found(self.explained(shown or masked, masks[max(0, at - 1)]), mask)
+            shown = masked
+        return Found(self.explained(shown, masks[-1]))
+
+    def explained(self, masked: Sequence[str], mask: Mask) -> Compared:
+        """Finds what differs between the pairs, whose captures in one order are masked."""
+        first, second = self.trial.canonical(masked)
+        listed = ListedInPlace(first, second, self.pairing.here) if self.is_in_place else Listed(first, second)
+        differing = listed.unequal()
+        return self.explaining.explained(differing, listed.turns_of_values(differing, mask), mask,
+                                         self.choices.order == 'strict', self.choices.around)

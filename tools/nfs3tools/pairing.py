@@ -1,0 +1,215 @@
+"""Which exchange of one run belongs to which of the other, over all connections and in any order."""
+from array import array
+from collections import Counter, defaultdict, deque
+from collections.abc import Callable, Hashable, Iterable, Iterator, Sequence
+from dataclasses import dataclass
+from functools import cached_property
+from itertools import islice, pairwise
+
+from .matching import Pair, aligned, blocks_of, increasing
+from .outlines import Outlines
+from .reordered import Exchange
+
+Listing = Callable[[], Iterable[str]]
+
+# Calls that change nothing. A client's caches and timers decide when they are sent.
+ASKING = frozenset('NFSPROC3_' + name for name in (
+    'NULL', 'GETATTR', 'LOOKUP', 'ACCESS', 'READLINK', 'READDIR', 'READDIRPLUS', 'FSSTAT', 'FSINFO', 'PATHCONF', 'COMMIT')) | {
+        'MOUNTPROC3_NULL'}
+FIRST_CALLS = 50  # by which connections are brought together
+ASKED_BY_MANY = 16  # connections: a call that so many begin with tells nothing of one
+NOBODY = -1
+
+
+class InOrder:
+    """Exchanges of a run in an order, as `reordered` takes them."""
+
+    def __init__(self, outlines: Outlines, order: Sequence[int]) -> None:
+        self.outlines, self.order = outlines, order
+
+    def __iter__(self) -> Iterator[Exchange]:
+        outlines = self.outlines
+        return (Exchange(*outlines.record_of(at), outlines.replies_of(at)) for at in self.order)
+
+
+@dataclass
+class Pairing:
+    """The exchanges that belong together: for each of the first run that of the second, or NOBODY. So for connections, by their places
+    among all."""
+    here: Outlines
+    there: Outlines
+    partners: 'array[int]'
+    homes: list[int]
+
+    def pairs(self) -> Iterator[Pair]:
+        return ((at, to) for at, to in enumerate(self.partners) if to != NOBODY)
+
+    def is_in_place(self) -> bool:
+        """Returns whether each message stands in the same place in both runs."""
+        return self.partners == array('i', range(len(self.there))) and all(
+            getattr(self.here, name) == getattr(self.there, name) for name in ('connections', 'starts', 'replies', 'further'))
+
+    def order_of_first(self) -> 'array[int]':
+        """Returns the exchanges of the first run that have a partner, in their order."""
+        return array('I', (at for at, to in enumerate(self.partners) if to != NOBODY))
+
+    def order_of_second(self) -> 'array[int]':
+        """Returns their partners, in the order of the first run."""
+        return array('I', (to for to in self.partners if to != NOBODY))
+
+    def only_first(self) -> list[int]:
+        return [at for at, to in enumerate(self.partners) if to == NOBODY]
+
+    def only_second(self) -> list[int]:
+        taken = bytearray(len(self.there))
+        for _, to in self.pairs():
+            taken[to] = 1
+        return [to for to, is_taken in enumerate(taken) if not is_taken]
+
+    def home_of(self, place: int) -> range:
+        """Returns the exchanges of the connection to which one of the first run belongs, by its place among all."""
+        return self.there.exchanges_of(self.homes[place]) if self.homes[place] != NOBODY else range(0)
+
+    @cached_property
+    def elsewhere(self) -> list[Pair]:
+        """The pairs whose connections do not belong together."""
+        places = ((self.here.exchanges_of(place), self.home_of(place)) for place in range(len(self.homes)))
+        return [(at, self.partners[at]) for own, home in places for at in own
+                if self.partners[at] != NOBODY and self.partners[at] not in home]
+
+    @cached_property
+    def moved(self) -> list[Pair]:
+        """The pairs in connections that belong together whose calls come in another turn."""
+        out = list[Pair]()
+        for place, own in enumerate(map(self.here.exchanges_of, range(len(self.homes)))):
+            home = self.home_of(place)
+            if not is_in_order(to for to in islice(self.partners, own.start, own.stop) if to in home):
+                out += out_of_order([(at, self.partners[at]) for at in own if self.partners[at] in home])
+        return out
+
+    @cached_property
+    def late_replies(self) -> list[tuple[int, int, int]]:
+        """The connections of the first run whose replies come in another order: how many of them, and of how many."""
+        turns = [(place, self.turns_of_replies(place)) for place in range(len(self.homes))]
+        return [(self.here.connections[place], len(out_of_order(list(enumerate(some)))), len(some))
+                for place, some in turns if not is_in_order(some)]
+
+    @cached_property
+    def places_of_homes(self) -> dict[int, int]:
+        """The places of the connections of the first run, by those of the second that belong to them."""
+        return {home: place for place, home in enumerate(self.homes) if home != NOBODY}
+
+    def turns_of_replies(self, place: int) -> 'array[int]':
+        """Returns the records of the second run's replies, in the order of those of a connection of the first run to which they belong."""
+        own, home = self.here.exchanges_of(place), self.home_of(place)
+        turns = array('I', [0]) * (1 + self.here.last_reply(place))
+        for at in own:
+            if self.partners[at] in home:
+                for record, other in zip(self.here.replies_of(at), self.there.replies_of(self.partners[at])):
+                    turns[record] = other
+        return array('I', filter(None, turns))
+
+
+def together(here: Outlines, there: Outlines) -> list[int]:
+    """Returns for each connection the one of the other run that begins with the same calls. What is left goes by turn."""
+    begun = defaultdict[int, list[int]](list)
+    for place, start in enumerate(there.starts):
+        for asked in set(there.asked[start:min(start + FIRST_CALLS, there.exchanges_of(place).stop)]):
+            begun[asked].append(place)
+    votes = Counter[Pair]()
+    for place, start in enumerate(here.starts):
+        for asked in set(here.asked[start:min(start + FIRST_CALLS, here.exchanges_of(place).stop)]):
+            if len(begun[asked]) <= ASKED_BY_MANY:
+                votes.update((place, other) for other in begun[asked])
+    homes, taken = [NOBODY] * len(here.starts), set[int]()
+    for (place, other), _ in sorted(votes.items(), key=lambda vote: (-vote[1], abs(vote[0][0] - vote[0][1]), vote[0])):
+        if homes[place] == NOBODY and other not in taken:
+            homes[place] = other
+            taken.add(other)
+    left = (other for other in range(len(there.starts)) if other not in taken)
+    return [next(left, NOBODY) if home == NOBODY else home for home in homes]
+
+
+def is_in_order(numbers: Iterable[int]) -> bool:
+    return all(before < after for before, after in pairwise(numbers))
+
+
+def out_of_order(pairs: Sequence[Pair]) -> list[Pair]:
+    """Returns the pairs, given in the order of their firsts, whose seconds are not in order: as few as may be."""
+    kept = set(increasing(pairs))
+    return [pair for pair in pairs if pair not in kept]
+
+
+class Pairs:
+    """The pairs so far, and who has none yet."""
+
+    def __init__(self, here: Outlines, there: Outlines) -> None:
+        self.here, self.there, self.homes = here, there, together(here, there)
+        self.partners = array('i', [NOBODY]) * len(here)
+        self.taken = bytearray(len(there))
+        self.home_of_other = {home: place for place, home in enumerate(self.homes)}
+
+    def bind(self, at: int, to: int) -> None:
+        self.partners[at], self.taken[to] = to, 1
+
+    def left(self) -> tuple[list[int], list[int]]:
+        """Returns the exchanges of both runs that have no partner."""
+        return ([at for at, to in enumerate(self.partners) if to == NOBODY],
+                [to for to, is_taken in enumerate(self.taken) if not is_taken])
+
+    def in_order(self) -> None:
+        """Binds exchanges that are equal, as they follow one another in connections that belong together."""
+        for place, home in enumerate(self.homes):
+            if home != NOBODY:
+                own, its = self.here.exchanges_of(place), self.there.exchanges_of(home)
+                for at, to, size in blocks_of(self.here.said[own.start:own.stop], self.there.said[its.start:its.stop]):
+                    first, second = own.start + at, its.start + to
+                    self.partners[first:first + size] = array('i', range(second, second + size))
+                    self.taken[second:second + size] = b'\1' * size
+
+    def by_turn(self, here: Callable[[int], Hashable], there: Callable[[int], Hashable]) -> None:
+        """Binds exchanges that have a key in common, in their order: first in connections that belong together, then in any."""
+        for is_at_home in (True, False):
+            left, others = self.left()
+            waiting = defaultdict[Hashable, deque[int]](deque)
+            for to in others:
+                home = self.home_of_other.get(self.there.connection_of(to)) if is_at_home else None
+                waiting[there(to), home].append(to)
+            for at in left:
+                own = waiting.get((here(at), self.here.connection_of(at) if is_at_home else None))
+                if own:
+                    self.bind(at, own.popleft())
+
+    def in_gaps(self, lonely: frozenset[str]) -> None:
+        """Binds what is left between pairs, in connections that belong together, if the procedures are the same."""
+        for place, home in enumerate(self.homes):
+            own, its = self.here.exchanges_of(place), self.there.exchanges_of(home) if home != NOBODY else range(0)
+            edges = increasing([(at, self.partners[at]) for at in own if self.partners[at] in its])
+            for here, there in gaps(edges, own, its):
+                here, there = [[at for at in some if is_free(at) and outlines.procedure_of(at) not in lonely] for some, is_free, outlines in (
+                    (here, lambda at: self.partners[at] == NOBODY, self.here), (there, lambda to: not self.taken[to], self.there))]
+                found = aligned([self.here.procedure_of(at) for at in here], [self.there.procedure_of(to) for to in there])
+                for at, to in found:
+                    self.bind(here[at], there[to])
+
+
+def gaps(pairs: Sequence[Pair], own: range, its: range) -> Iterator[tuple[Sequence[int], Sequence[int]]]:
+    """Returns the elements between each pair and the next, before the first and after the last, where both sides have some."""
+    edges = [(own.start - 1, its.start - 1), *pairs, (own.stop, its.stop)]
+    return ((range(at + 1, end), range(to + 1, other_end)) for (at, to), (end, other_end) in zip(edges, edges[1:])
+            if at + 1 < end and to + 1 < other_end)
+
+
+def paired(here: Outlines, there: Outlines, listings: tuple[Listing, Listing], lonely: frozenset[str]) -> Pairing:
+    """Brings the exchanges of two runs together: those that are equal first, then those whose calls ask the same, then alike calls,
+    then calls of one procedure between the same neighbours. Calls of the lonely procedures are brought together only if they ask the same."""
+    pairs = Pairs(here, there)
+    pairs.in_order()
+    pairs.by_turn(here.said.__getitem__, there.said.__getitem__)
+    pairs.by_turn(here.asked.__getitem__, there.asked.__getitem__)
+    left, others = ({at for at in some if outlines.procedure_of(at) not in lonely} for some, outlines in zip(pairs.left(), (here, there)))
+    if left and others:
+        alike, like = here.calls_alike(listings[0](), left), there.calls_alike(listings[1](), others)
+        pairs.by_turn(lambda at: alike.get(at, ('first', at)), lambda to: like.get(to, ('second', to)))
+        pairs.in_gaps(lonely)
+    return Pairing(here, there, pairs.partners, pairs.homes)

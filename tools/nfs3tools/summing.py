@@ -1,0 +1,76 @@
+"""What is said of a comparison as a whole."""
+from collections import Counter
+from collections.abc import Iterator
+
+from .classes import Mask, told
+from .comparing import Compared
+from .orders import Found
+from .selection import count, plural
+
+FIELDS_AT_MOST = 4
+RUNS = ('first', 'second')
+
+
+def short(procedure: str) -> str:
+    """Returns a procedure's name without its program's."""
+    return procedure.removeprefix('NFSPROC3_').replace('MOUNTPROC3_', 'MOUNT ')
+
+
+def replies(number: int) -> str:
+    return f'{number:,} {plural(number, "reply", "replies")}'
+
+
+def of_order(compared: Compared) -> str:
+    """How many calls and replies stand elsewhere in the second run."""
+    turns = f'{compared.moved:,} of {count(compared.exchanges, "call")} in another turn'
+    return turns + (f', {compared.elsewhere:,} on another connection' if compared.elsewhere else '') + (
+        f', {replies(compared.late)} in another turn' if compared.late else '')
+
+
+def left_out(compared: Compared) -> Iterator[tuple[str, str]]:
+    """The calls that are left out of each run, and the run's name."""
+    for name, procedures in zip(RUNS, compared.left_out):
+        for procedure, number in sorted(procedures.items()):
+            yield f'{number:,} {short(procedure)}', name
+
+
+def besides(mask: Mask, before: Mask) -> Mask:
+    """Returns the classes that one mask masks in another way than the one before."""
+    return {name: way for name, way in mask.items() if before.get(name) is not way}
+
+
+def of_same(found: Found, mask: Mask) -> str:
+    """What stands after `same in another order`: how the order differs, and all that does not count besides."""
+    words = [of_order(found.compared)]
+    some = ', '.join(f'{what} of the {name} run' for what, name in left_out(found.compared))
+    if some:
+        words.append('left out: ' + some)
+    if found.same_under is not None and besides(found.same_under, mask):
+        words.append('masked besides: ' + told(besides(found.same_under, mask)))
+    return '; '.join(words)
+
+
+def fields_of(compared: Compared) -> Iterator[str]:
+    """The fields that differ most often, over all procedures."""
+    fields = Counter[tuple[str, bool]]()
+    for finding in compared.findings:
+        message = finding.first or finding.second
+        fields.update((difference.name, message is not None and message.is_call) for difference in finding.differences)
+    for (name, is_call), number in fields.most_common(FIELDS_AT_MOST):
+        yield f'{name} in ' + (count(number, 'call') if is_call else replies(number))
+    if len(fields) > FIELDS_AT_MOST:
+        yield '..'
+
+
+def of_compared(compared: Compared) -> str:
+    """The verdict in words: what belongs together, and what does not."""
+    words = [f'{compared.exchanges:,} of {count(max(compared.calls), "call")} belong together']
+    if compared.moved:
+        words.append(f'{compared.moved:,} in another turn')
+    if compared.elsewhere:
+        words.append(f'{compared.elsewhere:,} on another connection')
+    if compared.late:
+        words.append(f'{replies(compared.late)} in another turn')
+    words += [f'{what} more in the {name} run' for what, name in left_out(compared)]
+    words += [f'{number:,} more in the {name} run' for name, number in zip(RUNS, compared.lonely) if number]
+    return '; '.join([*words, *fields_of(compared)])

@@ -1,0 +1,101 @@
+"""Which exchanges of two captures in one order differ, by their listings."""
+from array import array
+from collections.abc import Callable, Iterable, Iterator
+from itertools import chain, groupby, zip_longest
+
+from .classes import Mask
+from .outlines import Outlines, classes_of_items, renamed_values
+
+Listing = Callable[[], Iterable[str]]
+Key = tuple[bool, int]
+Said = tuple[Key, list[str]]
+END: Said = (True, 1 << 62), []
+
+
+class Listed:
+    """Two captures in canonical form, in one order and one connection: call N of both has the xid N. A call may have any number of
+    replies. The turns of exchanges are numbered from 0."""
+
+    def __init__(self, first: Listing, second: Listing) -> None:
+        self.first, self.second = first, second
+
+    def turn_of(self, line: str) -> int:
+        begin = line.index(' xid=') + 5
+        return int(line[begin:line.index(' ', begin)]) - 1
+
+    def key_of(self, line: str) -> Key:
+        """Returns whether a line is of a reply, and the turn of its exchange."""
+        return ' server ' in line[:line.index(' xid=')], self.turn_of(line)
+
+    def messages(self, lines: Iterable[str]) -> Iterator[Said]:
+        """Returns the calls, and then the replies to each call, without their records' numbers."""
+        for key, some in groupby(lines, self.key_of):
+            yield key, [line[line.index(' xid='):] for line in some]
+
+    def unequal(self) -> set[int]:
+        """Returns the turns of the exchanges that are listed in another way."""
+        ones, others = iter(self.first()), iter(self.second())
+        for one in ones:
+            other = next(others, None)
+            if one != other:
+                return of_messages(self.messages(chain([one], ones)), self.messages(chain([] if other is None else [other], others)))
+        return of_messages(iter(()), self.messages(others))
+
+    def turns_of_values(self, unequal: set[int], mask: Mask) -> set[int]:
+        """Returns the turns of exchanges that are equal, and are the first ones with what the unequal ones have: their handles, and
+        other renamed values."""
+        classes, pattern = classes_of_items(mask), renamed_values(mask)
+        wanted, has_rest = set[tuple[str, str]](), False
+        for line in self.first() if unequal else ():
+            if self.turn_of(line) in unequal:
+                has_rest |= ' rest=' in line
+                wanted.update((classes[name], value) for name, value in pattern.findall(line))
+        out, seen = set[int](), set[str]()
+        for line in self.first() if wanted or has_rest else ():
+            turn = self.turn_of(line)
+            for name, value in () if turn in unequal else pattern.findall(line):
+                # (raw bytes may have any handle)
+                if (classes[name], value) in wanted or has_rest and name == 'fh' and value not in seen:
+                    wanted.discard((classes[name], value))
+                    seen.add(value)
+                    out.add(turn)
+            if not wanted and not has_rest:
+                break
+        return out
+
+
+class ListedInPlace(Listed):
+    """Two captures in canonical form whose exchanges stand in the same places: the turns are the numbers of the exchanges."""
+
+    def __init__(self, first: Listing, second: Listing, outlines: Outlines) -> None:
+        super().__init__(first, second)
+        self.outlines = outlines
+        self.exchanges: dict[int, array[int]] = {}  # by connections: the exchange of each reply, by its record
+
+    def turn_of(self, line: str) -> int:
+        connection, side, record, _ = line.split(' ', 3)
+        place = self.outlines.place_of(int(connection))
+        if side == 'client':
+            return self.outlines.starts[place] + int(record) - 1
+        if place not in self.exchanges:
+            self.exchanges[place] = self.outlines.exchanges_of_replies(place)
+        return self.exchanges[place][int(record)]
+
+    def unequal(self) -> set[int]:
+        both = zip_longest(self.first(), self.second(), fillvalue='')
+        return {self.turn_of(one or other) for one, other in both if one != other}
+
+
+def of_messages(ones: Iterator[Said], others: Iterator[Said]) -> set[int]:
+    """Returns the turns at which something else is said."""
+    out = set[int]()
+    (key, said), (other_key, other_said) = next(ones, END), next(others, END)
+    while (key, other_key) != (END[0], END[0]):
+        least = min(key, other_key)
+        if key != other_key or said != other_said:
+            out.add(least[1])
+        if key == least:
+            key, said = next(ones, END)
+        if other_key == least:
+            other_key, other_said = next(others, END)
+    return out
