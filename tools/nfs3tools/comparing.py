@@ -44,6 +44,7 @@ class Compared:
     calls: how many each run has
     moved, elsewhere: how many of those have another turn, or are on another connection
     late: how many replies come in another order
+    late_connections: how many connections do
     lonely: how many calls the first and the second run have alone, which are told
     left_out: how often a procedure was left out of the first and of the second run
     rows: what differs with some pairs before and after it, for those who show both runs side by side
@@ -54,6 +55,7 @@ class Compared:
     moved: int = 0
     elsewhere: int = 0
     late: int = 0
+    late_connections: int = 0
     lonely: tuple[int, int] = (0, 0)
     left_out: tuple[Counter[str], Counter[str]] = field(default_factory=lambda: (Counter(), Counter()))
     rows: list[Row] = field(default_factory=list)
@@ -143,13 +145,14 @@ class Explaining:
             findings += [*self.of_moved(), *self.of_late()]
         return Compared(sorted(findings, key=lambda finding: self.place_of(finding.first, finding.second)),
                         len(self.firsts), (len(pairing.here), len(pairing.there)), len(pairing.moved), len(pairing.elsewhere),
-                        sum(number for _, number, _ in pairing.late_replies), (self.lonely.number(), self.others.number()),
+                        sum(number for _, number, _ in pairing.late_replies), pairing.late_connections, (self.lonely.number(), self.others.number()),
                         (self.lonely.left_out, self.others.left_out), self.rows(shown) if around else [])
 
     def has_another_order(self) -> bool:
         """Returns whether it makes a difference that the order does not count."""
         pairing = self.pairing
-        return bool(self.lonely.left_out or self.others.left_out or pairing.moved or pairing.elsewhere or pairing.late_replies)
+        return bool(self.lonely.left_out or self.others.left_out or pairing.moved or pairing.elsewhere or pairing.late_replies
+                    or pairing.late_connections)
 
     def tells_lonely(self) -> bool:
         """Returns whether something is told that one run alone has."""

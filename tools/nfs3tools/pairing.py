@@ -95,6 +95,11 @@ class Pairing:
                 for place, some in turns if not is_in_order(some)]
 
     @cached_property
+    def late_connections(self) -> int:
+        """How many connections come in another order."""
+        return len(out_of_order([(place, home) for place, home in enumerate(self.homes) if home != NOBODY]))
+
+    @cached_property
     def places_of_homes(self) -> dict[int, int]:
         """The places of the connections of the first run, by those of the second that belong to them."""
         return {home: place for place, home in enumerate(self.homes) if home != NOBODY}

@@ -20,11 +20,12 @@ def replies(number: int) -> str:
     return f'{number:,} {plural(number, "reply", "replies")}'
 
 
-def of_order(compared: Compared) -> str:
-    """How many calls and replies stand elsewhere in the second run."""
-    turns = f'{compared.moved:,} of {count(compared.exchanges, "call")} in another turn'
-    return turns + (f', {compared.elsewhere:,} on another connection' if compared.elsewhere else '') + (
-        f', {replies(compared.late)} in another turn' if compared.late else '')
+def turns(compared: Compared) -> list[str]:
+    """What stands elsewhere in the second run, or nothing."""
+    some = ((f'{compared.moved:,}', compared.moved), (replies(compared.late), compared.late),
+            (count(compared.late_connections, 'connection'), compared.late_connections))
+    out = [f'{what} in another turn' for what, number in some if number]
+    return [*out, f'{compared.elsewhere:,} on another connection'] if compared.elsewhere else out
 
 
 def left_out(compared: Compared) -> Iterator[tuple[str, str]]:
@@ -41,7 +42,7 @@ def besides(mask: Mask, before: Mask) -> Mask:
 
 def of_same(found: Found, mask: Mask) -> str:
     """What stands after `same in another order`: how the order differs, and all that does not count besides."""
-    words = [of_order(found.compared)]
+    words = [f'{count(found.compared.exchanges, "call")}', *turns(found.compared)]
     some = ', '.join(f'{what} of the {name} run' for what, name in left_out(found.compared))
     if some:
         words.append('left out: ' + some)
@@ -64,13 +65,7 @@ def fields_of(compared: Compared) -> Iterator[str]:
 
 def of_compared(compared: Compared) -> str:
     """The verdict in words: what belongs together, and what does not."""
-    words = [f'{compared.exchanges:,} of {count(max(compared.calls), "call")} belong together']
-    if compared.moved:
-        words.append(f'{compared.moved:,} in another turn')
-    if compared.elsewhere:
-        words.append(f'{compared.elsewhere:,} on another connection')
-    if compared.late:
-        words.append(f'{replies(compared.late)} in another turn')
+    words = [f'{compared.exchanges:,} of {count(max(compared.calls), "call")} belong together', *turns(compared)]
     words += [f'{what} more in the {name} run' for what, name in left_out(compared)]
     words += [f'{number:,} more in the {name} run' for name, number in zip(RUNS, compared.lonely) if number]
     return '; '.join([*words, *fields_of(compared)])
