@@ -118,12 +118,13 @@ class Stream:
             yield bytes(block)
 
 
-def write_in_order(taken: Taken, exchanges: Iterable[Exchange], left_out: Iterable[Exchange], path: str) -> None:
+def write_in_order(taken: Taken, exchanges: Iterable[Exchange], left_out: Iterable[Exchange], path: str,
+                   writer: type[Rewriting] = Rewriting) -> None:
     """Writes the exchanges of a run, which are iterated over twice, as a capture. With those that are left out they are all of it.
 
     Raises `WrongOrder` if they are not, and what `write_file` does.
     """
-    rewriting = Rewriting(taken, exchanges)
+    rewriting = writer(taken, exchanges)
     rewriting.leave_out(left_out)
     write_file(path, capture_of([(Stream(rewriting, 'client'), Stream(rewriting, 'server'))]), (), (CAPTURE,))
     if not rewriting.is_whole():
