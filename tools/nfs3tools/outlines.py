@@ -6,8 +6,8 @@ equal if their texts are, without the values that each run has its own of, and i
 import re
 from array import array
 from bisect import bisect_left, bisect_right
-from collections import Counter, defaultdict, deque
-from collections.abc import Iterable, Iterator
+from collections import defaultdict, deque
+from collections.abc import Callable, Iterable, Iterator
 
 from .classes import CLASSES, Mask, Way
 from .differing import RENAMED
@@ -16,7 +16,7 @@ from .paths import MAKING
 HANDLE = re.compile(r' fh=([0-9a-f]{1,8})(?=\s)')
 NAME = re.compile(r' (?:name|dirpath)="([^"]*)"')
 NAME_OR_HANDLE = re.compile(r' name="([^"]*)"| fh=([0-9a-f]{1,8})(?=\s)')
-ALIKE = re.compile(r' (?:name|dirpath|offset)=("[^"]*"|\S+)')
+ALIKE = re.compile(r' (?:prog|vers|proc|name|dirpath|offset)=("[^"]*"|\S+)')
 MOUNT, LISTING = 'MOUNTPROC3_MNT', 'NFSPROC3_READDIRPLUS'
 DOTS = hash('.'), hash('..')  # the folder itself, and the one above it
 UNKNOWN, SEEN, MADE = range(3)  # how well it is known where an object is
@@ -57,52 +57,71 @@ class Waiting:
         return at
 
 
+When = Callable[[int, int], int]  # when a call was sent, by its connection and record: a number that grows
+
+
 class Objects:
     """What file handles stand for: the folder and the name by which each was made, or else reached first."""
 
     def __init__(self) -> None:
         self.folders, self.names, self.known, self.origins = array('I'), array('q'), bytearray(), array('I')
+        self.rivals: dict[int, list[tuple[int, int, int]]] = {}  # other folders and names, with their exchanges
 
     def learn(self, handle: int, folder: int, name: int, known: int, exchange: int) -> None:
-        """Learns where an object is from an exchange, unless it is known as well."""
+        """Learns where an object is from an exchange, unless it is known better."""
         if name in DOTS:
             return
         if handle >= len(self.folders):
             more = handle + 1 - len(self.folders)
-            self.folders.extend([0] * more)
-            self.names.extend([0] * more)
-            self.origins.extend([0] * more)
+            for values in (self.folders, self.names, self.origins):
+                values.extend([0] * more)
             self.known.extend([UNKNOWN] * more)
         if known > self.known[handle]:
-            self.folders[handle], self.names[handle], self.known[handle], self.origins[handle] = folder, name, known, exchange
+            self.rivals.pop(handle, None)
+            self.place(handle, exchange, folder, name)
+            self.known[handle] = known
+        elif known == self.known[handle] and (folder, name) != (self.folders[handle], self.names[handle]):
+            self.rivals.setdefault(handle, []).append((exchange, folder, name))
+
+    def place(self, handle: int, exchange: int, folder: int, name: int) -> None:
+        self.origins[handle], self.folders[handle], self.names[handle] = exchange, folder, name
 
     def origin_of(self, handle: int) -> int | None:
         """Returns the exchange that says where an object is."""
         return self.origins[handle] if handle < len(self.known) and self.known[handle] else None
 
-    def identities(self) -> 'array[int]':
+    def settle(self, when: Callable[[int], int]) -> None:
+        """Of several places of an object the one counts that was told first."""
+        for handle, rivals in self.rivals.items():
+            own = self.origins[handle], self.folders[handle], self.names[handle]
+            self.place(handle, *min((own, *rivals), key=lambda rival: when(rival[0])))
+        self.rivals = {}
+
+    def identities(self, when: Callable[[int], int]) -> 'array[int]':
         """Returns a number for each object that is the same in all runs: of its path, and of how many were made there before. It is 0 if
         the path is not known."""
-        below = defaultdict[int, list[int]](list)
+        self.settle(when)
+        below = defaultdict[int, dict[int, list[int]]](dict)
         for handle, known in enumerate(self.known):
             if known:
-                below[self.folders[handle]].append(handle)
+                below[self.folders[handle]].setdefault(self.names[handle], []).append(handle)
         out, waiting = array('q', bytes(8 * len(self.known))), [0]
         while waiting:
             folder = waiting.pop()
-            before = Counter[int]()
-            for handle in below.pop(folder, ()):
-                name = self.names[handle]
-                out[handle] = hash((out[folder] if folder else 0, name, before[name]))
-                before[name] += 1
-                waiting.append(handle)
+            for name, handles in below.pop(folder, {}).items():
+                if len(handles) > 1:
+                    handles.sort(key=lambda handle: when(self.origins[handle]))
+                for before, handle in enumerate(handles):
+                    out[handle] = hash((out[folder] if folder else 0, name, before))
+                waiting += handles
         return out
 
 
 class Outlines:
-    """The exchanges of a run, numbered through all its connections, each in the order of its calls."""
+    """The exchanges of a run, numbered through all its connections, each in the order of its calls. When calls were sent need not be
+    known; then each connection comes after the one before."""
 
-    def __init__(self, lines: Iterable[str], mask: Mask) -> None:
+    def __init__(self, lines: Iterable[str], mask: Mask, when: When | None = None) -> None:
         self.connections, self.starts = list[int](), list[int]()  # their numbers, and the first exchange of each
         self.asked, self.said = array('q'), array('q')  # what a call asks, and what it and its replies say
         self.folders, self.found = array('I'), array('I')  # the first handle of a call and of its reply, or 0
@@ -112,7 +131,7 @@ class Outlines:
         self.further: dict[int, list[int]] = {}  # the records of further replies
         self.objects = Objects()
         self.take(lines, renamed_values(mask))
-        self.ask_of_objects()
+        self.ask_of_objects(lambda at: when(*self.record_of(at)) if when else at)
 
     def __len__(self) -> int:
         return len(self.asked)
@@ -172,9 +191,9 @@ class Outlines:
                 else:
                     self.objects.learn(int(found[2], 16), folder, name, SEEN, at)
 
-    def ask_of_objects(self) -> None:
+    def ask_of_objects(self, when: Callable[[int], int]) -> None:
         """Handles have another number in each run. So what a call asks has the objects in their place."""
-        identities = self.objects.identities()
+        identities = self.objects.identities(when)
         of = identities.__getitem__
         identities.extend([0] * (1 + max(max(self.folders, default=0), max(self.seconds.values(), default=0),
                                          max(self.found, default=0)) - len(identities)))

@@ -4,11 +4,19 @@ from pathlib import Path
 
 from .classes import Mask
 from .masking import write_masked
-from .outlines import Outlines
+from .outlines import Outlines, When
 from .pairing import InOrder, Listing, Pairing, paired
+from .places import Place
 from .programs import CHECKED, COMPARED, lines_of_program, run_program
 from .reordered import write_in_order
 from .taken import Taken
+
+
+def when_of(taken: Taken) -> When | None:
+    """Returns what tells the first frame of a call, if frames are noted."""
+    def when(connection: int, record: int) -> int:
+        return min((frame.number for frame in taken.frames(Place(connection, 'client', record))), default=0)
+    return when if taken.has_frames else None
 
 
 class Trial:
@@ -48,7 +56,7 @@ class Trial:
     def paired(self, mask: Mask, lonely: frozenset[str]) -> Pairing:
         """Brings the exchanges of both runs together, by what they have in common under a mask."""
         listings = self.canonical(self.masked(self.captures, mask))
-        here, there = (Outlines(listing(), mask) for listing in listings)
+        here, there = (Outlines(listing(), mask, when_of(taken)) for listing, taken in zip(listings, self.runs))
         return paired(here, there, listings, lonely)
 
     def in_one_order(self, pairing: Pairing) -> list[str]:
