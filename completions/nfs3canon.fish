@@ -34,6 +34,8 @@ for tool in verdicts nfs3-verdicts
     complete -c $tool -l program -r -d 'nfs3canon'
 end
 complete -c nfs3-compare -l mask -x -d 'The classes of values to mask'
+complete -c nfs3-compare -l order -x -a 'strict any' -d 'Whether the order of calls counts'
+complete -c nfs3-compare -l extra -x -a 'asking none' -d 'What is left out in any order'
 complete -c nfs3-compare -l all -d 'Print all findings'
 complete -c nfs3-compare -l html -r -d 'Write a page with both runs'
 complete -c nfs3-compare -l program -r -d 'nfs3canon'
