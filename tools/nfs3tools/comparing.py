@@ -49,7 +49,7 @@ class Compared:
 
     def fields(self) -> Counter[tuple[str, str]]:
         """Returns how often each field of each procedure differs."""
-        return Counter((message.procedure, difference.name) for finding in self.findings
+        return Counter((message.procedure, difference.field) for finding in self.findings
                        if (message := finding.first or finding.second) for difference in finding.differences)
 
 
@@ -156,7 +156,7 @@ def of_pairs(first: Conversation, second: Conversation, pairs: Iterable[tuple[in
         if found:
             yield Finding('changed', one.call, other.call, path, tuple(found))
         for reply, answer in zip(one.replies, other.replies):
-            found = comparison.of_messages(reply, answer)
+            found = comparison.of_messages(reply, answer, one.call, other.call)
             if found:
                 yield Finding('changed', reply, answer, path, tuple(found))
         if len(one.replies) != len(other.replies):

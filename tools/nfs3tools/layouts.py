@@ -31,7 +31,7 @@ VALUES = {
 }
 VALUES['committed'], VALUES['set_mtime'] = VALUES['stable'], VALUES['set_atime']
 
-# Names of words that may have any value.
+# Names of words that may have any value: of flavors, and of bits (ACCESS3_READ .. and FSF3_LINK .., RFC 1813, sections 3.3.4 and 3.3.19).
 FLAVORS = {0: 'AUTH_NONE', 1: 'AUTH_SYS', 2: 'AUTH_SHORT', 3: 'AUTH_DH', 6: 'RPCSEC_GSS'}
 BITS = {
     'access': {1: 'READ', 2: 'LOOKUP', 4: 'MODIFY', 8: 'EXTEND', 16: 'DELETE', 32: 'EXECUTE'},
@@ -114,6 +114,23 @@ BY_NAME = {procedure.name: procedure for procedure in [*BY_NUMBER.values(), RAW]
 def procedure_of(program: int, version: int, number: int) -> Procedure:
     """Any other than the 28 that have a type is carried raw."""
     return BY_NUMBER.get((program, number), RAW) if version == 3 else RAW
+
+
+def meaning_of(name: str, value: str, values: Mapping[int, str] | None = None) -> str:
+    """Returns the name of an item's number, with those of its kind if it has any: one of a list, of bits, or a mode as it is written in
+    octal. Returns nothing for any other item."""
+    named = FLAVORS if name == 'flavor' else values
+    if name in BITS:
+        return '|'.join(bits_of(int(value), BITS[name])) or 'none'
+    if name == 'mode':
+        return f'0{int(value):o}'
+    return named.get(int(value), '') if named else ''
+
+
+def bits_of(word: int, names: Mapping[int, str]) -> list[str]:
+    """Returns the names of the bits of a word. Those without one are a number in hexadecimal."""
+    rest = word & ~sum(names)
+    return [name for bit, name in names.items() if word & bit] + [f'0x{rest:x}'] * bool(rest)
 
 
 # Writes the bytes of an item as a text.
@@ -206,7 +223,7 @@ class Walk:
 
     def numbered(self, name: str, turns: Iterable[object], inner: str) -> None:
         for number, _ in enumerate(turns, 1):
-            with self.whose(name, number):
+            with self.whose(name, number) if name else contextlib.nullcontext():
                 self.part(inner)
 
     def sized(self, size: int, inner: str) -> None:

@@ -1,17 +1,20 @@
 """What is printed of a comparison."""
 from collections.abc import Iterator, Sequence
 
+from . import apart
 from .comparing import Compared, Finding, Framing
 from .differing import Difference
 from .listings import Message
 
-LONGEST_VALUE = 120
+LONGEST_VALUE, LONGEST_NAME = 128, 1024  # characters, as the listing spells them
 LONGEST_LIST = 4  # frames
 FIELDS_AT_MOST = 12
 
 
 def shortened(value: str) -> str:
-    return value if len(value) <= LONGEST_VALUE else f'{value[:LONGEST_VALUE]}.. ({len(value)} characters)'
+    """Returns a value as it is printed alone. Handles and names are whole."""
+    most = LONGEST_NAME if value.startswith('"') else LONGEST_VALUE
+    return value if len(value) <= most else f'{value[:most]}.. ({len(value)} characters)'
 
 
 def frames_of(message: Message | None, framing: Framing) -> str:
@@ -25,11 +28,24 @@ def frames_of(message: Message | None, framing: Framing) -> str:
 
 def of_difference(difference: Difference) -> Iterator[str]:
     """Two lines, as `diff` has them, and a remark after the second."""
-    remark = f'    # {difference.remark}' if difference.remark else ''
+    remark = f'    # {remark_on(difference)}' if remark_on(difference) else ''
     if difference.first is not None:
-        yield f'  - {difference.name}={shortened(difference.first)}' + (remark if difference.second is None else '')
+        yield f'  - {difference.label}={value_of(difference, 0)}' + (remark if difference.second is None else '')
     if difference.second is not None:
-        yield f'  + {difference.name}={shortened(difference.second)}{remark}'
+        yield f'  + {difference.label}={value_of(difference, 1)}{remark}'
+
+
+def remark_on(difference: Difference) -> str:
+    parts = [apart.told(difference.apart)] if difference.apart else []
+    return '; '.join([*parts, *filter(None, [difference.remark])])
+
+
+def value_of(difference: Difference, number: int) -> str:
+    """Returns a value as it is printed, with its name if it has one: that of the first run, of number 0, or of the second."""
+    if difference.apart:
+        return difference.apart.shown[number]
+    value, meaning = (difference.first, difference.second)[number], difference.meanings[number]
+    return shortened(value or '') + (f' ({meaning})' if meaning else '')
 
 
 def heading_of(finding: Finding, first: Framing, second: Framing) -> str:
