@@ -253,7 +253,123 @@ def names_of_removed_files(place: Comparisons) -> None:
     place.want('without the mask', differing_under(place, {}, listing(b'a', one), listing(b'a', other)), ['entry.name', 'entry.name'])
 
 
+# --- Long values ---
+
+def written(data: bytes, offset: int = 65_536) -> tuple[list[bytes], list[bytes]]:
+    return ([call(1, NFS, 3, 7, fh(H) + hyper(offset) + word(len(data)) + word(0) + opaque(data))],
+            [success(1, ok(wcc(), word(9), word(0), VERIFIER))])
+
+
+def read(data: bytes, offset: int) -> tuple[list[bytes], list[bytes]]:
+    return ([call(1, NFS, 3, 6, fh(H) + hyper(offset) + word(9))], [success(1, ok(post_op_attr(), word(9), word(0), opaque(data)))])
+
+
+def lines_on(place: Comparisons, first: tuple[list[bytes], list[bytes]], second: tuple[list[bytes], list[bytes]], name: str) -> list[str]:
+    """Returns the lines that tell of an item that differs."""
+    place.put('a', first)
+    place.put('b', second)
+    return [line for line in place.compare('a', 'b')[1] if re.match(rf'  [-+] {name}=', line)]
+
+
+def data_of_files(place: Comparisons) -> None:
+    """Of data is said where in the file it differs first, and how much."""
+    whole = b'o' * 8_192
+    def with_z(*places: int) -> bytes:
+        return bytes(ord('z') if at in places else byte for at, byte in enumerate(whole))
+    oo = '6f' * 8
+    place.want('one byte', lines_on(place, written(whole), written(with_z(4_104)), 'data'), [
+        f'  - data=..{oo} {oo}..', f'  + data=..{oo} 7a{oo[2:]}..    # 1 of 8,192 bytes differs, at offset 69640 of the file (byte 4104 of the data)'])
+    place.want('many bytes', lines_on(place, read(whole, 1_000), read(with_z(3, *range(5_000, 6_500)), 1_000), 'data'), [
+        f'  - data={oo[:6]} {oo}{oo[:10]}..', f'  + data={oo[:6]} 7a{oo}{oo[:8]}..    # 1,501 of 8,192 bytes differ, the first at offset 1003 of the '
+        'file (byte 3 of the data)'])
+    place.want('less data', lines_on(place, read(whole, 0), read(whole[:4_096], 0), 'data'), [
+        f'  - data=..{oo} {oo}..', f'  + data=..{oo}    # one is the beginning of the other, up to offset 4096 of the file (byte 4096 of the data); '
+        'their lengths are 8,192 and 4,096'])
+    place.want('less that differs', lines_on(place, written(with_z(0, 2)), written(whole[:100], 65_536), 'data'), [
+        f'  - data=7a6f7a6f{oo[:8]}{oo}..', f'  + data={oo}{oo}..    # 2 of the first 100 bytes differ, the first at offset 65536 of the file (byte 0 '
+        'of the data); their lengths are 8,192 and 100'])
+    place.want('none', lines_on(place, read(b'', 5), read(whole, 5), 'data'), [
+        '  - data=', f'  + data={oo}{oo}..    # one is the beginning of the other, up to offset 5 of the file (byte 0 of the data); their lengths '
+        'are 0 and 8,192'])
+    place.want('short data', lines_on(place, written(b'abc'), written(b'abd'), 'data'), ['  - data=616263', '  + data=616264'])
+    place.want('other offsets', lines_on(place, read(whole, 1), read(with_z(8_191), 2), 'data'), [
+        f'  - data=..{oo} 6f', f'  + data=..{oo} 7a    # 1 of 8,192 bytes differs, at byte 8191'])
+
+
+def long_names(place: Comparisons) -> None:
+    """Names are printed readably, round the first byte that differs, and whole up to 60 characters."""
+    def linked(path: bytes, name: bytes = b'n') -> tuple[list[bytes], list[bytes]]:
+        return [call(1, NFS, 3, 10, dirop(H, name) + sattr() + opaque(path))], [success(1, failed(NOENT, wcc()))]
+    long = b'a' * 200
+    place.want('the last letter', lines_on(place, linked(long + b'x'), linked(long + b'y'), 'path'), [
+        '  - path=.."aaaaaaaax"', '  + path=.."aaaaaaaay"    # 1 of 201 bytes differs, at byte 200'])
+    place.want('what cannot be printed', lines_on(place, linked(b'ab"\\' + long), linked(b'ab"\n\xff' + long[:-1]), 'path'), [
+        '  - path="ab\\x22\\x5c' + 'a' * 12 + '"..',
+        '  + path="ab\\x22\\x0a\\xff' + 'a' * 11 + '"..    # 2 of 204 bytes differ, the first at byte 3'])
+    place.want('58 letters', lines_on(place, linked(b'a' * 58), linked(b'b' * 58), 'path'), [f'  - path="{"a" * 58}"', f'  + path="{"b" * 58}"'])
+    place.want('two names', lines_on(place, linked(b'p', long), linked(b'p', long + b'b'), 'name'), [
+        '  - name=.."aaaaaaaa"', '  + name=.."aaaaaaaab"    # one is the beginning of the other, up to byte 200; their lengths are 200 and 201'])
+
+
+def long_handles(place: Comparisons) -> None:
+    """A handle that stands for two is printed whole, and raw bytes are compared with the handles of the other run in them."""
+    one, two, other = bytes(range(64)), bytes(range(1, 65)), bytes(range(2, 66))
+    def asked(first: bytes, second: bytes, acl: bytes, rest: bytes) -> tuple[list[bytes], list[bytes]]:
+        return [call(1, NFS, 3, 1, fh(first)), call(2, NFS, 3, 1, fh(second)), call(3, NFSACL, 3, 1, fh(acl) + rest)], []
+    found = lines_on(place, asked(one, two, one, bytes(100)), asked(other, other, other, bytes(99) + b'!'), 'fh')
+    place.want('handles', found, [f'  - fh={two.hex()}', f'  + fh={other.hex()}    # the second stood for {one.hex()} before'])
+    found = lines_on(place, asked(one, two, one, bytes(100)), asked(other, one, other, bytes(99) + b'!'), 'rest')
+    place.want('raw bytes', found, ['  - rest=..0000000000000000 00', '  + rest=..0000000000000000 21    # 1 of 168 bytes differs, at byte 167; '
+                                    'the file handles of the first are written as those of the second'])
+
+
+# --- Names of numbers ---
+
+def names_of_numbers(place: Comparisons) -> None:
+    """Numbers have the names that RFC 1813 and RFC 5531 give them, and modes are in octal."""
+    asked = dirop(H, b'a')
+    mounted = [ok(fh(H), messages.array([word(flavor)])) for flavor in (1, 6)]
+    rows: list[tuple[int, int, bytes, bytes, bytes, bytes, str, str, str]] = [
+        (NFS, 3, asked, asked, failed(NOENT, post_op_attr()), failed(10_008, post_op_attr()), 'status', '2 (NFS3ERR_NOENT)', '10008 (NFS3ERR_JUKEBOX)'),
+        (NFS, 3, asked, asked, failed(13, post_op_attr()), ok(fh(H), post_op_attr(), post_op_attr()), 'status', '13 (NFS3ERR_ACCES)', '0 (NFS3_OK)'),
+        (MOUNT, 1, opaque(b'/a'), opaque(b'/a'), failed(13), failed(10_006), 'status', '13 (MNT3ERR_ACCES)', '10006 (MNT3ERR_SERVERFAULT)'),
+        (MOUNT, 1, opaque(b'/a'), opaque(b'/a'), *mounted, 'flavor', '1 (AUTH_SYS)', '6 (RPCSEC_GSS)'),
+        (NFS, 1, fh(H), fh(H), ok(fattr(REG, 1)), ok(fattr(messages.SOCK, 1)), 'obj.type', '1 (NF3REG)', '6 (NF3SOCK)'),
+        (NFS, 1, fh(H), fh(H), ok(fattr(REG, 1, mode=0o4755)), ok(fattr(REG, 1, mode=0)), 'obj.mode', '2541 (4755)', '0 (0000)'),
+        (NFS, 9, asked + sattr(0o755), asked + sattr(0o700), b'', b'', 'set.mode', '493 (0755)', '448 (0700)'),
+        (NFS, 9, asked + sattr(), asked + sattr(atime=word(1)), b'', b'', 'set_atime', '0 (DONT_CHANGE)', '1 (SET_TO_SERVER_TIME)'),
+        (NFS, 9, asked + sattr(), asked + sattr(uid=1), b'', b'', 'set_uid', '0 (FALSE)', '1 (TRUE)'),
+        (NFS, 7, fh(H) + bytes(12) + word(0) + opaque(b''), fh(H) + bytes(12) + word(2) + opaque(b''), ok(wcc(), word(0), word(1), VERIFIER),
+         ok(wcc(), word(0), word(0), VERIFIER), 'stable|committed', '0 (UNSTABLE)', '2 (FILE_SYNC)'),
+        (NFS, 8, asked + how(0, sattr()), asked + how(1, sattr()), b'', b'', 'how', '0 (UNCHECKED)', '1 (GUARDED)'),
+        (NFS, 6, fh(H) + bytes(12), fh(H) + bytes(12), ok(post_op_attr(), word(0), word(0), opaque(b'')),
+         ok(post_op_attr(), word(0), word(1), opaque(b'')), 'eof', '0 (FALSE)', '1 (TRUE)'),
+        (NFS, 12, asked, asked, ok(wcc(1)), ok(wcc()), 'dir.before', '1 (TRUE)', '0 (FALSE)'),
+        (NFS, 4, fh(H) + word(31), fh(H) + word(0), ok(post_op_attr(), word(0x23)), ok(post_op_attr(), word(0x141)), 'access',
+         '31 (READ|LOOKUP|MODIFY|EXTEND|DELETE)', '0 (none)'),
+        (NFS, 19, fh(H), fh(H), ok(post_op_attr(), bytes(44), word(27)), ok(post_op_attr(), bytes(44), word(1)), 'properties',
+         '27 (LINK|SYMLINK|HOMOGENEOUS|CANSETTIME)', '1 (LINK)'),
+        (NFS, 1, fh(H), fh(H), ok(fattr(REG, 1, nlink=2)), ok(fattr(REG, 1, nlink=1)), 'obj.nlink', '2', '1')]
+    for program, number, arguments, others, results, answers, name, *values in rows:
+        pair = [([call(1, program, 3, number, body)], [success(1, reply)] if reply else [])
+                for body, reply in ((arguments, results), (others, answers))]
+        found = lines_on(place, *pair, f'(?:{name})')[:2]
+        place.want(f'{name} of procedure {number}', [line.partition('=')[2] for line in found], values)
+    null = [call(1, NFS, 3, 0)]
+    replies = [word(1) + word(1) + word(0) + bytes(8) + word(5), word(1) + word(1) + word(1) + word(1) + word(13)]
+    place.want('denied', lines_on(place, (null, [success(1)]), (null, replies[1:]), 'reply_stat'),
+               ['  - reply_stat=0 (MSG_ACCEPTED)', '  + reply_stat=1 (MSG_DENIED)'])
+    place.want('not done', lines_on(place, (null, [success(1)]), (null, replies[:1]), 'accept_stat'),
+               ['  - accept_stat=0 (SUCCESS)', '  + accept_stat=5 (SYSTEM_ERR)'])
+    place.want('not allowed', lines_on(place, (null, [replies[1][:-4] + word(1)]), (null, replies[1:]), 'auth_stat'),
+               ['  - auth_stat=1 (AUTH_BADCRED)', '  + auth_stat=13 (RPCSEC_GSS_CREDPROBLEM)'])
+    place.want('bits', lines_on(place, *[([call(1, NFS, 3, 4, fh(H) + word(0))], [success(1, ok(post_op_attr(), word(bits)))])
+                                         for bits in (0x23, 0x141)], 'access'),
+               ['  - access=35 (READ|LOOKUP|EXECUTE)', '  + access=321 (READ|0x140)'])
+
+
 TESTS: list[Callable[[Comparisons], None]] = [
+    names_of_numbers, data_of_files, long_names, long_handles,
     labels_of_every_procedure, labels_of_fewer_parts, fields_are_those_of_labels, differing_labels, sizes_of_changes, names_of_removed_files]
 
 

@@ -118,12 +118,12 @@ def procedure_of(program: int, version: int, number: int) -> Procedure:
 
 def meaning_of(name: str, value: str, values: Mapping[int, str] | None = None) -> str:
     """Returns the name of an item's number, with those of its kind if it has any: one of a list, of bits, or a mode as it is written in
-    octal. Returns nothing for any other item."""
+    octal digits. Returns nothing for any other item."""
     named = FLAVORS if name == 'flavor' else values
     if name in BITS:
         return '|'.join(bits_of(int(value), BITS[name])) or 'none'
     if name == 'mode':
-        return f'0{int(value):o}'
+        return f'{int(value):04o}'
     return named.get(int(value), '') if named else ''
 
 
