@@ -368,8 +368,77 @@ def names_of_numbers(place: Comparisons) -> None:
                ['  - access=35 (READ|LOOKUP|EXECUTE)', '  + access=321 (READ|0x140)'])
 
 
+# --- Findings that say the same ---
+
+def asked_for(*files: tuple[bytes, int], more: int = 0) -> tuple[list[bytes], list[bytes]]:
+    """LOOKUP of each file by its name in one folder, then GETATTR of each with the link count that its attributes have, and `more` GETATTR of
+    the first."""
+    names = [b'f%d' % number for number in range(len(files))]
+    calls = [call(xid, NFS, 3, 3, dirop(H, name)) for xid, name in enumerate(names, 1)]
+    replies = [success(xid, ok(fh(handle), post_op_attr(), post_op_attr())) for xid, (handle, _) in enumerate(files, 1)]
+    for xid, (handle, nlink) in enumerate([*files, *files[:1] * more], len(files) + 1):
+        calls.append(call(xid, NFS, 3, 1, fh(handle)))
+        replies.append(success(xid, ok(fattr(REG, 1, nlink=nlink))))
+    return calls, replies
+
+
+def equal_findings(place: Comparisons) -> None:
+    """Findings that say the same are one, with their number and the first place, unless all are asked for."""
+    place.put('a', asked_for((b'1', 3), (b'2', 3), (b'3', 3), (b'4', 3), more=1))
+    place.put('b', asked_for((b'1', 2), (b'2', 2), (b'3', 2), (b'4', 1), more=1))
+    summary = 'fields that differ, and how often: obj.nlink of NFSPROC3_GETATTR 5'
+    def where(record: int) -> str:
+        return f'connection 1 server record {record} | connection 1 server record {record}'
+    place.wants('folded', 1, [
+        f'4 replies of NFSPROC3_GETATTR on 3 paths, first ?/f0: {where(5)}', '  - obj.nlink=3', '  + obj.nlink=2',
+        f'NFSPROC3_GETATTR reply ?/f3: {where(8)}', '  - obj.nlink=3', '  + obj.nlink=1', summary])
+    every = [(5, 0, 2), (6, 1, 2), (7, 2, 2), (8, 3, 1), (9, 0, 2)]
+    place.wants('all', 1, [*(line for record, file, nlink in every for line in (
+        f'NFSPROC3_GETATTR reply ?/f{file}: {where(record)}', '  - obj.nlink=3', f'  + obj.nlink={nlink}')), summary], '--all')
+    place.put('a', asked_for((b'1', 3), more=2))
+    place.put('b', asked_for((b'1', 2), more=2))
+    place.wants('one path', 1, [f'3 replies of NFSPROC3_GETATTR ?/f0, first: {where(2)}', '  - obj.nlink=3', '  + obj.nlink=2',
+                                'fields that differ, and how often: obj.nlink of NFSPROC3_GETATTR 3'])
+
+
+def equal_findings_of_one_run(place: Comparisons) -> None:
+    """Calls that one run alone has are one finding for each file."""
+    place.put('a', asked_for((b'1', 1), (b'2', 1)))
+    calls, replies = asked_for((b'1', 1), (b'2', 1), more=3)
+    more = [call(xid, NFS, 3, 1, fh(b'2')) for xid in (8, 9)]
+    place.put('b', (calls + more, replies + [success(xid, ok(fattr(REG, 1))) for xid in (8, 9)]))
+    place.wants('second', 1, ['only in the second run: 3 calls of NFSPROC3_GETATTR ?/f0, first: connection 1 client record 5',
+                              'only in the second run: 2 calls of NFSPROC3_GETATTR ?/f1, first: connection 1 client record 8'])
+
+
+def equal_findings_of_renamed_values(place: Comparisons) -> None:
+    """Handles that stand for several are folded by what is said of them, though each has values of its own."""
+    def links(*handles: bytes) -> tuple[list[bytes], list[bytes]]:
+        calls = [call(xid, NFS, 3, 15, fh(b'from') + dirop(handle, b'a')) for xid, handle in enumerate(handles, 1)]
+        return calls, [success(xid, ok(post_op_attr(), wcc())) for xid, _ in enumerate(calls, 1)]
+    place.put('a', links(b'1111', b'2222', b'3333', b'4444'))
+    place.put('b', links(b'5555', b'5555', b'5555', b'6666'))
+    place.wants('two', 1, [
+        '2 calls of NFSPROC3_LINK, first: connection 1 client record 2 | connection 1 client record 2', '  - link.fh=32323232',
+        '  + link.fh=35353535    # the second stood for 31313131 before', 'fields that differ, and how often: link.fh of NFSPROC3_LINK 2'])
+
+
+def the_first_twenty(place: Comparisons) -> None:
+    """Findings that say the same count once for the 20 that are printed."""
+    files = [(b'%d' % number, 3) for number in range(1, 25)]
+    place.put('a', asked_for(*files, more=9))
+    for number, last in ((20, 'NFSPROC3_GETATTR'), (22, '.. and 2 more (--all prints them)')):
+        changed = [(handle, 100 + at if at < number else nlink) for at, (handle, nlink) in enumerate(files)]
+        place.put('b', asked_for(*changed, more=9))
+        found = [line for line in place.compare('a', 'b')[1][2:] if not line.startswith(('  ', 'fields'))]
+        place.want(f'{number} findings', (len(found), found[-1][:len(last)]), (20 + (number > 20), last))
+        place.want('the first', found[0].partition(':')[0], '10 replies of NFSPROC3_GETATTR ?/f0, first')
+        every = [line for line in place.compare('--all', 'a', 'b')[1][2:] if not line.startswith(('  ', 'fields'))]
+        place.want('all of them', (len(every), every[-1].startswith('NFSPROC3_GETATTR')), (number + 9, True))
+
+
 TESTS: list[Callable[[Comparisons], None]] = [
-    names_of_numbers, data_of_files, long_names, long_handles,
+    equal_findings, equal_findings_of_one_run, equal_findings_of_renamed_values, the_first_twenty, names_of_numbers, data_of_files, long_names, long_handles,
     labels_of_every_procedure, labels_of_fewer_parts, fields_are_those_of_labels, differing_labels, sizes_of_changes, names_of_removed_files]
 
 

@@ -7,7 +7,8 @@ of are masked first: of the classes below, those marked with a star by default. 
 `nfs3canon same` compares the masked captures, up to a renaming of xids, file handles and write verifiers: `same` is its word, and
 how many calls were compared follows it. If bytes are missing from a recording, equal runs are `same in part`, and what is missing
 is told. If the runs differ, calls are brought together by connection, procedure and arguments, and each difference is printed as
-`diff` would: which call, which field, both values, and the frames.
+`diff` would: which call, which field and whose (`dir after.size`), both values, and the frames. Of values of over 60 characters it is
+the bytes round the first that differs. Messages of one procedure that differ in the same way are printed once, with their number.
 
 --mask times,ids masks these classes alone, --mask +owners one more, --mask=-times one less, --mask none nothing; NAME=zero and
 NAME=number say how.
@@ -60,7 +61,7 @@ def words_of(words: list[str]) -> argparse.Namespace:
     parser = parser_of(__doc__, 'compare')
     parser.epilog = classes_told()
     parser.add_argument('--mask', type=mask_of, default=default_mask(), metavar='CLASS,..', help='the classes of values to mask')
-    parser.add_argument('--all', action='store_true', help=f'prints all findings, not the first {FINDINGS_AT_MOST}')
+    parser.add_argument('--all', action='store_true', help=f'prints all findings, each by itself, not the first {FINDINGS_AT_MOST} of different ones')
     parser.add_argument('--html', metavar='FILE', help='writes a page with both runs side by side')
     add_options(parser)
     add_losses(parser, 'same in part')
