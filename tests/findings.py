@@ -6,12 +6,13 @@
 PROGRAM is crates/nfs3canon/out/nfs3canon if none is named. What is expected is written by hand, by RFC 1813 and RFC 5531. The last line
 is 'N passed, M failed', and the status is 1 if any failed.
 """
+import json
 import os
 import re
 import tempfile
 from collections.abc import Callable, Sequence
 
-from compare import Comparisons
+from compare import CHANGED, FIRST, Comparisons
 from running import try_all, words_of
 import messages
 from messages import (
@@ -437,8 +438,118 @@ def the_first_twenty(place: Comparisons) -> None:
         place.want('all of them', (len(every), every[-1].startswith('NFSPROC3_GETATTR')), (number + 9, True))
 
 
+# --- Fields that are left out ---
+
+def fields_left_out(place: Comparisons) -> None:
+    """Fields are left out of what is said by labels, fields and names, of one procedure or of any. The verdict stays, and they are counted."""
+    def run(number: int) -> tuple[list[bytes], list[bytes]]:
+        attributes = fattr(REG, 1, 0, nlink=number, mode=0o640 + number)
+        listing = messages.entries(FOLDER, bytes(8), [messages.entryplus(1, name, 0, attributes) for name in (b'a', b'b,c.')], is_end=True)
+        return ([call(1, NFS, 3, 1, fh(H)), call(2, NFS, 3, 17, fh(H) + bytes(24))], [success(1, ok(attributes)), success(2, ok(listing))])
+    place.put('a', run(1))
+    place.put('b', run(2))
+    getattr, readdirplus = (f'{name} reply: connection 1 server record {record} | connection 1 server record {record}'
+                            for name, record in (('NFSPROC3_GETATTR', 1), ('NFSPROC3_READDIRPLUS', 2)))
+    mode = ['  - obj.mode=417 (0641)', '  + obj.mode=418 (0642)']
+    entries = {name: [f'  - entry "{name}".mode=417 (0641)', f'  + entry "{name}".mode=418 (0642)', f'  - entry "{name}".nlink=1',
+                      f'  + entry "{name}".nlink=2'] for name in ('a', 'b,c.')}
+    differ, left = 'fields that differ, and how often: ', 'left out by --ignore, and how often: '
+    place.wants('one of one procedure', 1, [
+        getattr, *mode, readdirplus, *entries['a'], *entries['b,c.'],
+        f'{differ}entry.mode of NFSPROC3_READDIRPLUS 2, entry.nlink of NFSPROC3_READDIRPLUS 2, obj.mode of NFSPROC3_GETATTR 1',
+        f'{left}obj.nlink of NFSPROC3_GETATTR 1'], '--ignore', 'NFSPROC3_GETATTR.obj.nlink')
+    place.wants('a name', 1, [
+        getattr, *mode, readdirplus, *entries['a'][:2], *entries['b,c.'][:2],
+        f'{differ}entry.mode of NFSPROC3_READDIRPLUS 2, obj.mode of NFSPROC3_GETATTR 1',
+        f'{left}entry.nlink of NFSPROC3_READDIRPLUS 2, obj.nlink of NFSPROC3_GETATTR 1'], '--ignore', '*.nlink')
+    place.wants('an entry', 1, [
+        getattr, *mode, '  - obj.nlink=1', '  + obj.nlink=2', readdirplus, *entries['a'],
+        f'{differ}obj.mode of NFSPROC3_GETATTR 1, obj.nlink of NFSPROC3_GETATTR 1, entry.mode of NFSPROC3_READDIRPLUS 1, '
+        'entry.nlink of NFSPROC3_READDIRPLUS 1',
+        f'{left}entry.mode of NFSPROC3_READDIRPLUS 1, entry.nlink of NFSPROC3_READDIRPLUS 1'],
+        '--ignore', '*.entry "b,c.".nlink,*.entry "b,c.".mode')
+    everything = [f'{left}entry.mode of NFSPROC3_READDIRPLUS 2, entry.nlink of NFSPROC3_READDIRPLUS 2, obj.mode of NFSPROC3_GETATTR 1, '
+                  'obj.nlink of NFSPROC3_GETATTR 1']
+    place.wants('all', 1, everything, '--ignore', '*.entry.nlink,*.entry.mode', '--ignore', '*.obj.nlink', '--ignore', 'NFSPROC3_GETATTR.mode')
+    for bad, named in (('GETATTR.nlink', 'GETATTR'), ('*.nothing', 'nothing'), ('NFSPROC3_GETATTR.dir.nlink', 'dir.nlink'),
+                       ('NFSPROC3_GETATTR', 'NFSPROC3_GETATTR'), ('*.nlink,MOUNTPROC3_NULL.nlink', 'nlink'), ('*.obj', 'obj')):
+        status, out, error = place.compare('--ignore', bad, 'a', 'b')
+        place.want(bad, (status, out, named in error.splitlines()[-1], 'Traceback' in error), (2, [], True, False))
+    place.compare('--ignore', '*.nlink', '--html', 'page.html', 'a', 'b')
+    place.want('a page', (b'nlink=' in re.sub(rb'<details>.*?</details>', b'', place.read('page.html') or b''),
+                          b'left out: *.nlink' in (place.read('page.html') or b'')), (False, True))
+
+
+# --- JSON ---
+
+def as_json(place: Comparisons) -> None:
+    """A comparison as an object: verdict, mask, both runs, and each finding."""
+    def run(name: bytes, status: int, data: bytes, more: int = 0) -> tuple[list[bytes], list[bytes]]:
+        mounting = call(1, MOUNT, 3, 1, opaque(b'/m')), success(1, ok(fh(b'root'), messages.array([])))
+        looking = call(2, NFS, 3, 3, dirop(b'root', name)), success(2, failed(status, post_op_attr(FOLDER)))
+        writing = (call(3, NFS, 3, 7, fh(b'root') + hyper(1_000) + word(40) + word(2) + opaque(data)),
+                   success(3, ok(wcc(), word(40), word(2), VERIFIER)))
+        null = [(call(4 + number, NFS, 3, 0), success(4 + number)) for number in range(more)]
+        return tuple(map(list, zip(mounting, looking, writing, *null)))
+    place.put('a', run(b'x', 2, b'o' * 40, more=1))
+    place.put('b', run(b'x', 13, b'o' * 38))
+    def at(side: str, record: int) -> dict[str, object]:
+        return {'place': f'connection 1 {side} record {record}', 'frames': []}
+    def finding(kind: str, procedure: str, path: str | None, *, is_call: bool = True, **more: object) -> dict[str, object]:
+        return {'kind': kind, 'procedure': procedure, 'is_call': is_call, 'path': path, 'remark': '', 'differences': [], **more}
+    status = {'field': 'status', 'label': 'status', 'first': '2', 'second': '13', 'remark': '', 'names': ['NFS3ERR_NOENT', 'NFS3ERR_ACCES'],
+              'apart': None}
+    data = {'field': 'data', 'label': 'data', 'first': '6f' * 40, 'second': '6f' * 38, 'remark': '', 'names': [None, None],
+            'apart': {'at': 38, 'offset': 1_038, 'differing': 0, 'sizes': [40, 38]}}
+    wanted = {
+        'verdict': 'differ', 'place': 'connection 1 client record 3', 'mask': {'times': 'zero', 'ids': 'number'},
+        'runs': [{'name': 'a', 'calls': 4, 'connections': 1, 'missing': 0}, {'name': 'b', 'calls': 3, 'connections': 1, 'missing': 0}],
+        'fields': [{'procedure': 'NFSPROC3_LOOKUP', 'field': 'status', 'count': 1}, {'procedure': 'NFSPROC3_WRITE', 'field': 'data', 'count': 1}],
+        'ignored': [],
+        'findings': [
+            finding('changed', 'NFSPROC3_LOOKUP', '/m/x', is_call=False, first=at('server', 2), second=at('server', 2), differences=[status]),
+            finding('changed', 'NFSPROC3_WRITE', '/m', first=at('client', 3), second=at('client', 3), differences=[data]),
+            finding('only', 'NFSPROC3_NULL', None, first=at('client', 4), second=None)]}
+    place.want('status', place.compare('--mask', 'times,ids', '--json', 'out.json', 'a', 'b')[0], 1)
+    place.want('differ', json.loads(place.read('out.json') or b''), wanted)
+    place.compare('--mask', 'times,ids', '--ignore', '*.status', '--json', 'out.json', 'a', 'b')
+    place.want('left out', json.loads(place.read('out.json') or b''), {
+        **wanted, 'findings': wanted['findings'][1:], 'fields': wanted['fields'][1:], 'ignored': wanted['fields'][:1]})
+    place.want('status', place.compare('--mask', 'none', '--json', 'out.json', 'a', 'a')[0], 0)
+    place.want('same', json.loads(place.read('out.json') or b''), {
+        'verdict': 'same', 'place': None, 'mask': {}, 'runs': wanted['runs'][:1] * 2, 'fields': [], 'ignored': [], 'findings': []})
+
+
+def json_of_recordings(place: Comparisons) -> None:
+    """Findings have the numbers of their frames, and equal ones are all there."""
+    place.want('status', place.compare('--json', 'out.json', FIRST, CHANGED)[0], 1)
+    found = json.loads(place.read('out.json') or b'')
+    place.want('runs', [(run['name'], run['calls'], run['connections'], run['missing']) for run in found['runs']],
+               [(FIRST, 103, 3, 0), (CHANGED, 103, 3, 0)])
+    place.want('frames', [(finding['path'], finding['first']['frames'], finding['second']['frames']) for finding in found['findings']],
+               [('/mem', [21], [21])])
+    place.put('a', asked_for((b'1', 3), (b'2', 3), more=2))
+    place.put('b', asked_for((b'1', 2), (b'2', 2), more=2))
+    place.compare('--json', 'out.json', 'a', 'b')
+    place.want('each', [finding['first']['place'] for finding in json.loads(place.read('out.json') or b'')['findings']],
+               [f'connection 1 server record {record}' for record in (3, 4, 5, 6)])
+
+
+def json_is_an_output(place: Comparisons) -> None:
+    """What begins as a recording or a capture, or is an input, is not replaced."""
+    place.put('a', asked_for((b'1', 3)))
+    place.write('text', b'text')
+    before = place.read('a')
+    for name in ('a', './a', FIRST):
+        status, out, error = place.compare('--json', name, 'a', 'a')
+        place.want(name, (status, out, 'is not replaced' in error), (2, [], True))
+    place.want('as it was', place.read('a'), before)
+    place.want('an old file', (place.compare('--json', 'text', 'a', 'a')[0], (place.read('text') or b'')[:1]), (0, b'{'))
+    place.want('no folder', place.compare('--json', 'absent/out.json', 'a', 'a')[0], 3)
+
+
 TESTS: list[Callable[[Comparisons], None]] = [
-    equal_findings, equal_findings_of_one_run, equal_findings_of_renamed_values, the_first_twenty, names_of_numbers, data_of_files, long_names, long_handles,
+    fields_left_out, as_json, json_of_recordings, json_is_an_output, equal_findings, equal_findings_of_one_run, equal_findings_of_renamed_values, the_first_twenty, names_of_numbers, data_of_files, long_names, long_handles,
     labels_of_every_procedure, labels_of_fewer_parts, fields_are_those_of_labels, differing_labels, sizes_of_changes, names_of_removed_files]
 
 

@@ -1,6 +1,6 @@
 """Compares two ordinary runs: are they the same but for what two runs never share, and if not, what differs.
 
-    tools/compare [--mask CLASS,..] [--all] [--html FILE] [--midstream] [--whole-records] A B
+    tools/compare [--mask CLASS,..] [--ignore PROCEDURE.FIELD,..] [--all] [--html FILE] [--json FILE] [--midstream] [--whole-records] A B
 
 A and B are recordings (pcap, pcapng; a pattern in quotes names the parts of one) or captures. Values that each run has its own
 of are masked first: of the classes below, those marked with a star by default. What is masked is always printed. Then
@@ -11,7 +11,8 @@ is told. If the runs differ, calls are brought together by connection, procedure
 the bytes round the first that differs. Messages of one procedure that differ in the same way are printed once, with their number.
 
 --mask times,ids masks these classes alone, --mask +owners one more, --mask=-times one less, --mask none nothing; NAME=zero and
-NAME=number say how.
+NAME=number say how. --ignore NFSPROC3_GETATTR.obj.nlink,*.eof leaves fields out of what is printed and written of the differences, by
+their labels, or by the name of items, as `nlink`, whose ever they are; the verdict is that of the mask all the same.
 
 FILE is written beside its name, and gets it once it is whole. It is refused if it is an input, or begins as a recording or a
 capture. The status is 0 if the runs are the same under the mask (with --allow-losses also in part), 1 if they differ or are the
@@ -21,12 +22,14 @@ import argparse
 import re
 import sys
 import tempfile
+from collections import Counter
 from contextlib import ExitStack
 from pathlib import Path
 
 from . import pages, telling
 from .classes import CLASSES, Mask, default_mask, mask_of, told
 from .comparing import Compared, Run, compare
+from .ignoring import ignored_of, without
 from .listings import Message
 from .masking import write_masked
 from .messages import REFUSED, add_losses, add_options, options_of, parser_of
@@ -35,6 +38,7 @@ from .parts import files_of
 from .places import Place, parse_fault
 from .printed import escaped
 from .programs import CHECKED, COMPARED, lines_of_program, program_path, run_program
+from .reports import Report, Size, json_of
 from .selection import count
 from .taken import Taken, take
 
@@ -61,8 +65,11 @@ def words_of(words: list[str]) -> argparse.Namespace:
     parser = parser_of(__doc__, 'compare')
     parser.epilog = classes_told()
     parser.add_argument('--mask', type=mask_of, default=default_mask(), metavar='CLASS,..', help='the classes of values to mask')
-    parser.add_argument('--all', action='store_true', help=f'prints all findings, each by itself, not the first {FINDINGS_AT_MOST} of different ones')
+    parser.add_argument('--ignore', type=ignored_of, action='extend', default=[], metavar='PROCEDURE.FIELD,..',
+                        help='fields that are left out of the explanation; * is any procedure')
+    parser.add_argument('--all', action='store_true', help=f'prints each finding by itself, not the first {FINDINGS_AT_MOST} of different ones')
     parser.add_argument('--html', metavar='FILE', help='writes a page with both runs side by side')
+    parser.add_argument('--json', metavar='FILE', help='writes the verdict and all findings as JSON')
     add_options(parser)
     add_losses(parser, 'same in part')
     parser.add_argument('--program', help='the program, if it is not the one of this folder')
@@ -79,12 +86,12 @@ def tell(name: str, taken: Taken) -> None:
         print(f'{escaped(name)}: {line}', file=sys.stderr)
 
 
-def checked(program: str, taken: Taken, capture: str, name: str) -> str:
-    """Returns how many calls there are. Ends with the fault, and its frame, if the capture is refused."""
+def checked(program: str, taken: Taken, capture: str, name: str) -> Size:
+    """Returns how much there is. Ends with the fault, and its frame, if the capture is refused."""
     answer = run_program(program, ['check', capture], CHECKED)
     counts = COUNTS.match(answer.out)
     if answer.status == 0 and counts:
-        return f'{count(int(counts[2]), "call")} in {count(int(counts[1]), "connection")}'
+        return Size(int(counts[2]), int(counts[1]))
     line = answer.error.strip()
     fault = parse_fault(line)
     frames = taken.frames(fault.place)[:1] if fault and isinstance(fault.place, Place) else []
@@ -121,7 +128,7 @@ def losses_of(first: Taken, second: Taken) -> str:
     return ', '.join(f'{count(missing, "byte")} missing from the {name} run' for name, missing in lost if missing)
 
 
-def line_of(verdict: str, compared: str, losses: str) -> str:
+def line_of(verdict: str, compared: Size, losses: str) -> str:
     """What is printed of the verdict: how much was compared, and in which part."""
     if verdict == 'same':
         return f'same in part: {compared}, {losses}' if losses else f'same: {compared}'
@@ -132,13 +139,13 @@ def compared_runs(words: argparse.Namespace, stack: ExitStack) -> int:
     program = program_path(words.program)
     names = [words.first, words.second]
     inputs = [file for name in names for file in files_of(name)]
-    if words.html:
-        check_output(words.html, inputs)
+    for path in filter(None, [words.html, words.json]):
+        check_output(path, inputs)
     with held():
         folder = Path(stack.enter_context(tempfile.TemporaryDirectory(prefix='nfs3canon')))
     runs = [stack.enter_context(take(name, options_of(words))) for name in names]
     captures = [str(folder / letter) for letter in 'ab']
-    sizes = list[str]()
+    sizes = list[Size]()
     for taken, capture, name in zip(runs, captures, names):
         taken.write_capture(capture)
         tell(name, taken)
@@ -150,17 +157,25 @@ def compared_runs(words: argparse.Namespace, stack: ExitStack) -> int:
     line = line_of(verdict, sizes[0], losses)
     print(line, flush=True)
     status = DIFFERENT if verdict != 'same' or losses and not words.allow_losses else SAME
-    if verdict == 'same' and not words.html:
-        return status
-    first, second = (run_of(program, *one) for one in zip(runs, captures, masked, names))
-    compared = compare(first, second, words.mask, is_whole=bool(words.html))
-    if words.html:
-        write_page(words.html, inputs, compared, first, second, line, told(words.mask))
-    if verdict == 'same':
-        return status
-    for line in telling.of_compared(compared, first.frames, second.frames, None if words.all else FINDINGS_AT_MOST):
-        print(line)
+    report = Report(verdict, words.mask, (names[0], names[1]), (sizes[0], sizes[1]), (runs[0].missing, runs[1].missing))
+    is_taken_apart = verdict != 'same' or words.html
+    explain(words, inputs, line, report, [run_of(program, *one) for one in zip(runs, captures, masked, names)] if is_taken_apart else [])
     return status
+
+
+def explain(words: argparse.Namespace, inputs: list[str], line: str, report: Report, runs: list[Run]) -> None:
+    """Writes and prints what differs between two runs. They are not needed if they are the same and no page is asked for."""
+    compared, left_out, framings = Compared(), Counter[tuple[str, str]](), [run.frames for run in runs]
+    if runs:
+        compared, left_out = without(compare(runs[0], runs[1], words.mask, is_whole=bool(words.html)), words.ignore)
+    if words.html:
+        mask = '; '.join([told(words.mask), *(f'left out: {one}' for one in words.ignore)])
+        write_page(words.html, inputs, compared, runs[0], runs[1], line, mask)
+    if words.json:
+        write_file(words.json, json_of(report, compared, left_out, framings), inputs)
+    if report.verdict != 'same':
+        for text in telling.of_compared(compared, framings[0], framings[1], None if words.all else FINDINGS_AT_MOST, left_out):
+            print(text)
 
 
 def main(words: list[str]) -> int:

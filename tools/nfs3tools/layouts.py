@@ -56,7 +56,8 @@ PARTS = {
     'mount': 't255:hostname t1024:directory', 'export': 't1024:directory list:group=group', 'group': 't255:name',
     # RFC 5531, sections 8 and 9, and appendix A
     'call': 'e:rpcvers w:prog w:vers w:proc credential verifier arguments',
-    'credential': 'case:cred_flavor=0:auth_none,1:auth_sys', 'auth_none': 'o400:cred_body', 'auth_sys': 'sized400:cred_length=cred@sysparms',
+    'credential': 'case:cred_flavor=0:auth_none,1:auth_sys', 'auth_none': 'o400:cred_body',
+    'auth_sys': 'sized400:cred_length=cred@sysparms',
     'sysparms': 'w:stamp t255:machinename w:uid w:gid count16:gids=w:group',
     'verifier': 'e:verf_flavor o400:verf_body',
     'reply': 'case:reply_stat=0:accepted,1:denied',

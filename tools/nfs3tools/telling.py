@@ -1,4 +1,5 @@
 """What is printed of a comparison."""
+from collections import Counter
 from collections.abc import Iterable, Iterator, Sequence
 
 from . import apart
@@ -103,8 +104,9 @@ def of_group(findings: Sequence[Finding], first: Framing, second: Framing) -> It
         yield from of_difference(difference)
 
 
-def of_compared(compared: Compared, first: Framing, second: Framing, most: int | None) -> Iterator[str]:
-    """The findings, those together that say the same, up to `most` of such groups, or each by itself. Then which fields differ how often."""
+def of_compared(compared: Compared, first: Framing, second: Framing, most: int | None, left_out: Counter[tuple[str, str]]) -> Iterator[str]:
+    """The findings, those together that say the same, up to `most` of such groups, or each by itself. Then which fields differ how often,
+    and which were left out."""
     groups = [[finding] for finding in compared.findings] if most is None else folded(compared.findings)
     for group in groups[:most]:
         yield from of_group(group, first, second)
@@ -112,7 +114,13 @@ def of_compared(compared: Compared, first: Framing, second: Framing, most: int |
         yield f'.. and {len(groups) - most:,} more (--all prints them)'
     fields = compared.fields()
     if fields:
-        some = ', '.join(f'{name} of {procedure} {count}' for (procedure, name), count in fields.most_common(FIELDS_AT_MOST))
-        yield f'fields that differ, and how often: {some}{", .." if len(fields) > FIELDS_AT_MOST else ""}'
-    if not compared.findings:
+        more = ', ..' if len(fields) > FIELDS_AT_MOST else ''
+        yield f'fields that differ, and how often: {told(fields.most_common(FIELDS_AT_MOST))}{more}'
+    if left_out:
+        yield f'left out by --ignore, and how often: {told(left_out.most_common())}'
+    elif not compared.findings:
         yield 'no field of messages that belong together differs; only which messages share a value, or empty connections, can'
+
+
+def told(fields: Iterable[tuple[tuple[str, str], int]]) -> str:
+    return ', '.join(f'{name} of {procedure} {count:,}' for (procedure, name), count in fields)
