@@ -34,6 +34,8 @@ for tool in verdicts nfs3-verdicts
     complete -c $tool -l program -r -d 'nfs3canon'
 end
 complete -c nfs3-compare -l mask -x -d 'The classes of values to mask'
-complete -c nfs3-compare -l all -d 'Print all findings'
+complete -c nfs3-compare -l ignore -x -d 'Fields that are left out of the explanation'
+complete -c nfs3-compare -l all -d 'Print each finding by itself'
 complete -c nfs3-compare -l html -r -d 'Write a page with both runs'
+complete -c nfs3-compare -l json -r -d 'Write the verdict and all findings as JSON'
 complete -c nfs3-compare -l program -r -d 'nfs3canon'

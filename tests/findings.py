@@ -1,5 +1,6 @@
 #!/usr/bin/env python3
-"""Tests of what tools/compare says of each difference: whose the item is, where long values part, and what numbers are called.
+"""Tests of what tools/compare says of differences: whose a field is, where long values part, what numbers are called, what is printed
+once or left out, and JSON.
 
     python3 tests/findings.py [PROGRAM] [--only TEXT] [-v]
 
@@ -11,6 +12,7 @@ import os
 import re
 import tempfile
 from collections.abc import Callable, Sequence
+from typing import Any
 
 from compare import CHANGED, FIRST, Comparisons
 from running import try_all, words_of
@@ -70,14 +72,15 @@ Row = tuple[bytes, bytes, bytes | None, Sequence[str], Sequence[str], Sequence[s
 NFS_ROWS: dict[int, Row] = {
     0: (b'', b'', None, [], [], []),
     1: (fh(H), FILE, b'', ['fh'], of('obj', ATTRIBUTES), []),
-    2: (fh(H) + SETTINGS + guard(NOW), W, W, ['fh', *SET.split(), 'check', 'guard.ctime_sec', 'guard.ctime_nsec'], change('obj'), change('obj')),
+    2: (fh(H) + SETTINGS + guard(NOW), W, W, ['fh', *SET.split(), 'check', 'guard.ctime_sec', 'guard.ctime_nsec'], change('obj'),
+        change('obj')),
     3: (dirop(H, b'a'), fh(H) + A + A, A, ['fh', 'name'], ['fh', *attr('obj'), *attr('dir')], attr('dir')),
     4: (fh(H) + word(1), A + word(1), A, ['fh', 'access'], [*attr('obj'), 'access'], attr('obj')),
     5: (fh(H), A + opaque(b'p'), A, ['fh'], [*attr('obj'), 'path'], attr('obj')),
     6: (fh(H) + hyper(1) + word(2), A + word(2) + word(1) + opaque(b'hi'), A, ['fh', 'offset', 'count'],
         [*attr('obj'), 'count', 'eof', 'data'], attr('obj')),
-    7: (fh(H) + hyper(1) + word(2) + word(0) + opaque(b'hi'), W + word(2) + word(0) + VERIFIER, W, ['fh', 'offset', 'count', 'stable', 'data'],
-        [*change('obj'), 'count', 'committed', 'verf'], change('obj')),
+    7: (fh(H) + hyper(1) + word(2) + word(0) + opaque(b'hi'), W + word(2) + word(0) + VERIFIER, W,
+        ['fh', 'offset', 'count', 'stable', 'data'], [*change('obj'), 'count', 'committed', 'verf'], change('obj')),
     8: (dirop(H, b'a') + how(UNCHECKED, SETTINGS), NEW, W, ['fh', 'name', 'how', *SET.split()], MADE, change('dir')),
     9: (dirop(H, b'a') + SETTINGS, NEW, W, ['fh', 'name', *SET.split()], MADE, change('dir')),
     10: (dirop(H, b'a') + SETTINGS + opaque(b'p'), NEW, W, ['fh', 'name', *SET.split(), 'path'], MADE, change('dir')),
@@ -96,10 +99,10 @@ NFS_ROWS: dict[int, Row] = {
          [*attr('dir'), 'cookieverf', *listed('a.b'), 'entry', 'entry "c" listed.fileid', *of('entry "c"', 'name cookie attr handle'),
           *listed('d\\x22'), 'entry', 'eof'], attr('dir')),
     18: (fh(H), A + bytes(52), A, ['fh'], [*attr('obj'), *'tbytes fbytes abytes tfiles ffiles afiles invarsec'.split()], attr('obj')),
-    19: (fh(H), A + bytes(48), A, ['fh'], [*attr('obj'), *('rtmax rtpref rtmult wtmax wtpref wtmult dtpref maxfilesize delta_sec delta_nsec '
-                                                         'properties').split()], attr('obj')),
-    20: (fh(H), A + bytes(24), A, ['fh'], [*attr('obj'), *'linkmax name_max no_trunc chown_restricted case_insensitive case_preserving'.split()],
-         attr('obj')),
+    19: (fh(H), A + bytes(48), A, ['fh'], [*attr('obj'), 'rtmax', 'rtpref', 'rtmult', 'wtmax', 'wtpref', 'wtmult', 'dtpref', 'maxfilesize',
+                                           'delta_sec', 'delta_nsec', 'properties'], attr('obj')),
+    20: (fh(H), A + bytes(24), A, ['fh'], [*attr('obj'), 'linkmax', 'name_max', 'no_trunc', 'chown_restricted', 'case_insensitive',
+                                           'case_preserving'], attr('obj')),
     21: (fh(H) + hyper(0) + word(0), W + VERIFIER, W, ['fh', 'offset', 'count'], [*change('obj'), 'verf'], change('obj'))}
 MOUNT_ROWS: dict[int, Row] = {
     0: (b'', b'', None, [], [], []),
@@ -109,8 +112,8 @@ MOUNT_ROWS: dict[int, Row] = {
     3: (opaque(b'/a'), b'', None, ['dirpath'], [], []),
     4: (b'', b'', None, [], [], []),
     5: (b'', messages.exports([(b'/a', []), (b'/b', [b'g', b'h'])]), None, [],
-        ['entry', 'entry 1.directory', 'entry 1.group', 'entry', 'entry 2.directory', 'entry 2.group', 'entry 2 group 1.name', 'entry 2.group',
-         'entry 2 group 2.name', 'entry 2.group', 'entry'], [])}
+        ['entry', 'entry 1.directory', 'entry 1.group', 'entry', 'entry 2.directory', 'entry 2.group', 'entry 2 group 1.name',
+         'entry 2.group', 'entry 2 group 2.name', 'entry 2.group', 'entry'], [])}
 # Messages with fewer parts, and those that are not accepted.
 OTHERS: list[tuple[int, bytes, bytes, Sequence[str], Sequence[str]]] = [
     (2, fh(H) + sattr() + guard(), ok(wcc()), ['fh', 'set_mode', 'set_uid', 'set_gid', 'set_size', 'set_atime', 'set_mtime', 'check'],
@@ -183,8 +186,8 @@ def differing_labels(place: Comparisons) -> None:
     def moved(old: int, new: int) -> tuple[list[bytes], list[bytes]]:
         reply = ok(wcc(old, fattr(DIR, 1, 4096)), wcc(9, fattr(DIR, 2, new, nlink=new)))
         listing = ok(messages.entries(fattr(DIR, 1), bytes(8), [messages.entryplus(old, b'a', 0, fattr(REG, 3, new))], is_end=True))
-        return ([call(1, NFS, 3, 14, dirop(b'from', b'a') + dirop(b'to', b'b')), call(2, NFS, 3, 17, fh(b'from') + bytes(16) + word(9) + word(9))],
-                [success(1, reply), success(2, listing)])
+        calls = [call(1, NFS, 3, 14, dirop(b'from', b'a') + dirop(b'to', b'b')), call(2, NFS, 3, 17, fh(b'from') + bytes(24))]
+        return calls, [success(1, reply), success(2, listing)]
     place.put('a', moved(5, 6))
     place.put('b', moved(7, 8))
     place.wants('labels', 1, [
@@ -227,9 +230,10 @@ def sizes_of_changes(place: Comparisons) -> None:
     wants('a file in a directory', 3, asked, (fh(H) + post_op_attr(file(1)) + post_op_attr(folder(1)),
                                               fh(H) + post_op_attr(file(2)) + post_op_attr(folder(2))), 'obj.nlink', 'obj.size')
     wants('settings', 2, tuple(fh(H) + sattr(size=size) + guard() for size in (1, 2)), (wcc(1), wcc(2)), 'set.size')
-    listing = [messages.entries(folder(size), bytes(8), [messages.entryplus(1, b'a', 0, file(size)), messages.entryplus(2, b'b', 0, folder(size))],
-                                is_end=True) for size in (1, 2)]
-    wants('entries', 17, (fh(H) + bytes(24), fh(H) + bytes(24)), tuple(listing), 'entry "a".nlink', 'entry "a".size')
+    def listing(number: int) -> bytes:
+        entries = [messages.entryplus(1, b'a', 0, file(number)), messages.entryplus(2, b'b', 0, folder(number))]
+        return messages.entries(folder(number), bytes(8), entries, is_end=True)
+    wants('entries', 17, (fh(H) + bytes(24), fh(H) + bytes(24)), (listing(1), listing(2)), 'entry "a".nlink', 'entry "a".size')
     place.want('without it', differing_under(place, {}, (12, asked[0], ok(wcc(1, file(2)))), (12, asked[1], ok(wcc(3, file(4))))),
                ['dir before.size', 'dir after.nlink', 'dir after.size'])
 
@@ -278,23 +282,24 @@ def data_of_files(place: Comparisons) -> None:
     def with_z(*places: int) -> bytes:
         return bytes(ord('z') if at in places else byte for at, byte in enumerate(whole))
     oo = '6f' * 8
-    place.want('one byte', lines_on(place, written(whole), written(with_z(4_104)), 'data'), [
-        f'  - data=..{oo} {oo}..', f'  + data=..{oo} 7a{oo[2:]}..    # 1 of 8,192 bytes differs, at offset 69640 of the file (byte 4104 of the data)'])
-    place.want('many bytes', lines_on(place, read(whole, 1_000), read(with_z(3, *range(5_000, 6_500)), 1_000), 'data'), [
-        f'  - data={oo[:6]} {oo}{oo[:10]}..', f'  + data={oo[:6]} 7a{oo}{oo[:8]}..    # 1,501 of 8,192 bytes differ, the first at offset 1003 of the '
-        'file (byte 3 of the data)'])
-    place.want('less data', lines_on(place, read(whole, 0), read(whole[:4_096], 0), 'data'), [
-        f'  - data=..{oo} {oo}..', f'  + data=..{oo}    # one is the beginning of the other, up to offset 4096 of the file (byte 4096 of the data); '
-        'their lengths are 8,192 and 4,096'])
-    place.want('less that differs', lines_on(place, written(with_z(0, 2)), written(whole[:100], 65_536), 'data'), [
-        f'  - data=7a6f7a6f{oo[:8]}{oo}..', f'  + data={oo}{oo}..    # 2 of the first 100 bytes differ, the first at offset 65536 of the file (byte 0 '
-        'of the data); their lengths are 8,192 and 100'])
-    place.want('none', lines_on(place, read(b'', 5), read(whole, 5), 'data'), [
-        '  - data=', f'  + data={oo}{oo}..    # one is the beginning of the other, up to offset 5 of the file (byte 0 of the data); their lengths '
-        'are 0 and 8,192'])
-    place.want('short data', lines_on(place, written(b'abc'), written(b'abd'), 'data'), ['  - data=616263', '  + data=616264'])
-    place.want('other offsets', lines_on(place, read(whole, 1), read(with_z(8_191), 2), 'data'), [
-        f'  - data=..{oo} 6f', f'  + data=..{oo} 7a    # 1 of 8,192 bytes differs, at byte 8191'])
+    def wants(what: str, first: tuple[list[bytes], list[bytes]], second: tuple[list[bytes], list[bytes]], *lines: str) -> None:
+        place.want(what, lines_on(place, first, second, 'data'), [*lines])
+    wants('one byte', written(whole), written(with_z(4_104)), f'  - data=..{oo} {oo}..',
+          f'  + data=..{oo} 7a{oo[2:]}..    # 1 of 8,192 bytes differs, at offset 69640 of the file (byte 4104 of the data)')
+    wants('many bytes', read(whole, 1_000), read(with_z(3, *range(5_000, 6_500)), 1_000), f'  - data={oo[:6]} {oo}{oo[:10]}..',
+          f'  + data={oo[:6]} 7a{oo}{oo[:8]}..    # 1,501 of 8,192 bytes differ, the first at offset 1003 of the file (byte 3 of the data)')
+    wants('less data', read(whole, 0), read(whole[:4_096], 0), f'  - data=..{oo} {oo}..',
+          f'  + data=..{oo}    # one is the beginning of the other, up to offset 4096 of the file (byte 4096 of the data); '
+          'their lengths are 8,192 and 4,096')
+    wants('less that differs', written(with_z(0, 2)), written(whole[:100]), f'  - data=7a6f7a6f{oo[:8]}{oo}..',
+          f'  + data={oo}{oo}..    # 2 of the first 100 bytes differ, the first at offset 65536 of the file (byte 0 of the data); '
+          'their lengths are 8,192 and 100')
+    wants('none', read(b'', 5), read(whole, 5), '  - data=',
+          f'  + data={oo}{oo}..    # one is the beginning of the other, up to offset 5 of the file (byte 0 of the data); '
+          'their lengths are 0 and 8,192')
+    wants('short data', written(b'abc'), written(b'abd'), '  - data=616263', '  + data=616264')
+    wants('other offsets', read(whole, 1), read(with_z(8_191), 2), f'  - data=..{oo} 6f',
+          f'  + data=..{oo} 7a    # 1 of 8,192 bytes differs, at byte 8191')
 
 
 def long_names(place: Comparisons) -> None:
@@ -302,14 +307,16 @@ def long_names(place: Comparisons) -> None:
     def linked(path: bytes, name: bytes = b'n') -> tuple[list[bytes], list[bytes]]:
         return [call(1, NFS, 3, 10, dirop(H, name) + sattr() + opaque(path))], [success(1, failed(NOENT, wcc()))]
     long = b'a' * 200
-    place.want('the last letter', lines_on(place, linked(long + b'x'), linked(long + b'y'), 'path'), [
-        '  - path=.."aaaaaaaax"', '  + path=.."aaaaaaaay"    # 1 of 201 bytes differs, at byte 200'])
-    place.want('what cannot be printed', lines_on(place, linked(b'ab"\\' + long), linked(b'ab"\n\xff' + long[:-1]), 'path'), [
-        '  - path="ab\\x22\\x5c' + 'a' * 12 + '"..',
-        '  + path="ab\\x22\\x0a\\xff' + 'a' * 11 + '"..    # 2 of 204 bytes differ, the first at byte 3'])
-    place.want('58 letters', lines_on(place, linked(b'a' * 58), linked(b'b' * 58), 'path'), [f'  - path="{"a" * 58}"', f'  + path="{"b" * 58}"'])
-    place.want('two names', lines_on(place, linked(b'p', long), linked(b'p', long + b'b'), 'name'), [
-        '  - name=.."aaaaaaaa"', '  + name=.."aaaaaaaab"    # one is the beginning of the other, up to byte 200; their lengths are 200 and 201'])
+    def wants(what: str, first: tuple[list[bytes], list[bytes]], second: tuple[list[bytes], list[bytes]], name: str, *lines: str) -> None:
+        place.want(what, lines_on(place, first, second, name), [*lines])
+    wants('the last letter', linked(long + b'x'), linked(long + b'y'), 'path', '  - path=.."aaaaaaaax"',
+          '  + path=.."aaaaaaaay"    # 1 of 201 bytes differs, at byte 200')
+    wants('what cannot be printed', linked(b'ab"\\' + long), linked(b'ab"\n\xff' + long[:-1]), 'path',
+          '  - path="ab\\x22\\x5c' + 'a' * 12 + '"..',
+          '  + path="ab\\x22\\x0a\\xff' + 'a' * 11 + '"..    # 2 of 204 bytes differ, the first at byte 3')
+    wants('58 letters', linked(b'a' * 58), linked(b'b' * 58), 'path', f'  - path="{"a" * 58}"', f'  + path="{"b" * 58}"')
+    wants('two names', linked(b'p', long), linked(b'p', long + b'b'), 'name', '  - name=.."aaaaaaaa"',
+          '  + name=.."aaaaaaaab"    # one is the beginning of the other, up to byte 200; their lengths are 200 and 201')
 
 
 def long_handles(place: Comparisons) -> None:
@@ -320,41 +327,47 @@ def long_handles(place: Comparisons) -> None:
     found = lines_on(place, asked(one, two, one, bytes(100)), asked(other, other, other, bytes(99) + b'!'), 'fh')
     place.want('handles', found, [f'  - fh={two.hex()}', f'  + fh={other.hex()}    # the second stood for {one.hex()} before'])
     found = lines_on(place, asked(one, two, one, bytes(100)), asked(other, one, other, bytes(99) + b'!'), 'rest')
-    place.want('raw bytes', found, ['  - rest=..0000000000000000 00', '  + rest=..0000000000000000 21    # 1 of 168 bytes differs, at byte 167; '
-                                    'the file handles of the first are written as those of the second'])
+    place.want('raw bytes', found, [
+        '  - rest=..0000000000000000 00', '  + rest=..0000000000000000 21    # 1 of 168 bytes differs, at byte 167; '
+        'the file handles of the first are written as those of the second'])
 
 
 # --- Names of numbers ---
 
+ASKED, NOTHING = dirop(H, b'a'), post_op_attr()
+MOUNTED = [ok(fh(H), messages.array([word(flavor)])) for flavor in (1, 6)]
+STORED = [ok(wcc(), word(0), word(how_stable), VERIFIER) for how_stable in (1, 0)]
+# Of each the program, the procedure, two calls, two replies (or none), the items that differ, and the values of the first of them.
+NUMBERS: list[tuple[int, int, bytes, bytes, bytes, bytes, str, str, str]] = [
+    (NFS, 3, ASKED, ASKED, failed(NOENT, NOTHING), failed(10_008, NOTHING), 'status', '2 (NFS3ERR_NOENT)', '10008 (NFS3ERR_JUKEBOX)'),
+    (NFS, 3, ASKED, ASKED, failed(13, NOTHING), ok(fh(H), NOTHING, NOTHING), 'status', '13 (NFS3ERR_ACCES)', '0 (NFS3_OK)'),
+    (MOUNT, 1, opaque(b'/a'), opaque(b'/a'), failed(13), failed(10_006), 'status', '13 (MNT3ERR_ACCES)', '10006 (MNT3ERR_SERVERFAULT)'),
+    (MOUNT, 1, opaque(b'/a'), opaque(b'/a'), MOUNTED[0], MOUNTED[1], 'flavor', '1 (AUTH_SYS)', '6 (RPCSEC_GSS)'),
+    (NFS, 1, fh(H), fh(H), ok(fattr(REG, 1)), ok(fattr(messages.SOCK, 1)), 'obj.type', '1 (NF3REG)', '6 (NF3SOCK)'),
+    (NFS, 1, fh(H), fh(H), ok(fattr(REG, 1, mode=0o4755)), ok(fattr(REG, 1, mode=0)), 'obj.mode', '2541 (4755)', '0 (0000)'),
+    (NFS, 9, ASKED + sattr(0o755), ASKED + sattr(0o700), b'', b'', 'set.mode', '493 (0755)', '448 (0700)'),
+    (NFS, 9, ASKED + sattr(), ASKED + sattr(atime=word(1)), b'', b'', 'set_atime', '0 (DONT_CHANGE)', '1 (SET_TO_SERVER_TIME)'),
+    (NFS, 9, ASKED + sattr(), ASKED + sattr(uid=1), b'', b'', 'set_uid', '0 (FALSE)', '1 (TRUE)'),
+    (NFS, 7, fh(H) + bytes(20), fh(H) + bytes(12) + word(2) + bytes(4), b'', b'', 'stable', '0 (UNSTABLE)', '2 (FILE_SYNC)'),
+    (NFS, 7, fh(H) + bytes(20), fh(H) + bytes(20), STORED[0], STORED[1], 'committed', '1 (DATA_SYNC)', '0 (UNSTABLE)'),
+    (NFS, 8, ASKED + how(0, sattr()), ASKED + how(1, sattr()), b'', b'', 'how', '0 (UNCHECKED)', '1 (GUARDED)'),
+    (NFS, 6, fh(H) + bytes(12), fh(H) + bytes(12), ok(NOTHING, bytes(12)), ok(NOTHING, word(0), word(1), word(0)), 'eof', '0 (FALSE)',
+     '1 (TRUE)'),
+    (NFS, 12, ASKED, ASKED, ok(wcc(1)), ok(wcc()), 'dir.before', '1 (TRUE)', '0 (FALSE)'),
+    (NFS, 4, fh(H) + word(31), fh(H) + word(0), b'', b'', 'access', '31 (READ|LOOKUP|MODIFY|EXTEND|DELETE)', '0 (none)'),
+    (NFS, 4, fh(H) + word(0), fh(H) + word(0), ok(NOTHING, word(0x23)), ok(NOTHING, word(0x141)), 'access', '35 (READ|LOOKUP|EXECUTE)',
+     '321 (READ|0x140)'),
+    (NFS, 19, fh(H), fh(H), ok(NOTHING, bytes(44), word(27)), ok(NOTHING, bytes(44), word(1)), 'properties',
+     '27 (LINK|SYMLINK|HOMOGENEOUS|CANSETTIME)', '1 (LINK)'),
+    (NFS, 1, fh(H), fh(H), ok(fattr(REG, 1, nlink=2)), ok(fattr(REG, 1, nlink=1)), 'obj.nlink', '2', '1')]
+
+
 def names_of_numbers(place: Comparisons) -> None:
     """Numbers have the names that RFC 1813 and RFC 5531 give them, and modes are in octal."""
-    asked = dirop(H, b'a')
-    mounted = [ok(fh(H), messages.array([word(flavor)])) for flavor in (1, 6)]
-    rows: list[tuple[int, int, bytes, bytes, bytes, bytes, str, str, str]] = [
-        (NFS, 3, asked, asked, failed(NOENT, post_op_attr()), failed(10_008, post_op_attr()), 'status', '2 (NFS3ERR_NOENT)', '10008 (NFS3ERR_JUKEBOX)'),
-        (NFS, 3, asked, asked, failed(13, post_op_attr()), ok(fh(H), post_op_attr(), post_op_attr()), 'status', '13 (NFS3ERR_ACCES)', '0 (NFS3_OK)'),
-        (MOUNT, 1, opaque(b'/a'), opaque(b'/a'), failed(13), failed(10_006), 'status', '13 (MNT3ERR_ACCES)', '10006 (MNT3ERR_SERVERFAULT)'),
-        (MOUNT, 1, opaque(b'/a'), opaque(b'/a'), *mounted, 'flavor', '1 (AUTH_SYS)', '6 (RPCSEC_GSS)'),
-        (NFS, 1, fh(H), fh(H), ok(fattr(REG, 1)), ok(fattr(messages.SOCK, 1)), 'obj.type', '1 (NF3REG)', '6 (NF3SOCK)'),
-        (NFS, 1, fh(H), fh(H), ok(fattr(REG, 1, mode=0o4755)), ok(fattr(REG, 1, mode=0)), 'obj.mode', '2541 (4755)', '0 (0000)'),
-        (NFS, 9, asked + sattr(0o755), asked + sattr(0o700), b'', b'', 'set.mode', '493 (0755)', '448 (0700)'),
-        (NFS, 9, asked + sattr(), asked + sattr(atime=word(1)), b'', b'', 'set_atime', '0 (DONT_CHANGE)', '1 (SET_TO_SERVER_TIME)'),
-        (NFS, 9, asked + sattr(), asked + sattr(uid=1), b'', b'', 'set_uid', '0 (FALSE)', '1 (TRUE)'),
-        (NFS, 7, fh(H) + bytes(12) + word(0) + opaque(b''), fh(H) + bytes(12) + word(2) + opaque(b''), ok(wcc(), word(0), word(1), VERIFIER),
-         ok(wcc(), word(0), word(0), VERIFIER), 'stable|committed', '0 (UNSTABLE)', '2 (FILE_SYNC)'),
-        (NFS, 8, asked + how(0, sattr()), asked + how(1, sattr()), b'', b'', 'how', '0 (UNCHECKED)', '1 (GUARDED)'),
-        (NFS, 6, fh(H) + bytes(12), fh(H) + bytes(12), ok(post_op_attr(), word(0), word(0), opaque(b'')),
-         ok(post_op_attr(), word(0), word(1), opaque(b'')), 'eof', '0 (FALSE)', '1 (TRUE)'),
-        (NFS, 12, asked, asked, ok(wcc(1)), ok(wcc()), 'dir.before', '1 (TRUE)', '0 (FALSE)'),
-        (NFS, 4, fh(H) + word(31), fh(H) + word(0), ok(post_op_attr(), word(0x23)), ok(post_op_attr(), word(0x141)), 'access',
-         '31 (READ|LOOKUP|MODIFY|EXTEND|DELETE)', '0 (none)'),
-        (NFS, 19, fh(H), fh(H), ok(post_op_attr(), bytes(44), word(27)), ok(post_op_attr(), bytes(44), word(1)), 'properties',
-         '27 (LINK|SYMLINK|HOMOGENEOUS|CANSETTIME)', '1 (LINK)'),
-        (NFS, 1, fh(H), fh(H), ok(fattr(REG, 1, nlink=2)), ok(fattr(REG, 1, nlink=1)), 'obj.nlink', '2', '1')]
-    for program, number, arguments, others, results, answers, name, *values in rows:
+    for program, number, arguments, others, results, answers, name, *values in NUMBERS:
         pair = [([call(1, program, 3, number, body)], [success(1, reply)] if reply else [])
                 for body, reply in ((arguments, results), (others, answers))]
-        found = lines_on(place, *pair, f'(?:{name})')[:2]
+        found = lines_on(place, *pair, name)
         place.want(f'{name} of procedure {number}', [line.partition('=')[2] for line in found], values)
     null = [call(1, NFS, 3, 0)]
     replies = [word(1) + word(1) + word(0) + bytes(8) + word(5), word(1) + word(1) + word(1) + word(1) + word(13)]
@@ -364,16 +377,12 @@ def names_of_numbers(place: Comparisons) -> None:
                ['  - accept_stat=0 (SUCCESS)', '  + accept_stat=5 (SYSTEM_ERR)'])
     place.want('not allowed', lines_on(place, (null, [replies[1][:-4] + word(1)]), (null, replies[1:]), 'auth_stat'),
                ['  - auth_stat=1 (AUTH_BADCRED)', '  + auth_stat=13 (RPCSEC_GSS_CREDPROBLEM)'])
-    place.want('bits', lines_on(place, *[([call(1, NFS, 3, 4, fh(H) + word(0))], [success(1, ok(post_op_attr(), word(bits)))])
-                                         for bits in (0x23, 0x141)], 'access'),
-               ['  - access=35 (READ|LOOKUP|EXECUTE)', '  + access=321 (READ|0x140)'])
 
 
 # --- Findings that say the same ---
 
 def asked_for(*files: tuple[bytes, int], more: int = 0) -> tuple[list[bytes], list[bytes]]:
-    """LOOKUP of each file by its name in one folder, then GETATTR of each with the link count that its attributes have, and `more` GETATTR of
-    the first."""
+    """LOOKUP of each file by its name in one folder, then GETATTR of each with its link count, and `more` GETATTR of the first."""
     names = [b'f%d' % number for number in range(len(files))]
     calls = [call(xid, NFS, 3, 3, dirop(H, name)) for xid, name in enumerate(names, 1)]
     replies = [success(xid, ok(fh(handle), post_op_attr(), post_op_attr())) for xid, (handle, _) in enumerate(files, 1)]
@@ -441,36 +450,37 @@ def the_first_twenty(place: Comparisons) -> None:
 # --- Fields that are left out ---
 
 def fields_left_out(place: Comparisons) -> None:
-    """Fields are left out of what is said by labels, fields and names, of one procedure or of any. The verdict stays, and they are counted."""
+    """Fields are left out of what is said by labels and names, of one procedure or of any. The verdict stays, and they are counted."""
     def run(number: int) -> tuple[list[bytes], list[bytes]]:
         attributes = fattr(REG, 1, 0, nlink=number, mode=0o640 + number)
         listing = messages.entries(FOLDER, bytes(8), [messages.entryplus(1, name, 0, attributes) for name in (b'a', b'b,c.')], is_end=True)
         return ([call(1, NFS, 3, 1, fh(H)), call(2, NFS, 3, 17, fh(H) + bytes(24))], [success(1, ok(attributes)), success(2, ok(listing))])
     place.put('a', run(1))
     place.put('b', run(2))
-    getattr, readdirplus = (f'{name} reply: connection 1 server record {record} | connection 1 server record {record}'
+    of_file, of_folder = (f'{name} reply: connection 1 server record {record} | connection 1 server record {record}'
                             for name, record in (('NFSPROC3_GETATTR', 1), ('NFSPROC3_READDIRPLUS', 2)))
     mode = ['  - obj.mode=417 (0641)', '  + obj.mode=418 (0642)']
     entries = {name: [f'  - entry "{name}".mode=417 (0641)', f'  + entry "{name}".mode=418 (0642)', f'  - entry "{name}".nlink=1',
                       f'  + entry "{name}".nlink=2'] for name in ('a', 'b,c.')}
     differ, left = 'fields that differ, and how often: ', 'left out by --ignore, and how often: '
     place.wants('one of one procedure', 1, [
-        getattr, *mode, readdirplus, *entries['a'], *entries['b,c.'],
+        of_file, *mode, of_folder, *entries['a'], *entries['b,c.'],
         f'{differ}entry.mode of NFSPROC3_READDIRPLUS 2, entry.nlink of NFSPROC3_READDIRPLUS 2, obj.mode of NFSPROC3_GETATTR 1',
         f'{left}obj.nlink of NFSPROC3_GETATTR 1'], '--ignore', 'NFSPROC3_GETATTR.obj.nlink')
     place.wants('a name', 1, [
-        getattr, *mode, readdirplus, *entries['a'][:2], *entries['b,c.'][:2],
+        of_file, *mode, of_folder, *entries['a'][:2], *entries['b,c.'][:2],
         f'{differ}entry.mode of NFSPROC3_READDIRPLUS 2, obj.mode of NFSPROC3_GETATTR 1',
         f'{left}entry.nlink of NFSPROC3_READDIRPLUS 2, obj.nlink of NFSPROC3_GETATTR 1'], '--ignore', '*.nlink')
     place.wants('an entry', 1, [
-        getattr, *mode, '  - obj.nlink=1', '  + obj.nlink=2', readdirplus, *entries['a'],
+        of_file, *mode, '  - obj.nlink=1', '  + obj.nlink=2', of_folder, *entries['a'],
         f'{differ}obj.mode of NFSPROC3_GETATTR 1, obj.nlink of NFSPROC3_GETATTR 1, entry.mode of NFSPROC3_READDIRPLUS 1, '
         'entry.nlink of NFSPROC3_READDIRPLUS 1',
         f'{left}entry.mode of NFSPROC3_READDIRPLUS 1, entry.nlink of NFSPROC3_READDIRPLUS 1'],
         '--ignore', '*.entry "b,c.".nlink,*.entry "b,c.".mode')
     everything = [f'{left}entry.mode of NFSPROC3_READDIRPLUS 2, entry.nlink of NFSPROC3_READDIRPLUS 2, obj.mode of NFSPROC3_GETATTR 1, '
                   'obj.nlink of NFSPROC3_GETATTR 1']
-    place.wants('all', 1, everything, '--ignore', '*.entry.nlink,*.entry.mode', '--ignore', '*.obj.nlink', '--ignore', 'NFSPROC3_GETATTR.mode')
+    place.wants('all', 1, everything, '--ignore', '*.entry.nlink,*.entry.mode', '--ignore', '*.obj.nlink',
+                '--ignore', 'NFSPROC3_GETATTR.mode')
     for bad, named in (('GETATTR.nlink', 'GETATTR'), ('*.nothing', 'nothing'), ('NFSPROC3_GETATTR.dir.nlink', 'dir.nlink'),
                        ('NFSPROC3_GETATTR', 'NFSPROC3_GETATTR'), ('*.nlink,MOUNTPROC3_NULL.nlink', 'nlink'), ('*.obj', 'obj')):
         status, out, error = place.compare('--ignore', bad, 'a', 'b')
@@ -501,13 +511,15 @@ def as_json(place: Comparisons) -> None:
               'apart': None}
     data = {'field': 'data', 'label': 'data', 'first': '6f' * 40, 'second': '6f' * 38, 'remark': '', 'names': [None, None],
             'apart': {'at': 38, 'offset': 1_038, 'differing': 0, 'sizes': [40, 38]}}
-    wanted = {
+    wanted: dict[str, Any] = {
         'verdict': 'differ', 'place': 'connection 1 client record 3', 'mask': {'times': 'zero', 'ids': 'number'},
         'runs': [{'name': 'a', 'calls': 4, 'connections': 1, 'missing': 0}, {'name': 'b', 'calls': 3, 'connections': 1, 'missing': 0}],
-        'fields': [{'procedure': 'NFSPROC3_LOOKUP', 'field': 'status', 'count': 1}, {'procedure': 'NFSPROC3_WRITE', 'field': 'data', 'count': 1}],
+        'fields': [{'procedure': 'NFSPROC3_LOOKUP', 'field': 'status', 'count': 1},
+                   {'procedure': 'NFSPROC3_WRITE', 'field': 'data', 'count': 1}],
         'ignored': [],
         'findings': [
-            finding('changed', 'NFSPROC3_LOOKUP', '/m/x', is_call=False, first=at('server', 2), second=at('server', 2), differences=[status]),
+            finding('changed', 'NFSPROC3_LOOKUP', '/m/x', is_call=False, first=at('server', 2), second=at('server', 2),
+                    differences=[status]),
             finding('changed', 'NFSPROC3_WRITE', '/m', first=at('client', 3), second=at('client', 3), differences=[data]),
             finding('only', 'NFSPROC3_NULL', None, first=at('client', 4), second=None)]}
     place.want('status', place.compare('--mask', 'times,ids', '--json', 'out.json', 'a', 'b')[0], 1)
@@ -549,8 +561,9 @@ def json_is_an_output(place: Comparisons) -> None:
 
 
 TESTS: list[Callable[[Comparisons], None]] = [
-    fields_left_out, as_json, json_of_recordings, json_is_an_output, equal_findings, equal_findings_of_one_run, equal_findings_of_renamed_values, the_first_twenty, names_of_numbers, data_of_files, long_names, long_handles,
-    labels_of_every_procedure, labels_of_fewer_parts, fields_are_those_of_labels, differing_labels, sizes_of_changes, names_of_removed_files]
+    labels_of_every_procedure, labels_of_fewer_parts, fields_are_those_of_labels, differing_labels, sizes_of_changes,
+    names_of_removed_files, data_of_files, long_names, long_handles, names_of_numbers, equal_findings, equal_findings_of_one_run,
+    equal_findings_of_renamed_values, the_first_twenty, fields_left_out, as_json, json_of_recordings, json_is_an_output]
 
 
 def tried(program: str, test: Callable[[Comparisons], None]) -> list[str]:
