@@ -211,7 +211,7 @@ def changed_fields(place: Comparisons) -> None:
     place.put('b', second.conversation())
     lines = place.compare('a', 'b')[1][2:]
     fields = [line for line in lines if line.startswith('  ')]
-    place.want('size', fields, ['  - obj.size=10', '  + obj.size=11'] * 2 + ['  - entry "x".size=10', '  + entry "x".size=11'] * 2)
+    place.want('size', fields, ['  - obj.size=10', '  + obj.size=11'] * 2 + ['  - entry "x".size=10', '  + entry "x".size=11'])
     place.want('summary', lines[-1], 'fields that differ, and how often: entry.size of NFSPROC3_READDIRPLUS 2, '
                'obj.size of NFSPROC3_LOOKUP 1, obj.size of NFSPROC3_ACCESS 1')
     place.want('heading', lines[0], 'NFSPROC3_LOOKUP reply: connection 1 server record 2 | connection 1 server record 2')

@@ -23,6 +23,7 @@ from messages import (
 from nfs3tools.classes import Mask, Way
 from nfs3tools.differing import Comparison
 from nfs3tools.listings import Message, messages_of
+from nfs3tools.telling import of_difference
 from nfs3tools.whose import Labels, fields_of
 
 H, VERIFIER = b'handle', b'verifier'
@@ -329,6 +330,15 @@ def long_handles(place: Comparisons) -> None:
     found = lines_on(place, asked(one, two, one, bytes(100)), asked(other, one, other, bytes(99) + b'!'), 'rest')
     place.want('raw bytes', found, [
         '  - rest=..0000000000000000 00', '  + rest=..0000000000000000 21    # 1 of 168 bytes differs, at byte 167; '
+        'the file handles of the first are written as those of the second'])
+    both = list[list[Message]]()
+    for run in (asked(b'aaaa', two, b'aaaa', b''), asked(b'bbbb', one, b'aaaa', b'')):
+        place.put('a', run)
+        both.append(list(messages_of(place.run('show', 'a')[1].splitlines())))
+    comparison = Comparison({})
+    lines = [line for pair in zip(*both) for difference in comparison.of_messages(*pair) for line in of_difference(difference)]
+    place.want('the same bytes for another file', lines, [
+        '  - rest=00000004 62626262', '  + rest=00000004 61616161    # 4 of 8 bytes differ, the first at byte 4; '
         'the file handles of the first are written as those of the second'])
 
 

@@ -37,22 +37,19 @@ class Difference:
     alike: str = ''
 
 
-@dataclass(frozen=True)
 class Side:
-    """A message of one run, and the offset in the file of the data in it, if that is known."""
-    labels: Labels
-    offset: int | None = None
+    """A message of one run, with the call to which it belongs if it is a reply."""
 
-    @property
-    def items(self) -> tuple[Item, ...]:
-        return self.labels.of.items
+    def __init__(self, message: Message, call: Message | None) -> None:
+        self.items, self.is_call, self.labels = message.items, message.is_call, Labels(message)
+        self.asking = message if message.is_call else call
 
-
-def side_of(message: Message, call: Message | None) -> Side:
-    """A message, with the call to which it belongs, which a call is itself."""
-    asking = message if message.is_call else call
-    offset = asking.value_of('offset') if asking and asking.procedure == (WRITE if message.is_call else READ) else None
-    return Side(Labels(message), None if offset is None else int(offset))
+    def offset(self) -> int | None:
+        """Returns where in the file the data of the message is, if that is known."""
+        if self.asking is None or self.asking.procedure != (WRITE if self.is_call else READ):
+            return None
+        offset = self.asking.value_of('offset')
+        return None if offset is None else int(offset)
 
 
 class Comparison:
@@ -70,14 +67,9 @@ class Comparison:
         return self.owners[key]
 
     def owner_of(self, side: Side, at: int) -> ValueClass | None:
-        """Returns the masked class of an item, which the parts that it is in may decide, or its value."""
-        item = side.items[at]
-        owner = self.class_of(item.name, side.labels.of.is_call)
-        if owner is None or not owner.has_value(item.value):
-            return None
-        if owner.is_of_changes and not (side.labels.is_of_a_change(at) or side.labels.is_of_a_directory(at)):
-            return None
-        return owner
+        """Returns the masked class of an item."""
+        owner = self.class_of(side.items[at].name, side.is_call)
+        return owner if owner is not None and is_of(owner, side, at) else None
 
     def key_of(self, item: Item, is_call: bool) -> tuple[str, str]:
         """Returns what two runs have in common of an item of a call."""
@@ -91,19 +83,18 @@ class Comparison:
 
     def of_values(self, here: Side, at: int, there: Side, to: int) -> Difference | None:
         """Returns how two items of one name differ, and binds renamed values."""
-        first, second = here.items[at], there.items[to]
-        if first.value == second.value == '' or self.is_length_of_a_machine(first):
+        (name, first), (_, second) = here.items[at], there.items[to]
+        owner = self.class_of(name, here.is_call)
+        if owner is not None and not (is_of(owner, here, at) and is_of(owner, there, to)):
+            owner = None
+        if first == second == '' or owner is not None and self.mask[owner.name] is Way.ZERO:
             return None
-        owner = self.owner_of(here, at)
-        if owner is self.owner_of(there, to):
-            if owner is not None and self.mask[owner.name] is Way.ZERO:
-                return None
-            name = owner.name if owner is not None else RENAMED.get(first.name)
-            if name is not None:
-                return self.of_renamed(name, owner, here, at, there, to)
-        if first.name == 'rest':
+        renaming = owner.name if owner is not None else RENAMED.get(name)
+        if renaming is not None:
+            return self.of_renamed(renaming, owner, here, at, there, to)
+        if name == 'rest':
             return self.of_raw(here, at, there, to)
-        return None if first.value == second.value else difference_of(here, at, there, to)
+        return None if first == second or self.is_length_of_a_machine(here.items[at]) else difference_of(here, at, there, to)
 
     def of_raw(self, here: Side, at: int, there: Side, to: int) -> Difference | None:
         """Handles in raw bytes are those of the other run where they are known."""
@@ -141,7 +132,7 @@ class Comparison:
     def of_messages(self, first: Message, second: Message, call: Message | None = None, other: Message | None = None) -> list[Difference]:
         """Returns how two messages differ. The calls of two replies say where in a file their data is. Entries of a directory are brought
         together by their names, and those of one name by turn."""
-        here, there = side_of(first, call), side_of(second, other)
+        here, there = Side(first, call), Side(second, other)
         if first.is_call or first.procedure not in ('NFSPROC3_READDIR', 'NFSPROC3_READDIRPLUS'):
             return self.of_items(here, range(len(first.items)), there, range(len(second.items)))
         head, entries, tail = parts_of(first.items)
@@ -190,6 +181,13 @@ class Comparison:
         return (FREE, key[1]) if bound is None else (key[0], bound)
 
 
+def is_of(owner: ValueClass, side: Side, at: int) -> bool:
+    """Returns whether an item with a name of a class is of the class. The parts that it is in may decide, or its value."""
+    if owner.is_of_changes:
+        return side.labels.is_of_a_change(at) or side.labels.is_of_a_directory(at)
+    return owner.has_value(side.items[at].value)
+
+
 # Entries by their keys, and by how many of a key are before. A broken directory may have several of a name.
 Entries = dict[tuple[tuple[str, str], int], range]
 
@@ -224,11 +222,11 @@ def parts_of(items: Sequence[Item]) -> tuple[range, list[range], range]:
 
 def difference_of(here: Side, at: int, there: Side, to: int, remark: str = '', *, first: str | None = None, alike: str = '',
                   is_renamed: bool = False) -> Difference:
-    """Two items of one name whose values differ. `first` is what stands for the first value if long values part."""
+    """Two items of one name whose values differ. `first` is what is compared with the second value, if it is not the first."""
     one, other = here.items[at], there.items[to]
     parting = None
-    if not is_renamed and (is_long(one.value) or is_long(other.value)):
-        offset = here.offset if one.name == 'data' and here.offset == there.offset else None
+    if not is_renamed and (is_long(one.value) or is_long(other.value) or first not in (None, one.value)):
+        offset = here.offset() if one.name == 'data' and here.offset() == there.offset() else None
         parting = apart(one.value if first is None else first, other.value, offset)
     return Difference(one.name, one.value, other.value, remark, here.labels.label(at), here.labels.field(at),
                       (here.labels.meaning(at), there.labels.meaning(to)), parting, alike)
