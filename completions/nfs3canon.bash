@@ -24,5 +24,5 @@ complete -o filenames -F _nfs3canon nfs3canon
 # names of other programs.
 complete -o default -W '--midstream --whole-records --filter --version --help' from_pcap nfs3-from-pcap nfs3-where
 complete -o default -W '--junit --json -j --allow-losses --midstream --whole-records --filter --program --version --help' verdicts nfs3-verdicts
-complete -o default -W '--mask --order --extra --all --html --allow-losses --midstream --whole-records --filter --program --version --help' nfs3-compare
+complete -o default -W '--mask --order --extra --ignore --all --html --json --allow-losses --midstream --whole-records --filter --program --version --help' nfs3-compare
 complete -o default -W '--version --help' nfs3-explain

@@ -30,6 +30,8 @@ from nfs3tools.classes import CLASSES, Way, default_mask, mask_of, told  # noqa:
 from nfs3tools.matching import aligned, blocks_of, increasing  # noqa: E402
 
 Conversation = tuple[list[bytes], list[bytes]]
+# What finds the names of items in the lines that tell of differences, without whose they are.
+NAMES = r'^  [-+] (?:[^=]*\.)?(\w+)='
 
 
 class Comparisons(Runs):
@@ -185,7 +187,7 @@ def ordinary_runs(place: Comparisons) -> None:
     for one in CLASSES:
         if one.is_default:
             status, out, _ = place.compare('--mask=-' + one.name, 'a', 'b')
-            names = set(re.findall(r'^  [-+] (\w+)=', '\n'.join(out), re.M))
+            names = set(re.findall(NAMES, '\n'.join(out), re.M))
             place.want('without ' + one.name, (status, bool(names & one.items), names <= one.items | {'cred_length'}), (1, True, True))
 
 
@@ -197,9 +199,9 @@ def changed_fields(place: Comparisons) -> None:
     place.put('b', second.conversation())
     lines = place.compare('a', 'b')[1][2:]
     fields = [line for line in lines if line.startswith('  ')]
-    place.want('size', fields, ['  - size=10', '  + size=11'] * 4)
-    place.want('summary', lines[-2], 'fields that differ, and how often: size of NFSPROC3_READDIRPLUS 2, size of NFSPROC3_LOOKUP 1, '
-               'size of NFSPROC3_ACCESS 1')
+    place.want('size', fields, ['  - obj.size=10', '  + obj.size=11'] * 2 + ['  - entry "x".size=10', '  + entry "x".size=11'])
+    place.want('summary', lines[-2], 'fields that differ, and how often: entry.size of NFSPROC3_READDIRPLUS 2, '
+               'obj.size of NFSPROC3_LOOKUP 1, obj.size of NFSPROC3_ACCESS 1')
     place.want('heading', lines[0], 'NFSPROC3_LOOKUP reply: connection 1 server record 2 | connection 1 server record 2')
 
 
@@ -211,7 +213,7 @@ def statuses_that_differ(place: Comparisons) -> None:
     place.put('a', first.conversation())
     place.put('b', second.conversation(script))
     lines = place.compare('a', 'b')[1][2:]
-    place.want('status', lines[1:3], ['  - status=0', '  + status=13'])
+    place.want('status', lines[1:3], ['  - status=0 (NFS3_OK)', '  + status=13 (NFS3ERR_ACCES)'])
     place.want('one finding', len(lines), 5)
     place.want('in words', lines[-1], '9 of 9 calls belong together; status in 1 reply')
 
@@ -283,7 +285,7 @@ def users_and_groups(place: Comparisons) -> None:
     place.want('compared', place.compare('a', 'b')[0], 1)
     place.put('b', run((1, 2, [2, 2]), (2, 2, [1])))
     status, out, _ = place.compare('--mask', '+owners', 'a', 'b')
-    place.want('two become one', (status, set(re.findall(r'^  [-+] (\w+)=', '\n'.join(out), re.M))), (1, {'group', 'uid'}))
+    place.want('two become one', (status, set(re.findall(NAMES, '\n'.join(out), re.M))), (1, {'group', 'uid'}))
 
 
 def directories(place: Comparisons) -> None:
@@ -298,13 +300,13 @@ def directories(place: Comparisons) -> None:
     place.put('b', second.conversation(listing(second, 2, 1)))
     lines = place.compare('a', 'b')[1][2:]
     place.want('order', lines[1:3], ['  - entry="x"', '  + entry="y"    # the entries come in another order'])
-    for names, wanted in (((1,), '  - name="y"'), ((1, 2), None)):
+    for names, wanted in (((1,), '  - entry.name="y"'), ((1, 2), None)):
         place.put('b', second.conversation(listing(second, *names)))
-        found = [line for line in place.compare('a', 'b')[1] if ' name=' in line]
+        found = [line for line in place.compare('a', 'b')[1] if ' entry.name=' in line]
         place.want('entries', found, [wanted] if wanted else [])
     place.put('a', first.conversation(listing(first, 1)))
-    found = [line for line in place.compare('a', 'b')[1] if ' name=' in line]
-    place.want('more entries', found, ['  + name="y"'])
+    found = [line for line in place.compare('a', 'b')[1] if ' entry.name=' in line]
+    place.want('more entries', found, ['  + entry.name="y"'])
 
 
 def entries_of_one_name(place: Comparisons) -> None:
@@ -319,11 +321,11 @@ def entries_of_one_name(place: Comparisons) -> None:
                               f'1 of 1 call belong together; {name} in 1 reply'], '--mask', 'none')
     place.put('a', run((1, b'a'), (2, b'b')))
     place.put('b', run((1, b'a'), (2, b'b'), (2, b'b')))
-    wants('once more', 'name', '  + name="b"')
+    wants('once more', 'entry.name', '  + entry.name="b"')
     place.put('a', run((1, b'a'), (2, b'b'), (2, b'b'), (2, b'b')))
-    wants('once less', 'name', '  - name="b"')
+    wants('once less', 'entry.name', '  - entry.name="b"')
     place.put('a', run((1, b'a'), (3, b'b'), (2, b'b')))
-    wants('the first of two', 'fileid', '  - fileid=3', '  + fileid=2')
+    wants('the first of two', 'entry.fileid', '  - entry "b".fileid=3', '  + entry "b".fileid=2')
     place.put('a', run((2, b'b'), (1, b'a'), (2, b'b')))
     wants('order', 'entry', '  - entry="b"', '  + entry="a"    # the entries come in another order')
 
@@ -433,8 +435,9 @@ def one_bit_of_many_calls(place: Comparisons) -> None:
     status, out, error = ended(words, place.folder, limit=None).text()
     where = 'connection 1 server record 70002'
     place.want('finding', (status, out.splitlines()[2:]), (1, [
-        f'NFSPROC3_GETATTR reply ?/name1: {where} | {where}', '  - mode=420', '  + mode=421',
-        'fields that differ, and how often: mode of NFSPROC3_GETATTR 1', '100,000 of 100,000 calls belong together; mode in 1 reply']))
+        f'NFSPROC3_GETATTR reply ?/name1: {where} | {where}', '  - obj.mode=420 (0644)', '  + obj.mode=421 (0645)',
+        'fields that differ, and how often: obj.mode of NFSPROC3_GETATTR 1',
+        '100,000 of 100,000 calls belong together; obj.mode in 1 reply']))
     seconds, memory = map(float, error.split())
     place.want(f'{seconds} seconds', seconds < 20, True)
     place.want(f'{memory} bytes', memory < 800e6, True)
@@ -452,7 +455,7 @@ def example_recordings(place: Comparisons) -> None:
     place.want('ordinary', (status, out[1:], error), (0, ['same: 103 calls in 3 connections'], ''))
     place.want('without a mask', place.compare('--mask', 'none', FIRST, SECOND)[0], 1)
     status, out, error = place.compare('--all', FIRST, CHANGED)
-    fields = sorted(set(re.findall(r'^  [-+] (\w+)=', '\n'.join(out), re.M)))
+    fields = sorted(set(re.findall(NAMES, '\n'.join(out), re.M)))
     place.want('changed', (status, error, fields), (1, '', ['rtmax', 'rtpref', 'wtmax', 'wtpref']))
     place.want('frames', re.findall(r'\(frame \d+\)', out[2])[1:], re.findall(r'\(frame \d+\)', out[2])[:1])
 

@@ -71,7 +71,8 @@ def writers(tools: Tools, file: str, *inputs: str) -> list[list[str]]:
     compared = [*inputs, *inputs][:2]
     return [['verdicts', '--program', tools.program, '--junit', file, *inputs],
             ['verdicts', '--program', tools.program, '--json', file, *inputs],
-            ['compare', '--program', tools.program, '--html', file, *compared], ['from_pcap', inputs[-1], file]]
+            ['compare', '--program', tools.program, '--html', file, *compared],
+            ['compare', '--program', tools.program, '--json', file, *compared], ['from_pcap', inputs[-1], file]]
 
 
 def outputs_that_are_inputs(tools: Tools) -> None:

@@ -1,4 +1,4 @@
-"""A masker by the layouts of `tools/layouts.py`, with which nfs3mask is compared. It knows the classes by the names of `tools/compare`."""
+"""A masker by the layouts of `tools/nfs3tools/layouts.py`, with which nfs3mask is compared. It knows the classes by the names of `tools/compare`."""
 import random
 import sys
 from collections.abc import Iterable, Iterator
@@ -6,9 +6,9 @@ from pathlib import Path
 
 TOP = Path(__file__).resolve().parent.parent
 sys.path[:0] = [str(TOP / 'tools'), str(TOP / 'examples')]
-from layouts import Item, Message, Procedure, procedure_of  # noqa: E402
 from messages import Bodies, word  # noqa: E402
 from nfs3tools.classes import CLASSES, Mask, ValueClass, Way  # noqa: E402
+from nfs3tools.layouts import Item, Message, Procedure, procedure_of  # noqa: E402
 
 
 class Masker:

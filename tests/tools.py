@@ -26,7 +26,7 @@ from scripts import TOP, Tools, tried
 from traffic import Names, Traffic
 import messages
 from messages import NFS, call, success
-from layouts import Item, Message, procedure_of
+from nfs3tools.layouts import Item, Message, procedure_of
 
 README = (TOP / 'README.md').read_text()
 
@@ -92,7 +92,7 @@ def explained_as_documented(tools: Tools) -> None:
 
 
 def layouts_agree_with_the_listing(tools: Tools) -> None:
-    """The items that tools/layouts.py reads are those that `show` lists, on random captures."""
+    """The items that nfs3tools/layouts.py reads are those that `show` lists, on random captures."""
     chance = random.Random(3)
     for seed in range(60):
         connections = Traffic(seed, Names.drawn(chance)).connections

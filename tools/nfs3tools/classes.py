@@ -1,6 +1,7 @@
 """Classes of values that two ordinary runs never share, and how each is masked."""
 import argparse
 import enum
+import re
 from dataclasses import dataclass
 
 
@@ -22,10 +23,18 @@ class ValueClass:
     keeps_zero: bool = False
     # Whether its items count in calls only: a name may mean something else in a reply.
     only_in_calls: frozenset[str] = frozenset()
+    # Whether its items count only in replies, in the attributes of wcc_data and in those of directories.
+    is_of_changes: bool = False
+    # The form of its values, if not all values of its items are of the class.
+    form: re.Pattern[str] | None = None
 
     def has(self, name: str, is_call: bool) -> bool:
-        """Returns whether an item of this name in a call, or in a reply, is one of the class."""
-        return name in self.items and (is_call or name not in self.only_in_calls)
+        """Returns whether an item of this name in a call, or in a reply, may be one of the class."""
+        return name in self.items and (is_call or name not in self.only_in_calls) and not (is_call and self.is_of_changes)
+
+    def has_value(self, value: str) -> bool:
+        """Returns whether a value, as the listing spells it, may be one of the class."""
+        return self.form is None or self.form.fullmatch(value) is not None
 
 
 def names(text: str) -> frozenset[str]:
@@ -46,6 +55,10 @@ CLASSES = (
     ValueClass('createverfs', names('createverf'), Way.NUMBER, True, 'verifiers of exclusive creates'),
     ValueClass('owners', names('uid gid group'), Way.NUMBER, False, 'users and groups, in credentials and attributes',
                only_in_calls=names('group')),
+    ValueClass('wcc', names('size nlink'), Way.ZERO, False,
+               'sizes and link counts before and after a change, and of directories, in replies', is_of_changes=True),
+    ValueClass('sillynames', names('name'), Way.NUMBER, False, 'names that clients give to removed files that are open: .nfs and 24 digits',
+               form=re.compile(r'"\.nfs[0-9a-f]{24}"')),
 )
 BY_NAME = {one.name: one for one in CLASSES}
 

@@ -1,40 +1,52 @@
 """Compares two ordinary runs: are they the same but for what two runs never share, and if not, what differs.
 
-    tools/compare [--mask CLASS,..] [--all] [--html FILE] [--midstream] [--whole-records] A B
+    tools/compare [--mask CLASS,..] [--order strict|any] [--ignore PROCEDURE.FIELD,..] [--all] [--html FILE] [--json FILE] A B
 
 A and B are recordings (pcap, pcapng; a pattern in quotes names the parts of one) or captures. Values that each run has its own
 of are masked first: of the classes below, those marked with a star by default. What is masked is always printed. Then
 `nfs3canon same` compares the masked captures, up to a renaming of xids, file handles and write verifiers: `same` is its word, and
 how many calls were compared follows it. If bytes are missing from a recording, equal runs are `same in part`, and what is missing
-is told. If the runs differ, calls are brought together by connection, procedure and arguments, and each difference is printed as
-`diff` would: which call, which field, both values, and the frames.
+is told.
+
+If the runs differ, calls are brought together over all connections and in any order. If nothing else than the order differs, they are
+`same in another order`: that is the word of `nfs3canon same` on both runs in the order of the first. File ids are zero then, and calls
+that only ask (GETATTR, LOOKUP ..) and that one run alone has are left out; all that is told. Otherwise each difference is printed as
+`diff` would: which call, which field and whose (`dir after.size`), both values, and the frames. Of values of over 60 characters it is
+the bytes round the first that differs. Messages of one procedure that differ in the same way are printed once, with their number.
+
+--order strict tries no other order. With --order any the status of `same in another order` is 0. --extra none leaves out no calls.
 
 --mask times,ids masks these classes alone, --mask +owners one more, --mask=-times one less, --mask none nothing; NAME=zero and
-NAME=number say how.
+NAME=number say how. --ignore NFSPROC3_GETATTR.obj.nlink,*.eof leaves fields out of what is printed and written of the differences, by
+their labels, or by the name of items, as `nlink`, whose ever they are; the verdict is that of the mask all the same.
 
 FILE is written beside its name, and gets it once it is whole. It is refused if it is an input, or begins as a recording or a
 capture. The status is 0 if the runs are the same under the mask (with --allow-losses also in part), 1 if they differ or are the
-same in part, 2 if a recording, a capture, FILE or the command line is refused, 3 if a file, a program or memory failed.
+same in part or in another order, 2 if a recording, a capture, FILE or the command line is refused, 3 if a file, a program or memory
+failed.
 """
 import argparse
 import re
 import sys
 import tempfile
+from collections import Counter
 from contextlib import ExitStack
 from pathlib import Path
 
 from . import pages, summing, telling
 from .classes import CLASSES, in_any_order, mask_word, told
 from .comparing import Compared, Run
+from .ignoring import ignored_of, without
 from .listings import Message
 from .messages import REFUSED, add_losses, add_options, options_of, parser_of
-from .orders import Choices, Orders
+from .orders import Choices, Found, Orders
 from .outputs import check_output, held, write_file
 from .pairing import ASKING
 from .parts import files_of
 from .places import Place, parse_fault
 from .printed import escaped
 from .programs import CHECKED, program_path, run_program
+from .reports import Report, Size, json_of
 from .selection import count
 from .taken import Taken, take
 from .trial import Trial
@@ -63,11 +75,15 @@ def words_of(words: list[str]) -> argparse.Namespace:
     parser = parser_of(__doc__, 'compare')
     parser.epilog = classes_told()
     parser.add_argument('--mask', type=mask_word, metavar='CLASS,..', help='the classes of values to mask')
-    parser.add_argument('--order', choices=('strict', 'any'), help='whether the order of calls counts; without it, any order is tried second')
-    parser.add_argument('--extra', choices=('none', 'asking'), default='asking',
-                        help='what may be in one run alone in any order: calls that ask and change nothing, or none')
-    parser.add_argument('--all', action='store_true', help=f'prints all findings, not the first {FINDINGS_AT_MOST}')
+    parser.add_argument('--order', choices=('strict', 'any'), help='whether the order of calls counts; by default any is tried second')
+    parser.add_argument('--extra', choices=('asking', 'none'), default='asking',
+                        help='what is left out in any order if one run alone has it: calls that ask and change nothing, or none')
+    parser.add_argument('--ignore', type=ignored_of, action='extend', default=[], metavar='PROCEDURE.FIELD,..',
+                        help='fields that are left out of the explanation; * is any procedure')
+    parser.add_argument('--all', action='store_true',
+                        help=f'prints each finding by itself, not the first {FINDINGS_AT_MOST} of different ones')
     parser.add_argument('--html', metavar='FILE', help='writes a page with both runs side by side')
+    parser.add_argument('--json', metavar='FILE', help='writes the verdict and all findings as JSON')
     add_options(parser)
     add_losses(parser, 'same in part')
     parser.add_argument('--program', help='the program, if it is not the one of this folder')
@@ -84,12 +100,12 @@ def tell(name: str, taken: Taken) -> None:
         print(f'{escaped(name)}: {line}', file=sys.stderr)
 
 
-def checked(program: str, taken: Taken, capture: str, name: str) -> str:
-    """Returns how many calls there are. Ends with the fault, and its frame, if the capture is refused."""
+def checked(program: str, taken: Taken, capture: str, name: str) -> Size:
+    """Returns how much there is. Ends with the fault, and its frame, if the capture is refused."""
     answer = run_program(program, ['check', capture], CHECKED)
     counts = COUNTS.match(answer.out)
     if answer.status == 0 and counts:
-        return f'{count(int(counts[2]), "call")} in {count(int(counts[1]), "connection")}'
+        return Size(int(counts[2]), int(counts[1]))
     line = answer.error.strip()
     fault = parse_fault(line)
     frames = taken.frames(fault.place)[:1] if fault and isinstance(fault.place, Place) else []
@@ -114,7 +130,7 @@ def losses_of(first: Taken, second: Taken) -> str:
     return ', '.join(f'{count(missing, "byte")} missing from the {name} run' for name, missing in lost if missing)
 
 
-def line_of(verdict: str, compared: str, losses: str) -> str:
+def line_of(verdict: str, compared: Size | str, losses: str) -> str:
     """What is printed of the verdict: how much was compared, and in which part."""
     if verdict.startswith('differ'):
         return f'{verdict}\ncompared in part: {losses}' if losses else verdict
@@ -125,8 +141,8 @@ def compared_runs(words: argparse.Namespace, stack: ExitStack) -> int:
     program = program_path(words.program)
     names = [words.first, words.second]
     inputs = [file for name in names for file in files_of(name)]
-    if words.html:
-        check_output(words.html, inputs)
+    for path in filter(None, (words.html, words.json)):
+        check_output(path, inputs)
     with held():
         folder = Path(stack.enter_context(tempfile.TemporaryDirectory(prefix='nfs3canon')))
     runs = [stack.enter_context(take(name, options_of(words))) for name in names]
@@ -137,26 +153,33 @@ def compared_runs(words: argparse.Namespace, stack: ExitStack) -> int:
     masks = in_any_order(words.mask)
     print(f'masked: {told(masks[0])}', flush=True)
     verdict, losses = trial.same(trial.masked(trial.captures, masks[0])), losses_of(*runs)
-    if verdict == 'same' and not words.html:
-        print(line_of(verdict, sizes[0], losses))
-        return DIFFERENT if losses and not words.allow_losses else SAME
-    first, second = (run_of(trial, *one) for one in zip(runs, trial.captures, names))
-    leaves_out, order = frozenset() if words.extra == 'none' else ASKING, 'strict' if verdict == 'same' else words.order
-    found = Orders(trial, first, second, Choices(order, masks, leaves_out, AROUND if words.html else 0)).found()
-    if found.same_under is not None:
-        line = line_of('same in another order', summing.of_same(found, masks[0]), losses)
-    else:
-        line = line_of(verdict, sizes[0], losses)
+    sides = [run_of(trial, *one) for one in zip(runs, trial.captures, names)]
+    found = Found(Compared(exchanges=sizes[0].calls, calls=(sizes[0].calls, sizes[1].calls)))
+    if verdict != 'same' or words.html:
+        leaves_out, order = frozenset() if words.extra == 'none' else ASKING, 'strict' if verdict == 'same' else words.order
+        found = Orders(trial, *sides, Choices(order, masks, leaves_out, AROUND if words.html else 0)).found()
+    is_turned = found.same_under is not None
+    line = line_of(summing.IN_ANOTHER_ORDER if is_turned else verdict, summing.of_same(found, masks[0]) if is_turned else sizes[0], losses)
     print(line, flush=True)
-    if words.html:
-        write_page(words.html, inputs, found.compared, first, second, line, told(masks[0]))
-    if verdict != 'same' and (found.same_under is None or words.all):
-        for told_line in telling.of_compared(found.compared, first.frames, second.frames, None if words.all else FINDINGS_AT_MOST):
-            print(told_line)
-    if verdict != 'same':
-        print(summing.of_compared(found.compared))
-    is_same = verdict == 'same' or found.same_under is not None and words.order == 'any'
+    report = Report(verdict, masks[0], (names[0], names[1]), (sizes[0], sizes[1]), (runs[0].missing, runs[1].missing), found.same_under)
+    explain(words, inputs, line, report, found.compared, sides)
+    is_same = verdict == 'same' or is_turned and words.order == 'any'
     return SAME if is_same and (words.allow_losses or not losses) else DIFFERENT
+
+
+def explain(words: argparse.Namespace, inputs: list[str], line: str, report: Report, whole: Compared, runs: list[Run]) -> None:
+    """Writes and prints what differs between two runs. Findings that do not count in another order are printed if all are asked for."""
+    compared, left_out = without(whole, words.ignore)
+    if words.html:
+        mask = '; '.join([told(report.mask), *(f'left out: {one}' for one in words.ignore)])
+        write_page(words.html, inputs, compared, runs[0], runs[1], line, mask)
+    if words.json:
+        write_file(words.json, json_of(report, compared, left_out, [run.frames for run in runs]), inputs)
+    if report.verdict != 'same':
+        if report.same_under is None or words.all:
+            for text in telling.of_compared(compared, runs[0].frames, runs[1].frames, None if words.all else FINDINGS_AT_MOST, left_out):
+                print(text)
+        print(summing.of_compared(compared))
 
 
 def main(words: list[str]) -> int:

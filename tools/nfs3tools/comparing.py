@@ -62,7 +62,7 @@ class Compared:
 
     def fields(self) -> Counter[tuple[str, str]]:
         """Returns how often each field of each procedure differs."""
-        return Counter((message.procedure, difference.name) for finding in self.findings
+        return Counter((message.procedure, difference.field) for finding in self.findings
                        if (message := finding.first or finding.second) for difference in finding.differences)
 
 
@@ -226,7 +226,7 @@ class Explaining:
 def of_pair(one: Exchange, other: Exchange, path: str | None, comparison: Comparison) -> Iterator[Finding]:
     """How two exchanges differ: their calls, and then their replies, in their order."""
     for message, its in ((one.call, other.call), *zip(one.replies, other.replies)):
-        found = comparison.of_messages(message, its)
+        found = comparison.of_messages(message, its, one.call, other.call)
         if found:
             yield Finding('changed', message, its, path, tuple(found))
     if len(one.replies) != len(other.replies):

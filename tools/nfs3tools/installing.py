@@ -50,7 +50,6 @@ def files(program: Path) -> Iterator[tuple[Path, str]]:
     for tool in TOOLS:
         yield TOP / 'tools' / tool, f'{HOME}/tools/{tool}'
         yield TOP / 'man' / f'{tool}.1', f'share/man/man1/{name_of(tool)}.1'
-    yield TOP / 'tools/layouts.py', f'{HOME}/tools/layouts.py'
     for module in sorted((TOP / 'tools/nfs3tools').glob('*.py')):
         yield module, f'{HOME}/tools/nfs3tools/{module.name}'
     for name in ('CHANGELOG.md', 'LICENSE-MIT', 'LICENSE-APACHE'):

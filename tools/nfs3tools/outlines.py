@@ -105,15 +105,19 @@ class Objects:
         for handle, known in enumerate(self.known):
             if known:
                 below[self.folders[handle]].setdefault(self.names[handle], []).append(handle)
-        out, waiting = array('q', bytes(8 * len(self.known))), [0]
-        while waiting:
-            folder = waiting.pop()
-            for name, handles in below.pop(folder, {}).items():
-                if len(handles) > 1:
-                    handles.sort(key=lambda handle: when(self.origins[handle]))
-                for before, handle in enumerate(handles):
-                    out[handle] = hash((out[folder] if folder else 0, name, before))
-                waiting += handles
+        out = array('q', bytes(8 * max([len(self.known), *(folder + 1 for folder in below)])))
+        tops = [folder for folder in below if folder >= len(self.known) or not self.known[folder]]
+        # (what is below itself, as no file system has it, has no top)
+        for top in (*tops, *below.copy()):
+            waiting = [top]
+            while waiting:
+                folder = waiting.pop()
+                for name, handles in below.pop(folder, {}).items():
+                    if len(handles) > 1:
+                        handles.sort(key=lambda handle: when(self.origins[handle]))
+                    for before, handle in enumerate(handles):
+                        out[handle] = hash((out[folder], name, before))
+                    waiting += handles
         return out
 
 

@@ -9,6 +9,7 @@ from .selection import count, plural
 
 FIELDS_AT_MOST = 4
 RUNS = ('first', 'second')
+IN_ANOTHER_ORDER = 'same in another order'
 
 
 def short(procedure: str) -> str:
@@ -56,7 +57,7 @@ def fields_of(compared: Compared) -> Iterator[str]:
     fields = Counter[tuple[str, bool]]()
     for finding in compared.findings:
         message = finding.first or finding.second
-        fields.update((difference.name, message is not None and message.is_call) for difference in finding.differences)
+        fields.update((difference.field, message is not None and message.is_call) for difference in finding.differences)
     for (name, is_call), number in fields.most_common(FIELDS_AT_MOST):
         yield f'{name} in ' + (count(number, 'call') if is_call else replies(number))
     if len(fields) > FIELDS_AT_MOST:

@@ -1,0 +1,73 @@
+"""Where two long values part: data, names and other runs of bytes, of which nobody reads the whole."""
+import re
+from typing import NamedTuple
+
+LONG = 60  # characters of a value, as the listing spells it
+SHOWN = 16  # bytes of each value, round the first that differs
+ESCAPED = re.compile(r'\\x([0-9a-f]{2})')
+
+
+class Apart(NamedTuple):
+    """Two values that differ.
+
+    at: the first byte that differs, or the size of a value with which the other begins; bytes are numbered from 0
+    offset: the place of this byte in the file, of data of a file
+    differing: how many bytes differ, of those that both values have
+    sizes: how many bytes each of them has
+    shown: some bytes of each, round the first that differs, as they are printed
+    """
+    at: int
+    offset: int | None
+    differing: int
+    sizes: tuple[int, int]
+    shown: tuple[str, str]
+
+
+def is_long(value: str) -> bool:
+    return len(value) > LONG
+
+
+def bytes_of(value: str) -> bytes:
+    """Returns the bytes of a value of a listing: of a string in quotes, or of hexadecimal digits."""
+    if value.startswith('"'):
+        return ESCAPED.sub(lambda found: chr(int(found[1], 16)), value[1:-1]).encode('latin-1')
+    return bytes.fromhex(value)
+
+
+def apart(first: str, second: str, offset: int | None = None) -> Apart:
+    """Returns where two values of a listing part that differ. The offset is that of the first byte in its file."""
+    one, other = bytes_of(first), bytes_of(second)
+    size = min(len(one), len(other))
+    bits = (int.from_bytes(one[:size], 'big') ^ int.from_bytes(other[:size], 'big')).to_bytes(size, 'big')
+    at = size - len(bits.lstrip(b'\0'))
+    is_text = first.startswith('"')
+    return Apart(at, None if offset is None else offset + at, size - bits.count(0), (len(one), len(other)),
+                 (shown(one, at, is_text), shown(other, at, is_text)))
+
+
+def shown(content: bytes, at: int, is_text: bool) -> str:
+    """Returns the bytes round a place: of a name as the listing spells it, of others in hexadecimal, with a space before the place."""
+    begin = max(0, at - SHOWN // 2)
+    piece, before, after = content[begin:begin + SHOWN], '..' * (begin > 0), '..' * (begin + SHOWN < len(content))
+    if is_text:
+        return f'{before}"{spelled(piece)}"{after}'
+    gap = ' ' if begin < at < begin + len(piece) else ''
+    return f'{before}{piece[:at - begin].hex()}{gap}{piece[at - begin:].hex()}{after}'
+
+
+def spelled(content: bytes) -> str:
+    """Returns bytes as a string of the listing has them."""
+    return ''.join(chr(byte) if 0x20 <= byte < 0x7f and byte not in b'"\\' else f'\\x{byte:02x}' for byte in content)
+
+
+def told(parting: Apart) -> str:
+    """Returns where two values part and how much differs, in words."""
+    same = min(parting.sizes)
+    where = f'byte {parting.at}' if parting.offset is None else f'offset {parting.offset} of the file (byte {parting.at} of the data)'
+    lengths = '' if parting.sizes[0] == parting.sizes[1] else f'; their lengths are {parting.sizes[0]:,} and {parting.sizes[1]:,}'
+    if not parting.differing:
+        return f'one is the beginning of the other, up to {where}{lengths}'
+    of_which = f'{same:,} bytes' if not lengths else f'the first {same:,} bytes'
+    if parting.differing == 1:
+        return f'1 of {of_which} differs, at {where}{lengths}'
+    return f'{parting.differing:,} of {of_which} differ, the first at {where}{lengths}'
