@@ -62,12 +62,16 @@ def spelled(content: bytes) -> str:
 
 def told(parting: Apart) -> str:
     """Returns where two values part and how much differs, in words."""
-    same = min(parting.sizes)
+    same, (first, second) = min(parting.sizes), parting.sizes
     where = f'byte {parting.at}' if parting.offset is None else f'offset {parting.offset} of the file (byte {parting.at} of the data)'
-    lengths = '' if parting.sizes[0] == parting.sizes[1] else f'; their lengths are {parting.sizes[0]:,} and {parting.sizes[1]:,}'
+    lengths = '' if first == second else f'their lengths are {first:,} and {second:,}'
+    if not same:
+        return lengths
+    of_which = f'the first {same:,} bytes' if lengths else f'{same:,} bytes'
     if not parting.differing:
-        return f'one is the beginning of the other, up to {where}{lengths}'
-    of_which = f'{same:,} bytes' if not lengths else f'the first {same:,} bytes'
-    if parting.differing == 1:
-        return f'1 of {of_which} differs, at {where}{lengths}'
-    return f'{parting.differing:,} of {of_which} differ, the first at {where}{lengths}'
+        said = f'one is the beginning of the other, up to {where}'
+    elif parting.differing == 1:
+        said = f'1 of {of_which} differs, at {where}'
+    else:
+        said = f'{parting.differing:,} of {of_which} differ, the first at {where}'
+    return '; '.join(filter(None, [said, lengths]))

@@ -2,7 +2,7 @@
 
 A message may have several items of one name, as `size` is one of the attributes of a folder before and after. So an item has a label:
 whose it is by the layouts, a dot, and its name in the listing, as in `dir after.size` or `entry "a".size`. Its field is the label
-without the names and numbers of entries: `entry.size`. An item of which a message has one alone is its own label.
+without the names and numbers of entries: `entry.size`. Both are the name alone for items of which the layouts say nothing more.
 """
 import contextlib
 from collections.abc import Iterator, Mapping, Sequence
@@ -114,20 +114,20 @@ class Labels:
     shapes: dict[tuple[str, bool, tuple[str, ...]], list[Slot]] = {}
 
     def __init__(self, message: Message) -> None:
-        self.of = message
+        self.message = message
 
     @cached_property
     def slots(self) -> list[Slot]:
         """The names of the items say where each of them is, so messages that have the same names share their slots."""
-        shape = self.of.procedure, self.of.is_call, tuple(item.name for item in self.of.items)
+        shape = self.message.procedure, self.message.is_call, tuple(item.name for item in self.message.items)
         if shape not in self.shapes:
             if len(self.shapes) == SHAPES_AT_MOST:
                 self.shapes.clear()
-            self.shapes[shape] = Slots(self.of).slots
+            self.shapes[shape] = Slots(self.message).slots
         return self.shapes[shape]
 
     def label(self, at: int) -> str:
-        return labelled([owner.told(self.of.items) for owner in self.slots[at].owners], self.slots[at].name)
+        return labelled([owner.told(self.message.items) for owner in self.slots[at].owners], self.slots[at].name)
 
     def field(self, at: int) -> str:
         return labelled([owner.word for owner in self.slots[at].owners], self.slots[at].name)
@@ -140,11 +140,11 @@ class Labels:
     def is_of_a_directory(self, at: int) -> bool:
         """Returns whether the item is one of the attributes of a directory."""
         type_at = self.slots[at].type_at
-        return type_at is not None and self.of.items[type_at].value == DIRECTORY
+        return type_at is not None and self.message.items[type_at].value == DIRECTORY
 
     def meaning(self, at: int) -> str:
         """The name of the item's number, if it has one."""
-        return meaning_of(self.slots[at].name, self.of.items[at].value, self.slots[at].values)
+        return meaning_of(self.slots[at].name, self.message.items[at].value, self.slots[at].values)
 
 
 class Fields(Owned):
