@@ -334,6 +334,39 @@ def orders_of_replies(place: Comparisons) -> None:
                                 line], '--order', 'strict')
 
 
+def connections_by_what_they_ask(place: Comparisons) -> None:
+    """Connections belong together by their calls, whatever their turn; what differs in one is found in the right one."""
+    def connection(name: bytes, mode: int) -> Conversation:
+        return ([call(1, MOUNT, 3, 1, opaque(b'/')), call(2, NFS, 3, LOOKUP, dirop(b'top', name)), call(3, NFS, 3, GETATTR, fh(name))],
+                [success(1, ok(fh(b'top'), word(0))), success(2, ok(fh(name), post_op_attr(), post_op_attr())),
+                 success(3, ok(fattr(1, 5, mode=mode)))])
+    names = [b'file %d' % number for number in range(20)]
+    place.put('a', *(connection(name, 0o644) for name in names))
+    place.put('b', ([call(1, NFS, 3, 0)], [success(1)]), *(connection(name, 0o600 if name == names[3] else 0o644) for name in names[::-1]))
+    status, out, _ = place.compare('--order', 'strict', 'a', 'b')
+    found = [line for line in out[2:] if line[0] != ' ']
+    place.want('strict', (status, found[:2]), (1, [
+        'NFSPROC3_GETATTR reply /file 3: connection 4 server record 3 | connection 18 server record 3',
+        'only in the second run: connection 1']))
+    place.want('in words', found[-1], '60 of 61 calls belong together; 19 connections in another turn; 1 more in the second run; '
+               'obj.mode in 1 reply')
+
+
+def calls_between_neighbours(place: Comparisons) -> None:
+    """Calls of one procedure that stand between the same neighbours belong together, also if they ask for something else."""
+    def run(name: bytes) -> Conversation:
+        asked = [(GETATTR, fh(b'a'), ok(fattr(1, 1))), (CREATE, dirop(b'top', name) + word(0) + sattr(), ok(messages.made(None, None, wcc()))),
+                 (GETATTR, fh(b'b'), ok(fattr(1, 2)))]
+        return ([call(xid, NFS, 3, number, words) for xid, (number, words, _) in enumerate(asked)],
+                [success(xid, results) for xid, (_, _, results) in enumerate(asked)])
+    place.put('a', run(b'x'))
+    place.put('b', run(b'y'))
+    line = 'NFSPROC3_CREATE: connection 1 client record 2 | connection 1 client record 2'
+    for order in ('strict', 'any'):
+        status, out, _ = place.compare('--order', order, 'a', 'b')
+        place.want(order, (status, out[2:5]), (1, [line, '  - name="x"', '  + name="y"']))
+
+
 def files_that_were_made_again(place: Comparisons) -> None:
     """Two files that had one name, one after the other, are two, and a rename moves a file."""
     def run(order: Sequence[int], prefix: bytes) -> Conversation:
@@ -368,7 +401,8 @@ def many_in_another_order(place: Comparisons) -> None:
 
 TESTS: list[Callable[[Comparisons], None]] = [
     runs_are_written_anew, records_of_several_fragments, orders_that_are_none, wrong_writers_are_caught, clients_at_once,
-    what_differs_is_found, calls_that_only_ask, ids_and_orders, masks_of_any_order, orders_of_replies, files_that_were_made_again,
+    what_differs_is_found, calls_that_only_ask, ids_and_orders, masks_of_any_order, orders_of_replies, connections_by_what_they_ask,
+    calls_between_neighbours, files_that_were_made_again,
     many_in_another_order]
 
 
