@@ -1,19 +1,20 @@
 """The layouts of NFS version 3 and MOUNT version 3 messages, as docs/FORMATS.md has them, with the names of the listing."""
 from collections.abc import Callable
-from typing import NamedTuple
+from typing import NamedTuple, Protocol
 
 NFS, MOUNT = 100003, 100005
 
-NFSSTAT = {0: 'OK', 1: 'PERM', 2: 'NOENT', 5: 'IO', 6: 'NXIO', 13: 'ACCES', 17: 'EXIST', 18: 'XDEV', 19: 'NODEV', 20: 'NOTDIR',
-           21: 'ISDIR', 22: 'INVAL', 27: 'FBIG', 28: 'NOSPC', 30: 'ROFS', 31: 'MLINK', 63: 'NAMETOOLONG', 66: 'NOTEMPTY',
-           69: 'DQUOT', 70: 'STALE', 71: 'REMOTE', 10001: 'BADHANDLE', 10002: 'NOT_SYNC', 10003: 'BAD_COOKIE', 10004: 'NOTSUPP',
-           10005: 'TOOSMALL', 10006: 'SERVERFAULT', 10007: 'BADTYPE', 10008: 'JUKEBOX'}
-MOUNTSTAT = {number: NFSSTAT[number] for number in (0, 1, 2, 5, 13, 20, 22, 63, 10004, 10006)}
-BOOL = {0: 'no', 1: 'yes'}
+ERRORS = {1: 'PERM', 2: 'NOENT', 5: 'IO', 6: 'NXIO', 13: 'ACCES', 17: 'EXIST', 18: 'XDEV', 19: 'NODEV', 20: 'NOTDIR',
+          21: 'ISDIR', 22: 'INVAL', 27: 'FBIG', 28: 'NOSPC', 30: 'ROFS', 31: 'MLINK', 63: 'NAMETOOLONG', 66: 'NOTEMPTY',
+          69: 'DQUOT', 70: 'STALE', 71: 'REMOTE', 10001: 'BADHANDLE', 10002: 'NOT_SYNC', 10003: 'BAD_COOKIE', 10004: 'NOTSUPP',
+          10005: 'TOOSMALL', 10006: 'SERVERFAULT', 10007: 'BADTYPE', 10008: 'JUKEBOX'}
+NFSSTAT = {0: 'NFS3_OK'} | {number: 'NFS3ERR_' + name for number, name in ERRORS.items()}
+MOUNTSTAT = {0: 'MNT3_OK'} | {number: 'MNT3ERR_' + ERRORS[number] for number in (1, 2, 5, 13, 20, 22, 63, 10004, 10006)}
+BOOL = {0: 'FALSE', 1: 'TRUE'}
 
-# The values that a word may have, by the name of the item.
+# The values that a word may have, by the name of the item, with their names in the RFCs.
 VALUES = {
-    'mtype': {0: 'call', 1: 'reply'}, 'rpcvers': {2: 'RPC version 2'},
+    'mtype': {0: 'CALL', 1: 'REPLY'}, 'rpcvers': {2: 'RPC version 2'},
     'cred_flavor': {0: 'AUTH_NONE', 1: 'AUTH_SYS'}, 'verf_flavor': {0: 'AUTH_NONE'},
     'reply_stat': {0: 'MSG_ACCEPTED', 1: 'MSG_DENIED'}, 'reject_stat': {0: 'RPC_MISMATCH', 1: 'AUTH_ERROR'},
     'accept_stat': dict(enumerate(('SUCCESS', 'PROG_UNAVAIL', 'PROG_MISMATCH', 'PROC_UNAVAIL', 'GARBAGE_ARGS', 'SYSTEM_ERR'))),
@@ -21,7 +22,7 @@ VALUES = {
         'AUTH_OK', 'AUTH_BADCRED', 'AUTH_REJECTEDCRED', 'AUTH_BADVERF', 'AUTH_REJECTEDVERF', 'AUTH_TOOWEAK', 'AUTH_INVALIDRESP',
         'AUTH_FAILED', 'AUTH_KERB_GENERIC', 'AUTH_TIMEEXPIRE', 'AUTH_TKT_FILE', 'AUTH_DECODE', 'AUTH_NET_ADDR',
         'RPCSEC_GSS_CREDPROBLEM', 'RPCSEC_GSS_CTXPROBLEM'))),
-    'type': dict(enumerate(('REG', 'DIR', 'BLK', 'CHR', 'LNK', 'SOCK', 'FIFO'), 1)),
+    'type': dict(enumerate(('NF3REG', 'NF3DIR', 'NF3BLK', 'NF3CHR', 'NF3LNK', 'NF3SOCK', 'NF3FIFO'), 1)),
     'stable': {0: 'UNSTABLE', 1: 'DATA_SYNC', 2: 'FILE_SYNC'}, 'how': {0: 'UNCHECKED', 1: 'GUARDED', 2: 'EXCLUSIVE'},
     'set_atime': {0: 'DONT_CHANGE', 1: 'SET_TO_SERVER_TIME', 2: 'SET_TO_CLIENT_TIME'},
 }
@@ -97,28 +98,42 @@ class Stop(Exception):
 
 
 class Item(NamedTuple):
-    """An item of a message: its bytes, its name, its value as a text, what may stand there, and whether it has all its bytes."""
+    """An item of a message: its bytes, its name, its value as a text (of a long one the beginning), what may stand there, whether it
+    has all its bytes, and the name of its value, if that has one."""
     begin: int
     end: int
     name: str
     value: str
     allowed: str
     is_whole: bool
+    meaning: str
+
+
+class Body(Protocol):
+    """The bytes of a message."""
+
+    def __len__(self) -> int: ...
+
+    def __getitem__(self, part: slice, /) -> bytes: ...
 
 
 class Message:
-    """Reads the items of a body up to its end, or to the first that is at fault."""
+    """Reads the items of a body up to its end, or to the first that is at fault. They are passed to `tell`, or kept in `items`. The value
+    of an item is that of its first bytes, `most` at most."""
 
-    def __init__(self, body: bytes) -> None:
-        self.body, self.at, self.end = body, 0, len(body)
+    def __init__(self, body: Body, tell: Callable[[Item], object] | None = None, most: int = 1 << 32) -> None:
+        self.body, self.at, self.end, self.most = body, 0, len(body), most
         self.items: list[Item] = []
+        self.tell = tell or self.items.append
 
-    def taken(self, size: int, name: str, allowed: str, spell: Spell) -> bytes:
-        """Reads an item of this size. Raises `Stop` if fewer bytes are left."""
+    def taken(self, size: int, name: str, allowed: str, spell: Spell, values: dict[int, str] | None = None) -> bytes:
+        """Reads an item of this size, and returns its bytes, of a long one the first. Raises `Stop` if fewer bytes are left."""
         begin, self.at = self.at, min(self.at + size, self.end)
-        piece = self.body[begin:self.at]
-        self.items.append(Item(begin, self.at, name, spell(piece), allowed, len(piece) == size))
-        if len(piece) < size:
+        piece = self.body[begin:min(self.at, begin + self.most)]
+        is_whole = self.at - begin == size
+        meaning = values.get(int.from_bytes(piece, 'big'), '') if values and is_whole else ''
+        self.tell(Item(begin, self.at, name, spell(piece), allowed, is_whole, meaning))
+        if not is_whole:
             raise Stop
         return piece
 
@@ -126,16 +141,15 @@ class Message:
         """Reads a word, which is among the values if there are some, and at most `most`."""
         allowed = 'any word' if values is None else ', '.join('%d %s' % value for value in values.items())
         allowed = allowed if most == 0xffffffff else 'at most %d' % most
-        value = int.from_bytes(self.taken(4, name, allowed, number), 'big')
+        value = int.from_bytes(self.taken(4, name, allowed, number, values), 'big')
         if value > most or values is not None and value not in values:
             raise Stop
         return value
 
-    def var(self, name: str, most: int, spell: Spell) -> bytes:
+    def var(self, name: str, most: int, spell: Spell) -> None:
         size = self.word(name + ' (its length)', most=most)
-        content = self.taken(size, name, 'any bytes', spell)
+        self.taken(size, name, 'any bytes', spell)
         self.taken(-size % 4, name + ' (residual bytes)', 'any bytes', bytes.hex)
-        return content
 
     def part(self, layout: str) -> None:
         for item in layout.split():
@@ -201,9 +215,8 @@ class Message:
 
     def call(self) -> None:
         """Reads the items of a call after its mtype."""
-        for name in ('rpcvers', 'prog', 'vers', 'proc'):
-            self.word(name, VALUES.get(name))
-        procedure = procedure_of(*(int(item.value) for item in self.items[-3:]))
+        self.word('rpcvers', VALUES['rpcvers'])
+        procedure = procedure_of(*[self.word(name) for name in ('prog', 'vers', 'proc')])
         self.auth('cred', VALUES['cred_flavor'])
         self.auth('verf', VALUES['verf_flavor'])
         self.part(procedure.arguments)
@@ -222,8 +235,9 @@ class Message:
         elif accepted == 0:
             self.part(procedure.failed if self.word('status', procedure.statuses) else procedure.done)
 
-    def read(self, is_call: bool, procedure: Procedure | None) -> None:
-        """Reads all items up to the end or a fault. A reply is read as one of the procedure, if that is known."""
+    def read(self, is_call: bool, procedure: Procedure | None) -> bool:
+        """Reads all items up to the end or a fault, and returns whether there was none. A reply is read as one of the procedure, if that
+        is known."""
         try:
             self.word('xid')
             self.word('mtype', VALUES['mtype'])
@@ -232,7 +246,8 @@ class Message:
             elif procedure:
                 self.reply(procedure)
         except Stop:
-            pass
+            return False
+        return True
 
 
 def number(piece: bytes) -> str:
