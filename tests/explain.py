@@ -20,7 +20,6 @@ from scripts import ALL, CALLS, REPLIES, TOP, Tools, packed, stream, tried, whol
 import messages
 from messages import MOUNT, NFS, call, chunk, entries, entry, failed, fattr, fh, fragment, hyper, ok, opaque, post_op_attr, success, word
 from packets import ACK, Talk, ethernet, pcap
-from nfs3tools.places import SIDES
 
 AID = 'A reader\'s aid, and no part of what is proved.'
 ITEM = re.compile(r'byte (\d+): (\w+)( \((?:its length|residual bytes)\))? = (\'.*\'|b[\'"].*[\'"](?:\.\.)?|\S+)(?: \((.*)\))?')
@@ -48,8 +47,9 @@ def fields_of_a_reply(tools: Tools) -> None:
         'connection 1 server record 1: reply NFSPROC3_GETATTR of program 100003, version 3, procedure 1',
         'xid 5, a body of 112 bytes, to call record 1', 'byte 0: xid = 5', 'byte 4: mtype = 1 (REPLY)',
         'byte 8: reply_stat = 0 (MSG_ACCEPTED)', 'byte 12: verf_flavor = 0 (AUTH_NONE)', 'byte 16: verf_body (its length) = 0',
-        'byte 20: accept_stat = 0 (SUCCESS)', 'byte 24: status = 0 (NFS3_OK)', 'byte 28: type = 2 (NF3DIR)', 'byte 32: mode = 1005 (1755)',
-        'byte 36: nlink = 3', 'byte 40: uid = 7', 'byte 44: gid = 8', 'byte 48: size = 34', f'byte 56: used = {values[7] << 32 | values[8]}',
+        'byte 20: accept_stat = 0 (SUCCESS)', 'byte 24: status = 0 (NFS3_OK)', 'byte 28: type = 2 (NF3DIR)',
+        'byte 32: mode = 1005 (1755)', 'byte 36: nlink = 3', 'byte 40: uid = 7', 'byte 44: gid = 8', 'byte 48: size = 34',
+        f'byte 56: used = {values[7] << 32 | values[8]}',
         f'byte 64: rdev1 = {values[9]}', f'byte 68: rdev2 = {values[10]}', f'byte 72: fsid = {values[11] << 32 | values[12]}',
         'byte 80: fileid = 12', *(f'byte {at + 4}: {name} = {values[(at - 24) // 4]}' for at, name in times)])
 
@@ -75,7 +75,7 @@ def shown(value: str) -> str:
 
 
 def are_in_a_row(items: list[re.Match[str]], second: str) -> bool:
-    """Whether each item has at most eight bytes more than a multiple of four, or a length before it, and the last ends at the body's end."""
+    """Whether items follow one another up to the body's end: words, numbers of eight bytes, and bytes as many as are shown."""
     size = int(re.findall(r'a body of (\d+) bytes', second)[0])
     begins = [int(item[1]) for item in items] + [size]
     for item, begin, end in zip(items, begins, begins[1:]):
@@ -138,8 +138,10 @@ def long_values(tools: Tools) -> None:
 
 # --- Recordings ---
 
-FAULTS = {'bad_client_record': ('client record 1 byte 4: BadEnum', 4, 'mtype = 2'), 'bad_status': ('server record 1 byte 24: BadEnum', 5, 'status = 3'),
-          'bad_bool': ('server record 1 byte 28: BadBool', 5, 'attr = 2'), 'bad_length': ('client record 1 byte 40: TooLong', 4, 'fh (its length) = 65')}
+FAULTS = {'bad_client_record': ('client record 1 byte 4: BadEnum', 4, 'mtype = 2'),
+          'bad_status': ('server record 1 byte 24: BadEnum', 5, 'status = 3'),
+          'bad_bool': ('server record 1 byte 28: BadBool', 5, 'attr = 2'),
+          'bad_length': ('client record 1 byte 40: TooLong', 4, 'fh (its length) = 65')}
 
 
 def faults_of_recordings(tools: Tools) -> None:
@@ -206,7 +208,8 @@ def bytes_of_captures(tools: Tools) -> None:
     at = 20 + len(ALL[0])
     for place, told in ((0, 'the magic, from byte 0'), (11, 'the word 1 before connection 1, from byte 8'),
                         (12, f'the length of a chunk of connection 1 client, {len(ALL[0])}, from byte 12'),
-                        (at - 5, 'a chunk of connection 1 client, from byte 16'), (at - 4, f'the end of the stream of connection 1 client, from byte {at - 4}'),
+                        (at - 5, 'a chunk of connection 1 client, from byte 16'),
+                        (at - 4, f'the end of the stream of connection 1 client, from byte {at - 4}'),
                         (len(capture) - 1, f'the word after the last connection, 0, from byte {len(capture) - 4}')):
         for name in ('a', 'a.gz', 'a.pcap'):
             lines = explained(tools, name, f'file {place}')
@@ -220,11 +223,12 @@ def bytes_of_captures(tools: Tools) -> None:
 def places_that_are_not_there(tools: Tools) -> None:
     tools.write('a', packed(ALL))
     tools.write('a.pcap', pcap(whole()))
-    for place, message in (('connection 1 client record 1 byte 41', 'there is no connection 1 client record 1 byte 41: the body is shorter'),
-                           ('connection 1 client record 40', 'there is no connection 1 client record 40'),
-                           ('connection 1 client record 0', 'there is no connection 1 client record 0'),
-                           ('connection 2 client record 1 byte 0', 'there is no connection 2'), ('connection 0 client record 1', 'there is no connection 0'),
-                           ('file 999999', 'the capture has no byte 999999')):
+    for place, message in (
+            ('connection 1 client record 1 byte 41', 'there is no connection 1 client record 1 byte 41: the body is shorter'),
+            ('connection 1 client record 40', 'there is no connection 1 client record 40'),
+            ('connection 1 client record 0', 'there is no connection 1 client record 0'),
+            ('connection 2 client record 1 byte 0', 'there is no connection 2'),
+            ('connection 0 client record 1', 'there is no connection 0'), ('file 999999', 'the capture has no byte 999999')):
         for name in ('a', 'a.pcap'):
             tools.want(f'{name} {place}', tools.tool('explain', name, place), (1, '', f'explain: {message}\n'))
     tools.write('none', b'no recording')
@@ -307,8 +311,9 @@ def memory_of_large_recordings(tools: Tools) -> None:
     content = stream([call(number, NFS, 3, 0) for number in range(count * size // 44 + 1)])
     record = struct.pack('<4I', 1, 0, len(frame), len(frame)) + head
     sequences = range(talk.next[0], talk.next[0] + count * size, size)
-    written(tools, 'frames', itertools.chain([opened], (
-        record + sequence.to_bytes(4, 'big') + rest + content[at:at + size] for at, sequence in zip(range(0, count * size, size), sequences))))
+    frames = (record + sequence.to_bytes(4, 'big') + rest + content[at:at + size]
+              for at, sequence in zip(range(0, count * size, size), sequences))
+    written(tools, 'frames', itertools.chain([opened], frames))
     last = count * size // 44
     in_memory(tools, 'frames', f'connection 1 client record {last} byte 0', f'byte 0: xid = {last - 1}',
               f'frame.number == {4 + ((last - 1) * 44 + 4) // size}')

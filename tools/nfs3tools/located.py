@@ -7,7 +7,6 @@
 A capture is read piece by piece, so memory grows neither with it nor with the record. Of a recording is in memory what `take` keeps there.
 """
 import contextlib
-import itertools
 import sys
 import typing
 
@@ -73,35 +72,32 @@ class Within:
 
     def streams(self, connection: int) -> tuple[TakenStream, TakenStream]:
         """Returns the streams of a connection. Raises `NoPlace` if there is none of this number."""
-        if self.taken is None:
-            stored = Container(self.source(), self.spool).connection(connection)
-            pairs = [tuple(TakenStream(one, None, whole(one)) for one in stored)] if stored else []
-        else:
-            pairs = self.taken.pairs()[connection - 1:connection] if connection else []
-        if not pairs:
+        if self.taken is not None and 0 < connection <= len(self.taken.connections):
+            taken = self.taken.connections[connection - 1]
+            return taken.client, taken.server
+        stored = Container(self.source(), self.spool).connection(connection) if self.taken is None else None
+        if stored is None:
             raise NoPlace(f'there is no connection {connection}')
-        return pairs[0]
+        return TakenStream(stored[0], None, whole(stored[0])), TakenStream(stored[1], None, whole(stored[1]))
 
     def record(self, place: Place) -> Found:
         """Returns what a place names. Raises `NoPlace` if there is no such record or byte."""
         streams = self.streams(place.connection)
         stream = streams[SIDES.index(place.side)]
-        window = Window(stream)
-        numbered = itertools.islice(extents(window, 0, stream.size), place.record - 1, None) if place.record else iter(())
-        extent = next(numbered, None)
+        extent = extent_of_record(stream, place.record)
         if extent is None:
             raise NoPlace(f'there is no {place._replace(byte=None)}')
         frames = stream.frames(*bytes_of(stream, extent, place))
-        return Found(Body(self.copied(stream, extent)), streams[0], frames)
+        return Found(self.body(stream, extent), streams[0], frames)
 
-    def copied(self, stream: TakenStream, extent: Extent) -> Stored:
+    def body(self, stream: TakenStream, extent: Extent) -> Body:
         """Copies the body of a record, of one that is too long the first 16,777,216 bytes."""
         stored = Stored(self.spool)
         for begin, end in fragments(Window(stream), extent):
             end = min(end, begin + LONGEST_BODY - stored.size)
             for at in range(begin, end, READ_AT_ONCE):
                 stored.append(stream.read(at, min(READ_AT_ONCE, end - at)))
-        return stored
+        return Body(stored)
 
     def part(self, place: FilePlace) -> Part:
         """Returns the part of the capture that a byte is in, or after which the file ends. Raises `NoPlace` if there is none."""
@@ -121,6 +117,12 @@ class Within:
         with contextlib.suppress(NoPlace):
             return self.taken.frames(place) if self.taken else []
         return []
+
+
+def extent_of_record(stream: TakenStream, number: int) -> Extent | None:
+    """Returns where a record stands, if there is one of this number. Those before it leave nothing in memory."""
+    numbered = enumerate(extents(Window(stream), 0, stream.size), 1)
+    return next((extent for at, extent in numbered if at == number), None)
 
 
 def call_of(calls: TakenStream, xid: bytes, but: int | None = None) -> Call | None:
