@@ -9,6 +9,7 @@ PROGRAM is crates/nfs3canon/out/nfs3canon if none is named. The reasons of refus
 import gzip
 import itertools
 import os
+import random
 import re
 import struct
 import sys
@@ -237,6 +238,35 @@ def places_that_are_not_there(tools: Tools) -> None:
     tools.want('its first byte', explained(tools, 'none', 'file 0: BadMagic')[0], 'file byte 0: the magic, from byte 0')
 
 
+# Explains a place for each line of standard input, and prints the status, and whether the place's reason is told.
+EACH = """import contextlib, io, runpy, sys
+main = runpy.run_path(sys.argv[1])['main']
+for line in sys.stdin:
+    name, _, place = line.strip().partition(' ')
+    with contextlib.redirect_stdout(io.StringIO()) as printed:
+        status = main([name, place])
+    print(status, '\\n' + place.split()[-1] + ': ' in printed.getvalue())
+"""
+
+
+def faults_of_damaged_captures(tools: Tools) -> None:
+    """Each place at which `check` refuses a capture is there, whatever became of the capture."""
+    chance, lines = random.Random(11), list[str]()
+    bases = [(TOP / f'examples/{name}.nfs3cap').read_bytes() for name in ('every_procedure', 'interleaved', 'auth_sys', 'two_connections')]
+    for number in range(300):
+        content = bytearray(chance.choice(bases))
+        for _ in range(chance.randrange(1, 4)):
+            content[chance.randrange(len(content))] = chance.choice((0, 1, 2, 255, chance.randrange(256)))
+        tools.write(str(number), content[:chance.randrange(len(content))] if chance.random() < 0.3 else content)
+        status, _, line = tools.run('check', str(number))
+        lines += [f'{number} {line}'] if status == 2 else []
+    command = [sys.executable, '-c', EACH, str(TOP / 'tools/explain')]
+    status, out, error = ended(command, tools.folder, stdin=''.join(lines).encode()).text()
+    tools.want('all', (status, len(out.splitlines()), error), (0, len(lines), ''))
+    for line, answer in zip(lines, out.splitlines()):
+        tools.want(line, answer, '0 True')
+
+
 # --- Cost ---
 
 # Runs a tool, and then prints the most memory that it had, in kilobytes.
@@ -320,8 +350,8 @@ def memory_of_large_recordings(tools: Tools) -> None:
 
 
 TESTS = [fields_of_a_reply, fields_of_each_message, names_of_values, messages_at_fault, long_values, faults_of_recordings,
-         recordings_of_all_kinds, options_of_recordings, bytes_of_captures, places_that_are_not_there, memory_of_large_captures,
-         memory_of_many_parts, memory_of_large_recordings]
+         recordings_of_all_kinds, options_of_recordings, bytes_of_captures, places_that_are_not_there,
+         faults_of_damaged_captures, memory_of_large_captures, memory_of_many_parts, memory_of_large_recordings]
 
 
 def main() -> None:
