@@ -25,6 +25,7 @@ from packets import ACK, Talk, ethernet, pcap
 AID = 'A reader\'s aid, and no part of what is proved.'
 ITEM = re.compile(r'byte (\d+): (\w+)( \((?:its length|residual bytes)\))? = (\'.*\'|b[\'"].*[\'"](?:\.\.)?|\S+)(?: \((.*)\))?')
 MOST_MEMORY = 64 << 20  # bytes
+MOST_OF_A_RECORDING = 40 << 20  # bytes, of one with a million frames
 STRINGS = ('name', 'path', 'machinename', 'dirpath', 'hostname', 'directory')
 
 
@@ -280,13 +281,13 @@ finally:
 """
 
 
-def in_memory(tools: Tools, name: str, place: str, *told: str) -> None:
-    """A run prints these lines, and takes at most 64 MB."""
+def in_memory(tools: Tools, name: str, place: str, *told: str, most: int = MOST_MEMORY) -> None:
+    """A run prints these lines, and takes at most this many bytes of memory."""
     words = [sys.executable, '-c', MEASURED, str(TOP / 'tools/explain'), name, place]
     status, out, error = ended(words, tools.folder, limit=None).text()
     tools.want(f'{name} {place}', (status, [line for line in told if line not in out.splitlines()]), (0, []))
     kilobytes = int(error.split()[-1])
-    tools.want(f'memory of {name} {place}', kilobytes << 10 <= MOST_MEMORY or kilobytes, True)
+    tools.want(f'memory of {name} {place}', kilobytes << 10 <= most or kilobytes, True)
 
 
 def written(tools: Tools, name: str, pieces: Iterator[bytes]) -> None:
@@ -333,8 +334,8 @@ def memory_of_many_parts(tools: Tools) -> None:
 
 
 def memory_of_large_recordings(tools: Tools) -> None:
-    """A recording of 1,500,000 frames, each with some bytes of calls."""
-    talk, size, count = Talk(), 16, 1_500_000
+    """A recording of 1,000,000 frames, each with some bytes of calls: memory does not follow them."""
+    talk, size, count = Talk(), 16, 1_000_000
     frame = ethernet(talk.datagram(0, ACK, bytes(size)))
     opened = pcap(talk.opened())
     head, rest = frame[:38], frame[42:-size]
@@ -346,7 +347,7 @@ def memory_of_large_recordings(tools: Tools) -> None:
     written(tools, 'frames', itertools.chain([opened], frames))
     last = count * size // 44
     in_memory(tools, 'frames', f'connection 1 client record {last} byte 0', f'byte 0: xid = {last - 1}',
-              f'frame.number == {4 + ((last - 1) * 44 + 4) // size}')
+              f'frame.number == {4 + ((last - 1) * 44 + 4) // size}', most=MOST_OF_A_RECORDING)
 
 
 TESTS = [fields_of_a_reply, fields_of_each_message, names_of_values, messages_at_fault, long_values, faults_of_recordings,
