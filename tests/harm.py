@@ -375,8 +375,8 @@ def names(tools: Tools) -> None:
             ['where', recording, 'file 8', HOSTILE], ['compare', *program, recording, capture], ['compare', *program, HOSTILE, capture],
             ['compare', *program, '--html', recording, capture, capture], ['compare', '--program', HOSTILE, capture, capture],
             ['verdicts', *program, recording, HOSTILE], ['verdicts', *program, '--junit', recording, capture],
-            ['explain', recording, 'file 0: BadMagic'], ['explain', HOSTILE, 'file 8'], ['install', '--program', HOSTILE, 'prefix'], ['install', '--remove', HOSTILE],
-            ['install', *program, HOSTILE], ['release', '--program', HOSTILE, '.']]
+            ['explain', recording, 'file 0: BadMagic'], ['explain', HOSTILE, 'file 8'], ['install', '--program', HOSTILE, 'prefix'],
+            ['install', '--remove', HOSTILE], ['install', *program, HOSTILE], ['release', '--program', HOSTILE, '.']]
     for words in rows:
         command = [tool(words[0]), *words[1:]]
         done = ended([os.fsencode(word) for word in command], tools.folder)
