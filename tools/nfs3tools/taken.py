@@ -106,17 +106,9 @@ class TakenStream:
         while self.noted is not None and begin < min(end, self.size):
             part_end = min(end, self.begins[part + 1])
             shift = self.ranges[part][0] - self.begins[part]
-            found.update(frames_between(self.noted, begin + shift, part_end + shift))
+            found.update(FrameRef(brought.number, brought.time) for brought in self.noted.between(begin + shift, part_end + shift))
             begin, part = part_end, part + 1
         return sorted(found)
-
-
-def frames_between(noted: Frames, begin: int, end: int) -> typing.Iterator[FrameRef]:
-    """Iterates over the frames that brought stored bytes."""
-    at = bisect.bisect_right(noted.begins, begin) - 1
-    while at < len(noted.begins) and noted.begins[at] < end:
-        yield FrameRef(noted.numbers[at], noted.times[at])
-        at += 1
 
 
 class TakenConnection(typing.NamedTuple):
@@ -251,7 +243,7 @@ def bytes_of(stream: TakenStream, extent: Extent, place: Place) -> tuple[int, in
 def take(path: str, options: Options = Options(), frames: bool = True, shows_progress: bool = True) -> Taken:
     """Reads a recording or a capture, `-` for standard input. A path that is the name of no file is a pattern, whose files are parts of
     one recording, in the order of the times of their first frames. `frames` says whether the frames of bytes are noted, which
-    takes 24 bytes of memory for each frame; `shows_progress` whether their number is shown on a terminal meanwhile.
+    takes 24 bytes of a temporary file for each frame; `shows_progress` whether their number is shown on a terminal meanwhile.
 
     Raises `NotTaken`, `Missing` and `FilterRefused` (of `programs`), and `OSError` if a file cannot be read or a temporary
     file not be written.
