@@ -58,7 +58,7 @@ def change(owner: str) -> list[str]:
     return [f'{owner}.before', *of(f'{owner} before', 'size mtime_sec mtime_nsec ctime_sec ctime_nsec'), *attr(f'{owner} after')]
 
 
-def listed(name: str, more: str = '') -> list[str]:
+def listed(name: str) -> list[str]:
     """An entry of READDIRPLUS with attributes and a handle."""
     owner = f'entry "{name}"'
     return ['entry', f'{owner} listed.fileid', *of(owner, 'name cookie'), *attr(owner), *of(owner, 'handle fh')]
@@ -189,7 +189,8 @@ def fields_are_those_of_labels(place: Comparisons) -> None:
                ['entry', 'entry.cookie', 'entry.fileid', 'entry.name'])
     for seed in range(60):
         place.put('a', *Traffic(seed, Names.drawn(random.Random(seed))).connections)
-        found = {(message.procedure, field) for message in messages_of(place.run('show', 'a')[1].splitlines()) for field in all_fields(message)}
+        listed = messages_of(place.run('show', 'a')[1].splitlines())
+        found = {(message.procedure, field) for message in listed for field in all_fields(message)}
         place.want(f'seed {seed}', [(procedure, field) for procedure, field in found if field not in fields_of(procedure)], [])
 
 
