@@ -22,6 +22,7 @@ from traffic import Names, Traffic
 
 sys.path[:0] = [str(TOP / 'tools'), str(TOP / 'examples')]
 import messages  # noqa: E402
+from packets import Talk, pcap  # noqa: E402
 from messages import MOUNT, NFS, auth_sys, call, dirop, fattr, fh, hyper, ok, opaque, post_op_attr, sattr, success, wcc, word  # noqa: E402
 from nfs3tools.classes import Way, default_mask, in_any_order, mask_of  # noqa: E402
 from nfs3tools.places import Side  # noqa: E402
@@ -383,6 +384,34 @@ def files_that_were_made_again(place: Comparisons) -> None:
     place.want('again', (status, out[2]), (0, '6 of 6 calls belong together; 1 in another turn; 1 reply in another turn'))
 
 
+def one_name_for_many_files(place: Comparisons) -> None:
+    """A journal that is made, written and removed again and again, over any of three connections: frames say which came first. Before
+    it is removed it may be renamed, and then be looked up under its new name on another connection."""
+    def run(seed: int) -> bytes:
+        chance = random.Random(seed)
+        handles, talks, xids = [chance.randbytes(28) for _ in range(40)], [Talk(700 + number) for number in range(3)], iter(range(1, 999))
+        frames = [frame for talk in talks for frame in talk.opened()]
+        def said(procedure: int, arguments: bytes, results: bytes) -> None:
+            talk, xid = chance.choice(talks), next(xids)
+            frames.append(talk.sent(0, messages.fragment(call(xid, NFS, 3, procedure, arguments))))
+            frames.append(talk.sent(1, messages.fragment(success(xid, ok(results)))))
+        for number, handle in enumerate(handles):
+            data = b'journal %d' % number
+            said(CREATE, dirop(b'top', b'journal') + word(0) + sattr(), messages.made(handle, None, wcc()))
+            said(WRITE, fh(handle) + hyper(0) + word(len(data)) + word(2) + opaque(data), wcc() + word(len(data)) + word(2) + b'verifier')
+            if number % 3 == 0:
+                said(14, dirop(b'top', b'journal') + dirop(b'top', b'kept %d' % number), wcc() + wcc())
+                said(LOOKUP, dirop(b'top', b'kept %d' % number), fh(handle) + post_op_attr(fattr(1, number)) + post_op_attr())
+            else:
+                said(REMOVE, dirop(b'top', b'journal'), wcc())
+        return pcap([*frames, *(frame for talk in talks for frame in talk.closed())])
+    for seed in range(6):
+        place.write('a', run(seed))
+        place.write('b', run(seed + 100))
+        status, out, error = place.compare('--order', 'any', 'a', 'b')
+        place.want(f'seed {seed}', (status, out[1].partition(':')[0], error), (0, 'same in another order', ''))
+
+
 def many_in_another_order(place: Comparisons) -> None:
     """100,000 calls in another order: what that costs. The limits are three times what was measured."""
     def run(order: Sequence[int]) -> Conversation:
@@ -402,7 +431,7 @@ def many_in_another_order(place: Comparisons) -> None:
 TESTS: list[Callable[[Comparisons], None]] = [
     runs_are_written_anew, records_of_several_fragments, orders_that_are_none, wrong_writers_are_caught, clients_at_once,
     what_differs_is_found, calls_that_only_ask, ids_and_orders, masks_of_any_order, orders_of_replies, connections_by_what_they_ask,
-    calls_between_neighbours, files_that_were_made_again,
+    calls_between_neighbours, files_that_were_made_again, one_name_for_many_files,
     many_in_another_order]
 
 
