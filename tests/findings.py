@@ -585,7 +585,8 @@ def as_json(place: Findings) -> None:
         **wanted, 'findings': wanted['findings'][1:], 'fields': wanted['fields'][1:], 'ignored': wanted['fields'][:1]})
     place.want('status', place.compare('--mask', 'none', '--json', 'out.json', 'a', 'a')[0], 0)
     place.want('same', json.loads(place.read('out.json') or b''), {
-        **wanted, 'verdict': 'same', 'place': None, 'mask': {}, 'order': {**wanted['order'], 'together': 4}, 'runs': [{**wanted['runs'][0], 'only': 0}] * 2, 'fields': [], 'findings': []})
+        **wanted, 'verdict': 'same', 'place': None, 'mask': {}, 'order': {**wanted['order'], 'together': 4},
+        'runs': [{**wanted['runs'][0], 'only': 0}] * 2, 'fields': [], 'findings': []})
 
 
 def json_of_recordings(place: Findings) -> None:

@@ -201,7 +201,8 @@ class Pairs:
         for _, run in groupby(enumerate(left), lambda numbered: (self.here.connection_of(numbered[1]), numbered[1] - numbered[0])):
             here = [at for _, at in run]
             place = self.here.connection_of(here[0])
-            own, its = self.here.exchanges_of(place), self.there.exchanges_of(self.homes[place]) if self.homes[place] != NOBODY else range(0)
+            own = self.here.exchanges_of(place)
+            its = self.there.exchanges_of(self.homes[place]) if self.homes[place] != NOBODY else range(0)
             before = self.partners[here[0] - 1] if here[0] > own.start else its.start - 1
             after = self.partners[here[-1] + 1] if here[-1] + 1 < own.stop else its.stop
             if before + 1 in its and after - 1 in its:
@@ -218,8 +219,9 @@ class Pairs:
 
 
 def paired(here: Outlines, there: Outlines, listings: tuple[Listing, Listing], lonely: frozenset[str]) -> Pairing:
-    """Brings the exchanges of two runs together: those that are equal first, then those whose calls ask the same, then alike calls,
-    then calls of one procedure between the same neighbours. Calls of the lonely procedures are brought together only if they ask the same."""
+    """Brings the exchanges of two runs together: those that are equal first, then those whose calls ask the same, then alike calls, then
+    calls of one procedure between the same neighbours. Calls of the lonely procedures are brought together only if they ask the same.
+    """
     pairs = Pairs(here, there)
     pairs.in_order()
     pairs.by_turn(here.said.__getitem__, there.said.__getitem__)
