@@ -46,6 +46,7 @@ CLASSES = (
     ValueClass('createverfs', names('createverf'), Way.NUMBER, True, 'verifiers of exclusive creates'),
     ValueClass('owners', names('uid gid group'), Way.NUMBER, False, 'users and groups, in credentials and attributes',
                only_in_calls=names('group')),
+    ValueClass('wcc', names('size nlink'), Way.ZERO, False, 'sizes and counts of links, in replies, that others may change meanwhile'),
 )
 BY_NAME = {one.name: one for one in CLASSES}
 

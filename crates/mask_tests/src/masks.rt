@@ -85,6 +85,7 @@ fn hashers() -> MaskHashers<BuildHasherDefault<FoldHasher>> {
             cookie_verifiers: hasher(),
             create_verifiers: hasher(),
             owners: hasher(),
+            wcc: hasher(),
         },
     }
 }

@@ -28,7 +28,7 @@ free_cookie cookie = assumption
 room : (first second sec : ℕ) (d : Class) → length (values (getattrs_of_two first second sec) d) < 2 ^ 64
 unfolding names head_names
 room first second sec d =
-    for_each (λ d. length (values (getattrs_of_two first second sec) d) < 2 ^ 64) (omega arith) (omega arith) (omega arith) (omega arith) (omega arith) (omega arith) (omega arith) (omega arith) (omega arith) d
+    for_each (λ d. length (values (getattrs_of_two first second sec) d) < 2 ^ 64) (omega arith) (omega arith) (omega arith) (omega arith) (omega arith) (omega arith) (omega arith) (omega arith) (omega arith) (omega arith) d
 
 pub returns : goal.returns
 unfolding names head_names
