@@ -102,7 +102,10 @@ fn class_of_word(spot: Spot, name: &str) -> Option<Class>
 pub(crate) fn word_class(spot: Option<Spot>, name: &str) -> Option<Class>
     ensures { (n : ℕ) → result ≡ class_found spot (Word name.now n) }
 {
-    class_of_word(spot?, name)
+    match spot {
+        Some(spot) => class_of_word(spot, name),
+        None => None,
+    }
 }
 
 /// Returns the class of a number of eight bytes of this name.
@@ -126,7 +129,10 @@ fn class_of_hyper(spot: Spot, name: &str) -> Option<Class>
 pub(crate) fn hyper_class(spot: Option<Spot>, name: &str) -> Option<Class>
     ensures { (n : ℕ) → result ≡ class_found spot (Hyper name.now n) }
 {
-    class_of_hyper(spot?, name)
+    match spot {
+        Some(spot) => class_of_hyper(spot, name),
+        None => None,
+    }
 }
 
 /// Returns the class of eight bytes of this name.

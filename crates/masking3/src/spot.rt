@@ -20,7 +20,6 @@ pub enum Spot {
 
 impl Spot {
     /// Returns the spot of what follows a word of this name.
-    #[tactic(auto, unfolding(nfs3_types::specs::Names::names))]
     pub(crate) fn next(self, name: &str, n: u32) -> Spot
         ensures { result ≡ next_spot self (Word name.now n) }
     {
