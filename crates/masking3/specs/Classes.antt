@@ -8,7 +8,7 @@ use Rattle.rpc_head.specs.Names.{head_names}
 use Rattle.masking3.specs.declared.class.Class.{Class}
 use Rattle.masking3.specs.declared.class.Class.TheVariants.{Times, Stamps, Space, Ids, Fsids, Cookies, CookieVerifiers, CreateVerifiers, Owners, Wcc}
 use Rattle.masking3.specs.declared.spot.Spot.{Spot}
-use Rattle.masking3.specs.declared.spot.Spot.TheVariants.{InCall, InReply, InDirectory, InWcc}
+use Rattle.masking3.specs.declared.spot.Spot.TheVariants.{InCall, InDirectory, InWcc}
 
 -- the name is one of these
 abbrev pub is_one_of : List (List ℕ) → List ℕ → Bool

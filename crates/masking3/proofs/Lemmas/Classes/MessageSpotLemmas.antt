@@ -13,9 +13,7 @@ use Rattle.capture3.specs.declared.fault.Side.TheVariants.{Client, Server}
 use Rattle.capture3.specs.Entry.{Entry, Reply}
 use Rattle.canon3.proofs.Lemmas.WellFormed.Messages.{FitsCall, FitsReply, is_headed_call, is_headed_reply}
 use Rattle.canon3.proofs.Lemmas.Numbers.RankLemmas.{by_test}
-use Rattle.masking3.specs.declared.class.Class.{Class}
 use Rattle.masking3.specs.declared.spot.Spot.{Spot}
-use Rattle.masking3.specs.declared.spot.Spot.TheVariants.{InCall, InReply}
 use Rattle.masking3.specs.Classes.{class_of}
 use Rattle.masking3.specs.Spots.{next_spot}
 use Rattle.masking3.specs.machinery.MessageSpot.{BeginsOn, class_found, first_spot, found_after, found_next, mtype_of}

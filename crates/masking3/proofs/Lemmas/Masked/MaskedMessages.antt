@@ -110,7 +110,7 @@ module _ (ways : Ways) (seen : Class → List ℕ) where
   -- ---- parts one after another, each from the spot that the move leads to
 
   module _ (move : Spot → Spot) where
-    masked_parts : Spot → List (List Item) → List (List Item)
+    abbrev masked_parts : Spot → List (List Item) → List (List Item)
     masked_parts spot [] = []
     masked_parts spot (part ∷ parts) = under (move spot) part ∷ masked_parts (spot_after (move spot) part) parts
 

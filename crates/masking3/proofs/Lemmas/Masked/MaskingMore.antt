@@ -5,7 +5,7 @@ use Rattle.std.proofs.lemmas.Bool.Decides.{Decides-eqb}
 use Rattle.xdr3.specs.Item.{Item}
 use Rattle.capture3.specs.Entry.{Entry}
 use Rattle.canon3.specs.Pairing.{Pairs}
-use Rattle.canon3.specs.Renaming.{Pairwise, none, more, Same}
+use Rattle.canon3.specs.Renaming.{none, more, Same}
 use Rattle.canon3.proofs.Lemmas.Renaming.PairingLemmas.{Agree, agree-graph, graph, member-graph}
 use Rattle.canon3.proofs.Lemmas.Numbers.RankLemmas.{by_test}
 use Rattle.masking3.specs.declared.class.Class.{Class}

@@ -20,7 +20,7 @@ use Rattle.masking3.specs.Classes.{class_of, class_value}
 use Rattle.masking3.specs.Masked.{masked_item, masked_items, substitute, value_in, value_where, values_in, with_value}
 use Rattle.masking3.specs.machinery.ClassTables.{HoldsValues, tables_in, with_one}
 use Rattle.masking3.specs.machinery.MaskingWriter.{after_messages, HasMaskedUnderWay, HasMemory, MaskStands, told_items, told_value, values_so_far}
-use Rattle.masking3.specs.machinery.MessageSpot.{BeginsOn, class_found, first_spot, found_after, found_next}
+use Rattle.masking3.specs.machinery.MessageSpot.{BeginsOn, class_found, first_spot, found_next}
 use Rattle.masking3.proofs.Lemmas.Classes.ClassLemmas.{holds_without, seen_alike}
 use Rattle.masking3.proofs.Lemmas.Classes.MessageSpotLemmas.{begins_before, found_class, found_more}
 use Rattle.masking3.proofs.Lemmas.Classes.SpotLemmas.{IsNoWord, masked_items-append, spot_after, still_after, values_in-append}
