@@ -5,8 +5,8 @@ use Rattle.nfs3_types.specs.Names.{names}
 use Rattle.masking3.specs.declared.spot.Spot.{Spot}
 use Rattle.masking3.specs.declared.spot.Spot.TheVariants.{InCall, InReply, InDirectory, InWcc}
 
--- A word `before` begins wcc_data (RFC 1813, section 2.6). A word `type` begins a fattr3, which is a
--- directory's if it is NF3DIR (2) (section 2.5).
+-- A word `before` begins wcc_data (RFC 1813, section 2.6). A word `type` begins a fattr3, which is
+-- a directory's if it is NF3DIR (2) (section 2.5).
 abbrev pub after_word : Spot → List ℕ → ℕ → Spot
 after_word spot name n =
     (if bytes_eq name names.before then InWcc else
