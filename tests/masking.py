@@ -10,6 +10,19 @@ from messages import Bodies, word  # noqa: E402
 from nfs3tools.classes import CLASSES, Mask, ValueClass, Way  # noqa: E402
 from nfs3tools.layouts import Item, Message, Procedure, procedure_of  # noqa: E402
 
+NF3DIR = '2'
+
+
+def with_changing(items: Iterable[Item], is_call: bool) -> Iterator[tuple[Item, bool]]:
+    """Yields each item, and whether others may change meanwhile what it says if it is a size or a count of links: it is of a reply, in
+    the attributes of a directory, or after the word that begins wcc_data (RFC 1813, section 2.6)."""
+    is_directory = is_wcc = False
+    for item in items:
+        is_wcc = is_wcc or item.name == 'before'
+        if item.name == 'type':
+            is_directory = item.value.split()[0] == NF3DIR
+        yield item, not is_call and (is_directory or is_wcc)
+
 
 class Masker:
     """Masks the bodies of messages, in the order of the capture: the numbers of values go on from body to body."""
@@ -18,8 +31,10 @@ class Masker:
         self.mask = mask
         self.numbers: dict[str, dict[int, int]] = {name: {} for name, way in mask.items() if way is Way.NUMBER}
 
-    def class_of(self, name: str, is_call: bool) -> ValueClass | None:
-        return next((one for one in CLASSES if one.name in self.mask and one.has(name, is_call) and name != 'machinename'), None)
+    def class_of(self, name: str, is_call: bool, is_changing: bool) -> ValueClass | None:
+        """Returns the class that is masked of a value of this name, where it has one. The name of a machine is no value."""
+        found = next((one for one in CLASSES if one.name in self.mask and one.has(name, is_call) and name != 'machinename'), None)
+        return None if found and found.name == 'wcc' and not is_changing else found
 
     def value(self, owner: ValueClass, content: bytes) -> bytes:
         """Returns what stands for a value, in its own width."""
@@ -33,8 +48,8 @@ class Masker:
         message = Message(body)
         message.read(is_call, procedure)
         out = bytearray(body)
-        for item in message.items:
-            owner = self.class_of(item.name, is_call)
+        for item, is_changing in with_changing(message.items, is_call):
+            owner = self.class_of(item.name, is_call, is_changing)
             if owner:
                 out[item.begin:item.end] = self.value(owner, body[item.begin:item.end])
         places = {item.name: item for item in message.items}

@@ -56,7 +56,7 @@ CLASSES = (
     ValueClass('owners', names('uid gid group'), Way.NUMBER, False, 'users and groups, in credentials and attributes',
                only_in_calls=names('group')),
     ValueClass('wcc', names('size nlink'), Way.ZERO, False,
-               'sizes and link counts before and after a change, and of directories, in replies', is_of_changes=True),
+               'sizes and counts of links, in replies, that others may change meanwhile', is_of_changes=True),
     ValueClass('sillynames', names('name'), Way.NUMBER, False, 'names that clients give to removed files that are open: .nfs and 24 digits',
                form=re.compile(r'"\.nfs[0-9a-f]{24}"')),
 )

@@ -4,7 +4,7 @@ from .programs import MASKED, program_beside, run_program
 
 
 # Classes of which nfs3mask does not know yet.
-UNKNOWN = ('wcc', 'sillynames')
+UNKNOWN = ('sillynames',)
 
 
 def words_for(mask: Mask) -> list[str]:

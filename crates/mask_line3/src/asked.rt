@@ -25,6 +25,8 @@ pub enum MaskClass {
     CreateVerifiers,
     /// The users and groups.
     Owners,
+    /// The sizes and counts of links that others may change meanwhile.
+    Wcc,
 }
 
 /// What becomes of a class, as a word of the line says it.

@@ -55,6 +55,7 @@ pub(crate) fn with_way(ways: Ways, class: MaskClass, way: Way) -> Ways
             owners: way,
             ..ways
         },
+        MaskClass::Wcc => Ways { wcc: way, ..ways },
     }
 }
 
@@ -95,6 +96,7 @@ pub fn ways_told(alloc: Global, ways: &Ways) -> Result<String, AllocError>
     push_change(&mut text, MaskClass::CookieVerifiers, ways.cookie_verifiers)?;
     push_change(&mut text, MaskClass::CreateVerifiers, ways.create_verifiers)?;
     push_change(&mut text, MaskClass::Owners, ways.owners)?;
+    push_change(&mut text, MaskClass::Wcc, ways.wcc)?;
     Ok(text)
 }
 

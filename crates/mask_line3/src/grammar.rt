@@ -31,6 +31,8 @@ Classes, with their usual ways:
   cookieverfs=number  cookie verifiers; 0 stays
   createverfs=number  verifiers of exclusive creates
   owners=keep         users and groups, in attributes, settings and credentials
+  wcc=keep            sizes and counts of links, in replies, that others may change
+                      meanwhile: in wcc_data, and of directories
 
 Prints the line that `nfs3canon canon` prints, and then `masked` with the way of
 every class. OUT is written beside its name and gets the name when it is complete;

@@ -22,6 +22,7 @@ pub(crate) fn class_named(name: &str) -> Option<MaskClass>
         "cookieverfs" => Some(MaskClass::CookieVerifiers),
         "createverfs" => Some(MaskClass::CreateVerifiers),
         "owners" => Some(MaskClass::Owners),
+        "wcc" => Some(MaskClass::Wcc),
         _ => None,
     }
 }
@@ -41,6 +42,7 @@ pub(crate) fn class_name(class: MaskClass) -> &'static str
         MaskClass::CookieVerifiers => "cookieverfs",
         MaskClass::CreateVerifiers => "createverfs",
         MaskClass::Owners => "owners",
+        MaskClass::Wcc => "wcc",
     }
 }
 

@@ -50,12 +50,17 @@ fn attributes(run: Run) -> [u32; 21] {
 
 /// A GETATTR call with an AUTH_SYS credential, and its reply.
 fn capture(alloc: Global, run: Run) -> Result<Vec<u8>, AllocError> {
+    capture_of(alloc, run, attributes(run))
+}
+
+/// The same with these attributes.
+fn capture_of(alloc: Global, run: Run, attributes: [u32; 21]) -> Result<Vec<u8>, AllocError> {
     let mut bytes = Vec::new(alloc);
     push_words(&mut bytes, &[0x4e46_5333, 0x4341_5031, 1])?;
     push_call(&mut bytes, run)?;
     push_words(&mut bytes, &[0])?;
     push_words(&mut bytes, &REPLY)?;
-    push_words(&mut bytes, &attributes(run))?;
+    push_words(&mut bytes, &attributes)?;
     push_words(&mut bytes, &[0, 0])?;
     Ok(bytes)
 }
@@ -85,6 +90,7 @@ fn hashers() -> MaskHashers<BuildHasherDefault<FoldHasher>> {
             cookie_verifiers: hasher(),
             create_verifiers: hasher(),
             owners: hasher(),
+            wcc: hasher(),
         },
     }
 }
@@ -182,6 +188,34 @@ fn lists_of_groups(rt: HostRuntime) -> Result<(), Fail> {
         let mut sink = MemSink::new(rt.alloc(), 999, 9, 0)?;
         assert_eq!(rt; masked(&rt, ways, &bytes, &mut sink).is_ok(), true);
         assert_eq!(rt; sink.bytes(), null_by(rt.alloc(), form)?.as_slice());
+    }
+    Ok(())
+}
+
+/// Attributes of this type, with so many links and this size.
+fn attributes_of(kind: u32, links: u32, size: u32) -> [u32; 21] {
+    let mut words = attributes(FIRST);
+    words[0] = kind;
+    words[2] = links;
+    words[6] = size;
+    words
+}
+
+#[test]
+fn sizes_of_files_and_directories(rt: HostRuntime) -> Result<(), Fail> {
+    for (kind, wcc, links, size) in [
+        (2, Way::Keep, 3, 4096),
+        (2, Way::Zero, 0, 0),
+        (2, Way::Number, 1, 2),
+        (1, Way::Number, 3, 4096),
+    ] {
+        let mut ways = Ways::none();
+        ways.wcc = wcc;
+        let bytes = capture_of(rt.alloc(), FIRST, attributes_of(kind, 3, 4096))?;
+        let form = capture_of(rt.alloc(), FIRST, attributes_of(kind, links, size))?;
+        let mut sink = MemSink::new(rt.alloc(), 999, 9, 0)?;
+        assert_eq!(rt; masked(&rt, ways, &bytes, &mut sink).is_ok(), true);
+        assert_eq!(rt; sink.bytes(), form.as_slice());
     }
     Ok(())
 }

@@ -125,6 +125,44 @@ MasksOwners =
     ∷ system_null 9 28 0 [] 27 1000 100 ∷ [])
     ≡ system_null 7 28 0 [] 1 2 1 ∷ exported 8 ∷ system_null 9 28 0 [] 3 1 2 ∷ []
 
+-- sizes and counts of links that others may change have numbers too
+abbrev pub numbered_wcc : Ways
+numbered_wcc = record usual { wcc = Number }
+
+-- a fattr3 (RFC 1813, section 2.5) of this type, with so many links and this size
+abbrev pub attributes_of : (kind links size : ℕ) → List Item → List Item
+attributes_of kind links size items =
+    Word (codes "type") kind ∷ Word (codes "mode") 420 ∷ Word (codes "nlink") links
+    ∷ Word (codes "uid") 1000 ∷ Word (codes "gid") 100
+    ∷ Hyper (codes "size") size ∷ Hyper (codes "used") 0 ∷ Word (codes "rdev1") 0
+    ∷ Word (codes "rdev2") 0
+    ∷ Hyper (codes "fsid") 1 ∷ Hyper (codes "fileid") 1 ∷ Word (codes "atime_sec") 0
+    ∷ Word (codes "atime_nsec") 0
+    ∷ Word (codes "mtime_sec") 0 ∷ Word (codes "mtime_nsec") 0
+    ∷ Word (codes "ctime_sec") 0 ∷ Word (codes "ctime_nsec") 0
+    ∷ items
+
+-- LOOKUP's reply (RFC 1813, section 3.3.3): the attributes of a file, and of the directory
+abbrev pub lookup_reply : (xid links size links_of_directory size_of_directory : ℕ) → Entry
+lookup_reply xid links size links_of_directory size_of_directory =
+    success_reply 100003 3 xid (Word (codes "status") 0 ∷ Opaque Handle (codes "fh") (1 ∷ [])
+    ∷ Word (codes "attr") 1 ∷ attributes_of 1 links size
+    (Word (codes "attr") 1 ∷ attributes_of 2 links_of_directory size_of_directory []))
+
+-- SETATTR's reply (RFC 1813, section 3.3.2): wcc_data of a file
+abbrev pub setattr_reply : (xid size_before links size : ℕ) → Entry
+setattr_reply xid size_before links size =
+    success_reply 100003 2 xid (Word (codes "status") 0 ∷ Word (codes "before") 1
+    ∷ Hyper (codes "size") size_before ∷ Word (codes "mtime_sec") 0 ∷ Word (codes "mtime_nsec") 0
+    ∷ Word (codes "ctime_sec") 0 ∷ Word (codes "ctime_nsec") 0
+    ∷ Word (codes "attr") 1 ∷ attributes_of 1 links size [])
+
+-- what a lookup tells of a file stays
+abbrev pub MasksWcc : Type 0
+MasksWcc =
+    masked numbered_wcc (lookup_reply 7 1 5 3 4096 ∷ setattr_reply 8 9 1 5 ∷ [])
+    ≡ lookup_reply 7 1 5 1 2 ∷ setattr_reply 8 3 4 5 ∷ []
+
 -- GETATTRs of two files: their ids, and the seconds of their times
 abbrev pub getattrs_of_two : (first second sec : ℕ) → List Entry
 getattrs_of_two first second sec =

@@ -1,4 +1,5 @@
 -- Which values are masked, and what becomes of them.
+pub mod Spots
 pub mod Classes
 pub mod Ways
 pub mod Unnamed

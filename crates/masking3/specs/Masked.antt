@@ -1,18 +1,19 @@
 -- The masked form.
-use Rattle.std.specs.Prelude.{ℕ, ◌==◌, ◌&&◌, Bool, not, nat_eq, if◌then◌else◌, List, [], ◌∷◌, Option, None, Some, map}
+use Rattle.std.specs.Prelude.{ℕ, ◌==◌, ◌&&◌, Bool, not, nat_eq, if◌then◌else◌, List, [], ◌∷◌, ◌++◌, Option, None, Some, map}
 use Rattle.std.specs.List.{flat_map}
 use Rattle.byteorder.specs.Endian.{big_bytes}
 use Rattle.xdr3.specs.Item.{Item, Word, Hyper, Fixed}
-use Rattle.capture3.specs.declared.fault.Side.{Side}
-use Rattle.capture3.specs.declared.fault.Side.TheVariants.{Client, Server}
 use Rattle.capture3.specs.Entry.{Entry, Call, Reply}
 use Rattle.canon3.specs.Bytes.{bytes_of}
 use Rattle.canon3.specs.Rank.{rank}
 use Rattle.masking3.specs.declared.class.Class.{Class}
+use Rattle.masking3.specs.declared.spot.Spot.{Spot}
+use Rattle.masking3.specs.declared.spot.Spot.TheVariants.{InCall, InReply}
 use Rattle.masking3.specs.declared.ways.Way.{Way}
 use Rattle.masking3.specs.declared.ways.Way.TheVariants.{Keep, Zero, Number}
 use Rattle.masking3.specs.declared.ways.Ways.{Ways}
 use Rattle.masking3.specs.Classes.{class_of, position, class_value, zero_stays}
+use Rattle.masking3.specs.Spots.{next_spot}
 use Rattle.masking3.specs.Unnamed.{names_by}
 use Rattle.masking3.specs.Ways.{way_of}
 
@@ -28,16 +29,18 @@ value_where class None n = []
 value_where class (Some other) n =
     if (position class == position other) && not (is_zero_that_stays class n) then n ∷ [] else []
 
-abbrev pub value_in : Class → Side → Item → List ℕ
-value_in class side item = value_where class (class_of side item) (class_value item)
+abbrev pub value_in : Class → Spot → Item → List ℕ
+value_in class spot item = value_where class (class_of spot item) (class_value item)
 
--- the values of a class in a message of this side, in order
-abbrev pub values_in : Class → Side → List Item → List ℕ
-values_in class side items = flat_map (value_in class side) items
+-- the values of a class in the items of a message from this spot on, in order
+abbrev pub values_in : Class → Spot → List Item → List ℕ
+values_in class spot [] = []
+values_in class spot (item ∷ items) =
+    value_in class spot item ++ values_in class (next_spot spot item) items
 
 abbrev pub values_in_entry : Class → Entry → List ℕ
-values_in_entry class (Call items) = values_in class Client items
-values_in_entry class (Reply id items) = values_in class Server items
+values_in_entry class (Call items) = values_in class InCall items
+values_in_entry class (Reply id items) = values_in class InReply items
 values_in_entry class _ = []
 
 -- the values of a class in these entries, in order
@@ -68,19 +71,22 @@ with_value (Hyper name n) (Some m) = Hyper name m
 with_value (Fixed name bytes) (Some m) = Fixed name (big_bytes 8 m)
 with_value item (Some m) = item
 
--- an item of a message of this side whose value is masked, where these are the values of each class
-abbrev pub masked_item : Ways → (Class → List ℕ) → Side → Item → Item
-masked_item ways seen side item =
-    with_value item (substitute ways seen (class_of side item) (class_value item))
+-- an item at this spot whose value is masked, where these are the values of each class
+abbrev pub masked_item : Ways → (Class → List ℕ) → Spot → Item → Item
+masked_item ways seen spot item =
+    with_value item (substitute ways seen (class_of spot item) (class_value item))
 
-abbrev pub masked_items : Ways → (Class → List ℕ) → Side → List Item → List Item
-masked_items ways seen side items = map (masked_item ways seen side) items
+-- the items of a message from this spot on
+abbrev pub masked_items : Ways → (Class → List ℕ) → Spot → List Item → List Item
+masked_items ways seen spot [] = []
+masked_items ways seen spot (item ∷ items) =
+    masked_item ways seen spot item ∷ masked_items ways seen (next_spot spot item) items
 
 -- ---- entries
 
 abbrev pub masked_entry : Ways → (Class → List ℕ) → Entry → Entry
-masked_entry ways seen (Call items) = Call (masked_items ways seen Client items)
-masked_entry ways seen (Reply id items) = Reply id (masked_items ways seen Server items)
+masked_entry ways seen (Call items) = Call (masked_items ways seen InCall items)
+masked_entry ways seen (Reply id items) = Reply id (masked_items ways seen InReply items)
 masked_entry ways seen entry = entry
 
 -- each value of a class is masked in the way of its class, and numbers are by rank among all of

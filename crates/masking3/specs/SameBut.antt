@@ -1,18 +1,19 @@
 -- Captures that are the same but for the values that are masked.
-use Rattle.std.specs.Prelude.{◌≡◌, ◌⊎◌, ℕ, true, false, List, Option, None, Some}
+use Rattle.std.specs.Prelude.{◌≡◌, ◌⊎◌, ℕ, true, false, List, [], ◌∷◌, Option, None, Some}
 use Rattle.xdr3.specs.Item.{Item, Word, Hyper, Fixed}
 use Rattle.rpc_head.specs.declared.values.call.ProcId.{ProcId}
-use Rattle.capture3.specs.declared.fault.Side.{Side}
-use Rattle.capture3.specs.declared.fault.Side.TheVariants.{Client, Server}
 use Rattle.capture3.specs.Entry.{Entry, Begin, Call, Turn, Reply, Close, End}
 use Rattle.canon3.specs.Pairing.{AreBeside, OneToOne, Pairs}
 use Rattle.canon3.specs.Renaming.{Pairwise, Same}
 use Rattle.masking3.specs.declared.class.Class.{Class}
+use Rattle.masking3.specs.declared.spot.Spot.{Spot}
+use Rattle.masking3.specs.declared.spot.Spot.TheVariants.{InCall, InReply}
 use Rattle.masking3.specs.declared.ways.Way.{Way}
 use Rattle.masking3.specs.declared.ways.Way.TheVariants.{Keep, Zero, Number}
 use Rattle.masking3.specs.declared.ways.Ways.{Ways}
 use Rattle.masking3.specs.Classes.{class_of, class_value}
 use Rattle.masking3.specs.Masked.{is_zero_that_stays}
+use Rattle.masking3.specs.Spots.{next_spot}
 use Rattle.masking3.specs.Unnamed.{names_by}
 use Rattle.masking3.specs.Ways.{way_of}
 
@@ -46,19 +47,27 @@ abbrev pub ChangesOf : Ways → (Class → Pairs ℕ) → Option Class → Item 
 ChangesOf ways pairs None i j = i ≡ j
 ChangesOf ways pairs (Some class) i j = ChangesBy (way_of ways class) class (pairs class) i j
 
--- an item of a message of this side
-abbrev pub ChangesItem : Ways → (Class → Pairs ℕ) → Side → Item → Item → Type 0
-ChangesItem ways pairs side i j = ChangesOf ways pairs (class_of side i) i j
+-- an item at this spot
+abbrev pub ChangesItem : Ways → (Class → Pairs ℕ) → Spot → Item → Item → Type 0
+ChangesItem ways pairs spot i j = ChangesOf ways pairs (class_of spot i) i j
+
+-- the items of a message from this spot on
+pub data ChangesItems (ways : Ways) (pairs : Class → Pairs ℕ)
+    : Spot → List Item → List Item → Type 0 where
+  over : {spot : Spot} → ChangesItems ways pairs spot [] []
+  along : {spot : Spot} {i j : Item} {a b : List Item} → ChangesItem ways pairs spot i j
+      → ChangesItems ways pairs (next_spot spot i) a b
+      → ChangesItems ways pairs spot (i ∷ a) (j ∷ b)
 
 -- ---- entries
 
 -- only items of messages change
 pub data ChangesEntry (ways : Ways) (pairs : Class → Pairs ℕ) : Entry → Entry → Type 0 where
   begin : ChangesEntry ways pairs Begin Begin
-  call : {a b : List Item} → Pairwise (ChangesItem ways pairs Client) a b
+  call : {a b : List Item} → ChangesItems ways pairs InCall a b
       → ChangesEntry ways pairs (Call a) (Call b)
   turn : ChangesEntry ways pairs Turn Turn
-  reply : {id : ProcId} {a b : List Item} → Pairwise (ChangesItem ways pairs Server) a b
+  reply : {id : ProcId} {a b : List Item} → ChangesItems ways pairs InReply a b
       → ChangesEntry ways pairs (Reply id a) (Reply id b)
   close : ChangesEntry ways pairs Close Close
   end : ChangesEntry ways pairs End End

@@ -1,6 +1,6 @@
 -- What becomes of the values of each class.
 use Rattle.masking3.specs.declared.class.Class.{Class}
-use Rattle.masking3.specs.declared.class.Class.TheVariants.{Times, Stamps, Space, Ids, Fsids, Cookies, CookieVerifiers, CreateVerifiers, Owners}
+use Rattle.masking3.specs.declared.class.Class.TheVariants.{Times, Stamps, Space, Ids, Fsids, Cookies, CookieVerifiers, CreateVerifiers, Owners, Wcc}
 use Rattle.masking3.specs.declared.ways.Way.{Way}
 use Rattle.masking3.specs.declared.ways.Way.TheVariants.{Keep, Zero, Number}
 use Rattle.masking3.specs.declared.ways.Ways.{Ways}
@@ -15,6 +15,7 @@ way_of ways Cookies = ways.cookies
 way_of ways CookieVerifiers = ways.cookie_verifiers
 way_of ways CreateVerifiers = ways.create_verifiers
 way_of ways Owners = ways.owners
+way_of ways Wcc = ways.wcc
 
 -- what two ordinary runs of one script never share
 abbrev pub usual : Ways
@@ -29,4 +30,5 @@ usual = record {
   cookie_verifiers = Number;
   create_verifiers = Number;
   owners = Keep;
+  wcc = Keep;
 }

@@ -1,11 +1,11 @@
 //! The classes of values that two runs of one script never share, and the items that belong to them.
 
-ghost use Rattle.std.specs.Prelude.{◌≡◌};
-ghost use Rattle.masking3.specs.Classes.{class_of_fixed, class_of_group, class_of_hyper, class_of_word, position, zero_stays};
-ghost use Rattle.masking3.specs.machinery.MessageSide.{side_by_mtype};
+ghost use Rattle.std.specs.Prelude.{◌≡◌, ℕ, List};
+ghost use Rattle.masking3.specs.Classes.{class_in_wcc, class_of_fixed, class_of_group, class_of_hyper, class_of_word, position, zero_stays};
+ghost use Rattle.masking3.specs.machinery.MessageSpot.{class_found};
+ghost use Rattle.xdr3.specs.Item.{Fixed, Hyper, Word};
 
-use byteorder::{BigEndian, ByteOrder};
-use capture3::Side;
+use crate::spot::Spot;
 
 /// A class of values.
 #[derive(Clone, Copy, Debug, PartialEq, Eq)]
@@ -28,6 +28,9 @@ pub enum Class {
     CreateVerifiers,
     /// The users and groups of attributes, settings and AUTH_SYS credentials, with their lists of groups.
     Owners,
+    /// What a reply says of sizes and counts of links that others may change meanwhile: in weak cache
+    /// consistency data (RFC 1813, section 2.6), and of directories.
+    Wcc,
 }
 
 impl Class {
@@ -52,36 +55,35 @@ impl Class {
             Class::CookieVerifiers => 6,
             Class::CreateVerifiers => 7,
             Class::Owners => 8,
+            Class::Wcc => 9,
         }
     }
 }
 
-/// Returns the side of a message whose bytes so far are these: its xid, its mtype, which is 0 in a call (RFC
-/// 5531, section 9), and some more.
-fn side_by_mtype(body: &[u8]) -> Side
-    ensures { result ≡ side_by_mtype body.now }
-{
-    if body.len() >= 8 && BigEndian::read_u32(&body[4..]) == 0 {
-        Side::Client
-    } else {
-        Side::Server
-    }
-}
-
 /// Returns the class of a word `group`. In a reply it tells whether a group of an export follows.
-fn class_of_group(side: Side) -> Option<Class>
-    ensures { result ≡ class_of_group side }
+fn class_of_group(spot: Spot) -> Option<Class>
+    ensures { result ≡ class_of_group spot }
 {
-    match side {
-        Side::Client => Some(Class::Owners),
-        Side::Server => None,
+    match spot {
+        Spot::InCall => Some(Class::Owners),
+        Spot::InReply | Spot::InDirectory | Spot::InWcc => None,
     }
 }
 
-/// Returns the class of a word of this name, in a message whose bytes before the word are these.
+/// Returns the class of a size, or of a count of links.
+fn class_in_wcc(spot: Spot) -> Option<Class>
+    ensures { result ≡ class_in_wcc spot }
+{
+    match spot {
+        Spot::InDirectory | Spot::InWcc => Some(Class::Wcc),
+        Spot::InCall | Spot::InReply => None,
+    }
+}
+
+/// Returns the class of a word of this name.
 #[tactic(auto, unfolding(nfs3_types::specs::Names::names, rpc_head::specs::Names::head_names))]
-pub(crate) fn class_of_word(name: &str, body: &[u8]) -> Option<Class>
-    ensures { result ≡ class_of_word (side_by_mtype body.now) name.now }
+fn class_of_word(spot: Spot, name: &str) -> Option<Class>
+    ensures { result ≡ class_of_word spot name.now }
 {
     match name {
         "atime_sec" | "atime_nsec" | "mtime_sec" | "mtime_nsec" | "ctime_sec" | "ctime_nsec" => {
@@ -90,15 +92,26 @@ pub(crate) fn class_of_word(name: &str, body: &[u8]) -> Option<Class>
         "stamp" => Some(Class::Stamps),
         "invarsec" => Some(Class::Space),
         "uid" | "gid" => Some(Class::Owners),
-        "group" => class_of_group(side_by_mtype(body)),
+        "group" => class_of_group(spot),
+        "nlink" => class_in_wcc(spot),
         _ => None,
+    }
+}
+
+/// Returns the class of a word of this name, if its spot is known.
+pub(crate) fn word_class(spot: Option<Spot>, name: &str) -> Option<Class>
+    ensures { (n : ℕ) → result ≡ class_found spot (Word name.now n) }
+{
+    match spot {
+        Some(spot) => class_of_word(spot, name),
+        None => None,
     }
 }
 
 /// Returns the class of a number of eight bytes of this name.
 #[tactic(auto, unfolding(nfs3_types::specs::Names::names))]
-pub(crate) fn class_of_hyper(name: &str) -> Option<Class>
-    ensures { result ≡ class_of_hyper name.now }
+fn class_of_hyper(spot: Spot, name: &str) -> Option<Class>
+    ensures { result ≡ class_of_hyper spot name.now }
 {
     match name {
         "used" | "tbytes" | "fbytes" | "abytes" | "tfiles" | "ffiles" | "afiles" => {
@@ -107,18 +120,39 @@ pub(crate) fn class_of_hyper(name: &str) -> Option<Class>
         "fileid" => Some(Class::Ids),
         "fsid" => Some(Class::Fsids),
         "cookie" => Some(Class::Cookies),
+        "size" => class_in_wcc(spot),
         _ => None,
+    }
+}
+
+/// Returns the class of a number of eight bytes of this name, if its spot is known.
+pub(crate) fn hyper_class(spot: Option<Spot>, name: &str) -> Option<Class>
+    ensures { (n : ℕ) → result ≡ class_found spot (Hyper name.now n) }
+{
+    match spot {
+        Some(spot) => class_of_hyper(spot, name),
+        None => None,
     }
 }
 
 /// Returns the class of eight bytes of this name.
 #[tactic(auto, unfolding(nfs3_types::specs::Names::names))]
-pub(crate) fn class_of_fixed(name: &str) -> Option<Class>
+fn class_of_fixed(name: &str) -> Option<Class>
     ensures { result ≡ class_of_fixed name.now }
 {
     match name {
         "cookieverf" => Some(Class::CookieVerifiers),
         "createverf" => Some(Class::CreateVerifiers),
         _ => None,
+    }
+}
+
+/// Returns the class of eight bytes of this name, if their spot is known.
+pub(crate) fn fixed_class(spot: Option<Spot>, name: &str) -> Option<Class>
+    ensures { (bytes : List ℕ) → result ≡ class_found spot (Fixed name.now bytes) }
+{
+    match spot {
+        Some(_) => class_of_fixed(name),
+        None => None,
     }
 }

@@ -26,6 +26,7 @@ pub(crate) struct ClassTables<S: BuildHasher + Drop> {
     pub(crate) cookie_verifiers: Numbers<u64, S>,
     pub(crate) create_verifiers: Numbers<u64, S>,
     pub(crate) owners: Numbers<u64, S>,
+    pub(crate) wcc: Numbers<u64, S>,
 }
 
 impl<S: BuildHasher + Drop> ClassTables<S> {
@@ -45,6 +46,7 @@ impl<S: BuildHasher + Drop> ClassTables<S> {
             cookie_verifiers: Numbers::new(alloc, hashers.cookie_verifiers),
             create_verifiers: Numbers::new(alloc, hashers.create_verifiers),
             owners: Numbers::new(alloc, hashers.owners),
+            wcc: Numbers::new(alloc, hashers.wcc),
         }
     }
 
@@ -117,6 +119,7 @@ impl<S: BuildHasher + Drop> ClassTables<S> {
             Class::CookieVerifiers => self.cookie_verifiers.number_of(n),
             Class::CreateVerifiers => self.create_verifiers.number_of(n),
             Class::Owners => self.owners.number_of(n),
+            Class::Wcc => self.wcc.number_of(n),
         }
     }
 }

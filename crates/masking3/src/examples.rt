@@ -1,7 +1,7 @@
 //! Small captures worked by hand. Each function ensures what the definitions say of some entries, and its
 //! proof computes it.
 
-ghost use Rattle.masking3.specs.Examples.{ComparesRuns, MasksCredentials, MasksGetattrs, MasksOwners, MasksReaddirPlus, MasksReaddirs};
+ghost use Rattle.masking3.specs.Examples.{ComparesRuns, MasksCredentials, MasksGetattrs, MasksOwners, MasksReaddirPlus, MasksReaddirs, MasksWcc};
 
 /// Three GETATTR replies: times and space are 0, and ids of files and of file systems are numbered apart.
 pub fn getattr_replies()
@@ -28,6 +28,12 @@ pub fn system_credential()
 /// have the same number, lists of groups too, and the words of the reply stay.
 pub fn credential_groups()
     ensures { MasksOwners }
+{}
+
+/// A LOOKUP reply and wcc_data, with numbered sizes and counts of links: what is told of a file that is looked
+/// up stays, and what is told of its directory and in wcc_data has numbers.
+pub fn weak_cache_consistency()
+    ensures { MasksWcc }
 {}
 
 /// Two runs that differ in times and in ids, one to one, are the same but for what is masked. Runs in which

@@ -14,6 +14,7 @@ pub struct ClassHashers<S: BuildHasher + Drop> {
     pub cookie_verifiers: S,
     pub create_verifiers: S,
     pub owners: S,
+    pub wcc: S,
 }
 
 /// A hasher for each table: the calls of the open connection, the file handles, and the values of each

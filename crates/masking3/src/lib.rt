@@ -8,10 +8,12 @@ mod hashers;
 pub mod laws;
 mod masked_form;
 mod masking_writer;
+mod spot;
 mod unnamed_body;
 mod ways;
 
 pub use class::Class;
 pub use hashers::{ClassHashers, MaskHashers};
 pub use masked_form::mask;
+pub use spot::Spot;
 pub use ways::{Way, Ways};

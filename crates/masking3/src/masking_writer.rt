@@ -9,13 +9,14 @@ ghost use Rattle.canon3.specs.SinkWrites.{AppendsFront};
 ghost use Rattle.canon3.specs.WriteErrors.{CountsWriting, IsOfWriting};
 ghost use Rattle.masking3.specs.Ways.{usual};
 ghost use Rattle.capture3.specs.declared.fault.Side.{Side};
-ghost use Rattle.masking3.specs.machinery.MaskingWriter.{HasMemory, MaskStands, after_messages, as_in_calls, written_as};
-ghost use Rattle.masking3.specs.machinery.MessageSide.{BeginsOn};
+ghost use Rattle.masking3.specs.machinery.MaskingWriter.{HasMemory, MaskStands, after_messages, told_items, written_as};
+ghost use Rattle.masking3.specs.machinery.MessageSpot.{BeginsOn, first_spot};
 ghost use Rattle.masking3.specs.machinery.UnnamedBody.{body_by, unnamed_body};
 
-use crate::class::{class_of_fixed, class_of_hyper, class_of_word};
+use crate::class::{fixed_class, hyper_class, word_class};
 use crate::class_tables::ClassTables;
 use crate::hashers::ClassHashers;
+use crate::spot::{Spot, found_next};
 use crate::unnamed_body::without_name;
 use crate::ways::{Way, Ways};
 use byteorder::{BigEndian, ByteOrder};
@@ -44,6 +45,8 @@ pub(crate) struct MaskingWriter<P: Plan, S: BuildHasher + Drop> {
     pub(crate) handles: HandleTable<S>,
     pub(crate) classes: ClassTables<S>,
     pub(crate) writer: Writer,
+    /// Where the next item stands, once the side of its message is known.
+    pub(crate) spot: Option<Spot>,
     /// A call without the name of its machine.
     unnamed: Vec<u8>,
     /// Memory ran out, and the tables may have more than was written.
@@ -67,6 +70,7 @@ impl<P: Plan, S: BuildHasher + Drop> MaskingWriter<P, S> {
             handles: HandleTable::new(alloc, handles),
             classes: ClassTables::new(alloc, ways, classes),
             writer: Writer::new(alloc),
+            spot: None,
             unnamed: Vec::new(alloc),
             failed: false,
             plan: PhantomData,
@@ -78,17 +82,19 @@ impl<P: Plan, S: BuildHasher + Drop> MaskingWriter<P, S> {
         ensures stands { (front items : List Item) (side : Side) → BeginsOn side items
             → MaskStands P.ways self.old (after_messages front items)
             → MaskStands P.ways self.new
-            (after_messages (front ++ as_in_calls side items) []) }
+            (after_messages (front ++ told_items (first_spot side) items) []) }
         ensures going { HasMemory self.old → HasMemory self.new }
     {
         self.writer.clear();
+        self.spot = None;
     }
 
     fn write_masked_word(&mut self, name: &'static str, n: u32) -> Result<(), AllocError>
         ensures ok { OnOk result
             (Adds (MaskStands P.ways) self.old self.new (Word name.now n ∷ [])) }
     {
-        let class = class_of_word(name, self.writer.bytes());
+        let class = word_class(self.spot, name);
+        self.spot = found_next(self.spot, name, n);
         match self.classes.substitute(class, u64::from(n))? {
             Some(substitute) => self.writer.word(name, substitute),
             None => self.writer.word(name, n),
@@ -99,7 +105,8 @@ impl<P: Plan, S: BuildHasher + Drop> MaskingWriter<P, S> {
         ensures ok { OnOk result
             (Adds (MaskStands P.ways) self.old self.new (Hyper name.now n ∷ [])) }
     {
-        match self.classes.substitute(class_of_hyper(name), n)? {
+        let class = hyper_class(self.spot, name);
+        match self.classes.substitute(class, n)? {
             Some(substitute) => self.writer.hyper(name, u64::from(substitute)),
             None => self.writer.hyper(name, n),
         }
@@ -109,8 +116,9 @@ impl<P: Plan, S: BuildHasher + Drop> MaskingWriter<P, S> {
         ensures ok { OnOk result
             (Adds (MaskStands P.ways) self.old self.new (Fixed name.now bytes.now ∷ [])) }
     {
+        let class = fixed_class(self.spot, name);
         let value = BigEndian::read_u64(bytes);
-        match self.classes.substitute(class_of_fixed(name), value)? {
+        match self.classes.substitute(class, value)? {
             Some(substitute) => {
                 let mut hyper = [0u8; 8];
                 BigEndian::write_u64(&mut hyper, u64::from(substitute));

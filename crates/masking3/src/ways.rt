@@ -30,6 +30,7 @@ pub struct Ways {
     pub cookie_verifiers: Way,
     pub create_verifiers: Way,
     pub owners: Way,
+    pub wcc: Way,
 }
 
 impl Ways {
@@ -49,11 +50,12 @@ impl Ways {
             cookie_verifiers: Way::Keep,
             create_verifiers: Way::Keep,
             owners: Way::Keep,
+            wcc: Way::Keep,
         }
     }
 
     /// Returns the ways for what two ordinary runs of one script never share: times, stamps and space become
-    /// 0, and names empty. Owners stay, and all else is numbered.
+    /// 0, and names empty. Owners and `wcc` stay, and all else is numbered.
     pub fn usual() -> Ways
         ensures { result ≡ usual }
     {
@@ -68,6 +70,7 @@ impl Ways {
             cookie_verifiers: Way::Number,
             create_verifiers: Way::Number,
             owners: Way::Keep,
+            wcc: Way::Keep,
         }
     }
 
@@ -85,6 +88,7 @@ impl Ways {
             Class::CookieVerifiers => self.cookie_verifiers,
             Class::CreateVerifiers => self.create_verifiers,
             Class::Owners => self.owners,
+            Class::Wcc => self.wcc,
         }
     }
 }

@@ -28,5 +28,6 @@ fn class_hashers(rt: &HostRuntime) -> io::Result<ClassHashers<SecretHasher>> {
         cookie_verifiers: SecretHasher::new(rt)?,
         create_verifiers: SecretHasher::new(rt)?,
         owners: SecretHasher::new(rt)?,
+        wcc: SecretHasher::new(rt)?,
     })
 }

@@ -2,4 +2,5 @@
 pub mod ClassLemmas
 pub mod FewValues
 pub mod FirstEntries
-pub mod SideLemmas
+pub mod SpotLemmas
+pub mod MessageSpotLemmas

@@ -1,3 +1,4 @@
 -- Writing the masked form.
 pub mod WriterLemmas
 pub mod FormLemmas
+pub mod ToldItems

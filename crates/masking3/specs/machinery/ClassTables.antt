@@ -13,7 +13,7 @@ use Rattle.masking3.specs.Ways.{way_of}
 abbrev pub tables_in : {S H : Type 0} → ClassTables S H → List (List ℕ)
 tables_in t =
     t.times ∷ t.stamps ∷ t.space ∷ t.ids ∷ t.fsids ∷ t.cookies ∷ t.cookie_verifiers
-    ∷ t.create_verifiers ∷ t.owners ∷ []
+    ∷ t.create_verifiers ∷ t.owners ∷ t.wcc ∷ []
 
 -- the table at a place holds these values
 abbrev pub HoldsAt : List (List ℕ) → ℕ → List ℕ → Type 0

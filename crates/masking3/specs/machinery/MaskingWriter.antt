@@ -1,10 +1,8 @@
 -- A writer of messages with masked values.
-use Rattle.std.specs.Prelude.{◌≡◌, ℕ, false, bytes_eq, if◌then◌else◌, List, [], ◌∷◌, ◌++◌, length, map}
+use Rattle.std.specs.Prelude.{◌≡◌, ℕ, ◌==◌, ◌&&◌, false, not, if◌then◌else◌, List, [], ◌∷◌, ◌++◌, length, Option, None, Some}
 use Rattle.std.specs.List.{flat_map}
-use Rattle.xdr3.specs.Item.{Item, Word, word_bytes, zero_spelling}
-use Rattle.rpc_head.specs.Names.{head_names}
+use Rattle.xdr3.specs.Item.{Item, Word, Hyper, word_bytes, zero_spelling}
 use Rattle.capture3.specs.declared.fault.Side.{Side}
-use Rattle.capture3.specs.declared.fault.Side.TheVariants.{Client, Server}
 use Rattle.capture3.specs.Entry.{Entry, Call, Reply}
 use Rattle.capture3.specs.declared.reader.entry.Kind.{Kind}
 use Rattle.capture3.specs.declared.reader.entry.Kind.TheVariants as kinds
@@ -12,37 +10,52 @@ use Rattle.canon3.specs.Bytes.{chunk_bytes, record_bytes}
 use Rattle.canon3.specs.HandleTable.{Gathers}
 use Rattle.masking3.specs.declared.class.Class.{Class}
 use Rattle.masking3.specs.declared.masking_writer.MaskingWriter.{MaskingWriter}
+use Rattle.masking3.specs.declared.spot.Spot.{Spot}
+use Rattle.masking3.specs.declared.spot.Spot.TheVariants.{InCall, InReply}
 use Rattle.masking3.specs.declared.ways.Way.{Way}
 use Rattle.masking3.specs.declared.ways.Ways.{Ways}
-use Rattle.masking3.specs.Masked.{masked_items, values_in}
+use Rattle.masking3.specs.Classes.{class_of, class_value, position}
+use Rattle.masking3.specs.Masked.{is_zero_that_stays, masked_items, values_in}
+use Rattle.masking3.specs.Spots.{next_spot}
 use Rattle.masking3.specs.machinery.ClassTables.{HoldsValues, tables_in}
-use Rattle.masking3.specs.machinery.MessageSide.{BeginsOn}
+use Rattle.masking3.specs.machinery.MessageSpot.{BeginsOn, first_spot, found_after}
 use Rattle.masking3.specs.machinery.UnnamedBody.{body_by}
 
 -- ---- the messages before
 
--- an item of a reply, as an item of a call that has the same class
-abbrev pub as_in_call : Item → Item
-as_in_call (Word name n) = Word (if bytes_eq name head_names.group then [] else name) n
-as_in_call item = item
+-- What stands for an item of this class, or of none: its value, under the place of the class, or
+-- the item.
+abbrev pub told_item : Option Class → Item → Item
+told_item (Some class) item = Hyper (position class ∷ []) (class_value item)
+told_item None (Hyper name n) = Hyper [] n
+told_item None item = item
 
-abbrev pub as_in_calls : Side → List Item → List Item
-as_in_calls Client items = items
-as_in_calls Server items = map as_in_call items
+-- what stands for the items of a message from this spot on
+abbrev pub told_items : Spot → List Item → List Item
+told_items spot [] = []
+told_items spot (item ∷ items) =
+    told_item (class_of spot item) item ∷ told_items (next_spot spot item) items
 
-abbrev pub entry_as_call : Entry → List Item
-entry_as_call (Call items) = as_in_calls Client items
-entry_as_call (Reply id items) = as_in_calls Server items
-entry_as_call _ = []
+abbrev pub told_entry : Entry → List Item
+told_entry (Call items) = told_items InCall items
+told_entry (Reply id items) = told_items InReply items
+told_entry _ = []
 
--- The items of the messages before, as items of calls, stand in front of the message's own, and
--- how many these are in front of all.
+-- the value of a class in what stands for an item
+abbrev pub told_value : Class → Item → List ℕ
+told_value class (Hyper (place ∷ name) n) =
+    if (position class == place) && not (is_zero_that_stays class n) then n ∷ [] else []
+told_value class _ = []
+
+-- What stands for the items of the messages before is in front of the message's own, and how many
+-- these are in front of all.
 abbrev pub after_messages : (front items : List Item) → List Item
 after_messages front items = Word [] (length front) ∷ (front ++ items)
 
 -- the values of each class so far
 abbrev pub values_so_far : (front : List Item) → Side → (items : List Item) → Class → List ℕ
-values_so_far front side items class = values_in class Client front ++ values_in class side items
+values_so_far front side items class =
+    flat_map (told_value class) front ++ values_in class (first_spot side) items
 
 -- ---- a message under way, after these items
 
@@ -51,8 +64,9 @@ pub record HasMaskedUnderWay {P S H : Type 0} (ways : Ways) (w : MaskingWriter P
   pub ways_are : w.classes.ways ≡ ways
   pub tables : HoldsValues ways (tables_in w.classes) (values_so_far front side items)
   pub handles : Gathers w.handles (front ++ items)
+  pub spot_is : w.spot ≡ found_after items
   pub written : w.writer
-      ≡ zero_spelling (masked_items ways (values_so_far front side items) side items)
+      ≡ zero_spelling (masked_items ways (values_so_far front side items) (first_spot side) items)
 
 -- memory did not run out
 abbrev pub HasMemory : {P S H : Type 0} → MaskingWriter P S H → Type 0
@@ -66,7 +80,7 @@ MaskStands ways w all = HasMemory w → (front : List Item) × (items : List Ite
 
 -- what stands for entries that were written
 abbrev pub told_before : List Entry → List Item
-told_before entries = after_messages (flat_map entry_as_call entries) []
+told_before entries = after_messages (flat_map told_entry entries) []
 
 -- the word 0, the word 1, or a message with this body, where names of machines are masked so
 abbrev pub written_as : Way → Kind → List ℕ → List ℕ

@@ -5,7 +5,7 @@ use Rattle.std.proofs.lemmas.Bool.Decides.{Decides-eqb}
 use Rattle.std.proofs.lemmas.List.{get_or-set_other}
 use Rattle.canon3.proofs.Lemmas.Numbers.RankLemmas.{by_test}
 use Rattle.masking3.specs.declared.class.Class.{Class}
-use Rattle.masking3.specs.declared.class.Class.TheVariants.{Times, Stamps, Space, Ids, Fsids, Cookies, CookieVerifiers, CreateVerifiers, Owners}
+use Rattle.masking3.specs.declared.class.Class.TheVariants.{Times, Stamps, Space, Ids, Fsids, Cookies, CookieVerifiers, CreateVerifiers, Owners, Wcc}
 use Rattle.masking3.specs.declared.ways.Way.TheVariants.{Number}
 use Rattle.masking3.specs.declared.ways.Ways.{Ways}
 use Rattle.masking3.specs.Classes.{position}
@@ -25,7 +25,8 @@ class_at n =
     (if n == 5 then Cookies else
     (if n == 6 then CookieVerifiers else
     (if n == 7 then CreateVerifiers else
-    Owners))))))))
+    (if n == 8 then Owners else
+    Wcc)))))))))
 
 class_back : (c : Class) → class_at (position c) ≡ c
 unfolding class_at
@@ -38,17 +39,19 @@ class_back Cookies = refl
 class_back CookieVerifiers = refl
 class_back CreateVerifiers = refl
 class_back Owners = refl
+class_back Wcc = refl
 
-pub for_each : (P : Class → Type 0) → P Times → P Stamps → P Space → P Ids → P Fsids → P Cookies → P CookieVerifiers → P CreateVerifiers → P Owners → (c : Class) → P c
-for_each P a b c d e f g h i Times = a
-for_each P a b c d e f g h i Stamps = b
-for_each P a b c d e f g h i Space = c
-for_each P a b c d e f g h i Ids = d
-for_each P a b c d e f g h i Fsids = e
-for_each P a b c d e f g h i Cookies = f
-for_each P a b c d e f g h i CookieVerifiers = g
-for_each P a b c d e f g h i CreateVerifiers = h
-for_each P a b c d e f g h i Owners = i
+pub for_each : (P : Class → Type 0) → P Times → P Stamps → P Space → P Ids → P Fsids → P Cookies → P CookieVerifiers → P CreateVerifiers → P Owners → P Wcc → (c : Class) → P c
+for_each P a b c d e f g h i j Times = a
+for_each P a b c d e f g h i j Stamps = b
+for_each P a b c d e f g h i j Space = c
+for_each P a b c d e f g h i j Ids = d
+for_each P a b c d e f g h i j Fsids = e
+for_each P a b c d e f g h i j Cookies = f
+for_each P a b c d e f g h i j CookieVerifiers = g
+for_each P a b c d e f g h i j CreateVerifiers = h
+for_each P a b c d e f g h i j Owners = i
+for_each P a b c d e f g h i j Wcc = j
 
 pub same_class : (c d : Class) → position c ≡ position d → c ≡ d
 same_class c d e = sym (class_back c) ∙ (ap class_at e ∙ class_back d)

@@ -22,18 +22,18 @@ use Rattle.masking3.specs.Masked.{masked, masked_values, values}
 use Rattle.masking3.specs.SameBut.{SameBut}
 use Rattle.masking3.specs.Unnamed.{named_by, names_by, unnamed_items}
 use Rattle.masking3.proofs.Lemmas.Classes.FewValues.{few_of_first}
+use Rattle.masking3.proofs.Lemmas.Classes.SpotLemmas.{xid_free}
 use Rattle.masking3.proofs.Lemmas.Masked.MaskedFiles.{masked_is_file}
 use Rattle.masking3.proofs.Lemmas.Masked.MaskedLemmas.{after, masked-append}
-use Rattle.masking3.proofs.Lemmas.Masked.MaskedShapes.{xid_free}
 use Rattle.masking3.proofs.Lemmas.Masked.SameButLemmas.{HasFreeXid, StartsFree, same_but_from_same, same_from_same_but, same_masked}
 use Rattle.masking3.proofs.Lemmas.Unnamed.UnnamedLemmas.{all_values, values_of_named}
 use Rattle.masking3.proofs.Lemmas.Unnamed.UnnamedRenamings.{same_named}
 
 free_call : (m : List Item) → IsSpelledCall m → StartsFree m
-free_call m s = let h = is_headed_call m s.0.0 in subst StartsFree (sym h.is) (λ side. xid_free side)
+free_call m s = let h = is_headed_call m s.0.0 in subst StartsFree (sym h.is) xid_free
 
 free_reply : (r : ReplyItems) → IsSpelledReply r → StartsFree r.items
-free_reply r s = let h = is_headed_reply r.id r.items s.0.0 in subst StartsFree (sym h.is) (λ side. xid_free side)
+free_reply r s = let h = is_headed_reply r.id r.items s.0.0 in subst StartsFree (sym h.is) xid_free
 
 pub all_in_front : (P : Entry → Type 0) (a b : List Entry) → AllByRecursion P (a ++ b) → AllByRecursion P a
 all_in_front P [] b h = tt

@@ -7,8 +7,6 @@ use Rattle.std.proofs.lemmas.Grind.{flat_map-append}
 use Rattle.std.proofs.lemmas.List.{map-append}
 use Rattle.xdr3.specs.Item.{Item}
 use Rattle.capture3.specs.Capture.{One, magic}
-use Rattle.capture3.specs.declared.fault.Side.{Side}
-use Rattle.capture3.specs.declared.fault.Side.TheVariants.{Client, Server}
 use Rattle.capture3.specs.Entry.{Entry, Begin, Call, Turn, Reply, Close, End}
 use Rattle.canon3.specs.Bytes.{bytes_of, entry_bytes}
 use Rattle.canon3.specs.Laws.{AreFirst}
@@ -16,11 +14,14 @@ use Rattle.canon3.specs.Pairing.{Member, here}
 use Rattle.canon3.specs.machinery.FormSteps.{are_some, magic_unless}
 use Rattle.canon3.proofs.Lemmas.Numbers.RankLemmas.{by_test, member-append_left, member-append_right, rank-append}
 use Rattle.masking3.specs.declared.class.Class.{Class}
+use Rattle.masking3.specs.declared.spot.Spot.{Spot}
+use Rattle.masking3.specs.declared.spot.Spot.TheVariants.{InCall, InReply}
 use Rattle.masking3.specs.declared.ways.Way.{Way}
 use Rattle.masking3.specs.declared.ways.Way.TheVariants.{Keep, Zero, Number}
 use Rattle.masking3.specs.declared.ways.Ways.{Ways}
 use Rattle.masking3.specs.Classes.{class_of, position, class_value}
 use Rattle.masking3.specs.Masked.{by_way, is_zero_that_stays, masked, masked_bytes, masked_entry, masked_item, masked_items, masked_values, number_among, substitute, value_in, value_where, values, values_in, values_in_entry, with_value}
+use Rattle.masking3.specs.Spots.{next_spot}
 use Rattle.masking3.specs.Unnamed.{named_entry, names_by}
 use Rattle.masking3.specs.Ways.{way_of}
 use Rattle.masking3.proofs.Lemmas.Classes.ClassLemmas.{seen_alike}
@@ -32,37 +33,38 @@ value_given d n f = rw (f, (Decides-eqb (position d) (position d)).1 refl) refl
 
 -- ---- values that were seen
 
--- the value of an item in a message of this side, where it has one, is among these of its class
-abbrev pub IsAmong : (Class → List ℕ) → Side → Item → Type 0
-IsAmong seen side i = (d : Class) → class_of side i ≡ Some d → is_zero_that_stays d (class_value i) ≡ false → Member (class_value i) (seen d)
+-- the value of an item at this spot, where it has one, is among these of its class
+abbrev pub IsAmong : (Class → List ℕ) → Spot → Item → Type 0
+IsAmong seen spot i = (d : Class) → class_of spot i ≡ Some d → is_zero_that_stays d (class_value i) ≡ false → Member (class_value i) (seen d)
 
-abbrev pub ItemsAreAmong : (Class → List ℕ) → Side → List Item → Type 0
-ItemsAreAmong seen side items = AllByRecursion (IsAmong seen side) items
+abbrev pub ItemsAreAmong : (Class → List ℕ) → Spot → List Item → Type 0
+ItemsAreAmong seen spot [] = ⊤
+ItemsAreAmong seen spot (i ∷ items) = IsAmong seen spot i × ItemsAreAmong seen (next_spot spot i) items
 
 abbrev pub EntryIsAmong : (Class → List ℕ) → Entry → Type 0
-EntryIsAmong seen (Call items) = ItemsAreAmong seen Client items
-EntryIsAmong seen (Reply id items) = ItemsAreAmong seen Server items
+EntryIsAmong seen (Call items) = ItemsAreAmong seen InCall items
+EntryIsAmong seen (Reply id items) = ItemsAreAmong seen InReply items
 EntryIsAmong seen _ = ⊤
 
 abbrev pub AreAmong : (Class → List ℕ) → List Entry → Type 0
 AreAmong seen entries = AllByRecursion (EntryIsAmong seen) entries
 
-own_value : (d : Class) (side : Side) (i : Item) → class_of side i ≡ Some d → is_zero_that_stays d (class_value i) ≡ false → Member (class_value i) (value_in d side i)
-own_value d side i is f = subst (Member (class_value i)) (sym (ap (λ o. value_where d o (class_value i)) is ∙ value_given d (class_value i) f)) here
+own_value : (d : Class) (spot : Spot) (i : Item) → class_of spot i ≡ Some d → is_zero_that_stays d (class_value i) ≡ false → Member (class_value i) (value_in d spot i)
+own_value d spot i is f = subst (Member (class_value i)) (sym (ap (λ o. value_where d o (class_value i)) is ∙ value_given d (class_value i) f)) here
 
 module _ (seen : Class → List ℕ) where
-  pub items_among : (side : Side) (items : List Item) → ((d : Class) (x : ℕ) → Member x (values_in d side items) → Member x (seen d)) → ItemsAreAmong seen side items
-  items_among side [] within = tt
-  items_among side (i ∷ items) within = (
-    (λ d is f. within d (class_value i) (member-append_left (values_in d side items) (own_value d side i is f))),
-    items_among side items (λ d x m. within d x (member-append_right (value_in d side i) m)),
+  pub items_among : (spot : Spot) (items : List Item) → ((d : Class) (x : ℕ) → Member x (values_in d spot items) → Member x (seen d)) → ItemsAreAmong seen spot items
+  items_among spot [] within = tt
+  items_among spot (i ∷ items) within = (
+    (λ d is f. within d (class_value i) (member-append_left (values_in d (next_spot spot i) items) (own_value d spot i is f))),
+    items_among (next_spot spot i) items (λ d x m. within d x (member-append_right (value_in d spot i) m)),
   )
 
   entry_among : (e : Entry) → ((d : Class) (x : ℕ) → Member x (values_in_entry d e) → Member x (seen d)) → EntryIsAmong seen e
   entry_among Begin within = tt
-  entry_among (Call items) within = items_among Client items within
+  entry_among (Call items) within = items_among InCall items within
   entry_among Turn within = tt
-  entry_among (Reply id items) within = items_among Server items within
+  entry_among (Reply id items) within = items_among InReply items within
   entry_among Close within = tt
   entry_among End within = tt
 
@@ -82,8 +84,8 @@ module _ (ways : Ways) (seen more : Class → List ℕ) where
   abbrev followed : Class → List ℕ
   followed d = seen d ++ more d
 
-  number_stays : (side : Side) (i : Item) (d : Class) → IsAmong seen side i → class_of side i ≡ Some d → number_among (followed d) d (class_value i) ≡ number_among (seen d) d (class_value i)
-  number_stays side i d among is = by_test (is_zero_that_stays d (class_value i))
+  number_stays : (spot : Spot) (i : Item) (d : Class) → IsAmong seen spot i → class_of spot i ≡ Some d → number_among (followed d) d (class_value i) ≡ number_among (seen d) d (class_value i)
+  number_stays spot i d among is = by_test (is_zero_that_stays d (class_value i))
       (λ t. rw t refl)
       (λ f. rw f (rank-append nat_eq Decides-eqb (more d) (among d is f)))
 
@@ -92,22 +94,22 @@ module _ (ways : Ways) (seen more : Class → List ℕ) where
   way_stays Zero d n e = refl
   way_stays Number d n e = ap Some e
 
-  substitute_stays : (side : Side) (i : Item) (o : Option Class) → class_of side i ≡ o → IsAmong seen side i → substitute ways followed o (class_value i) ≡ substitute ways seen o (class_value i)
-  substitute_stays side i None is among = refl
-  substitute_stays side i (Some d) is among = way_stays (way_of ways d) d (class_value i) (number_stays side i d among is)
+  substitute_stays : (spot : Spot) (i : Item) (o : Option Class) → class_of spot i ≡ o → IsAmong seen spot i → substitute ways followed o (class_value i) ≡ substitute ways seen o (class_value i)
+  substitute_stays spot i None is among = refl
+  substitute_stays spot i (Some d) is among = way_stays (way_of ways d) d (class_value i) (number_stays spot i d among is)
 
-  item_stays : (side : Side) (i : Item) → IsAmong seen side i → masked_item ways followed side i ≡ masked_item ways seen side i
-  item_stays side i among = ap (with_value i) (substitute_stays side i (class_of side i) refl among)
+  item_stays : (spot : Spot) (i : Item) → IsAmong seen spot i → masked_item ways followed spot i ≡ masked_item ways seen spot i
+  item_stays spot i among = ap (with_value i) (substitute_stays spot i (class_of spot i) refl among)
 
-  pub items_stay : (side : Side) (items : List Item) → ItemsAreAmong seen side items → masked_items ways followed side items ≡ masked_items ways seen side items
-  items_stay side [] among = refl
-  items_stay side (i ∷ items) among = ap₂ (λ (j : Item) (l : List Item). j ∷ l) (item_stays side i among.0) (items_stay side items among.1)
+  pub items_stay : (spot : Spot) (items : List Item) → ItemsAreAmong seen spot items → masked_items ways followed spot items ≡ masked_items ways seen spot items
+  items_stay spot [] among = refl
+  items_stay spot (i ∷ items) among = ap₂ (λ (j : Item) (l : List Item). j ∷ l) (item_stays spot i among.0) (items_stay (next_spot spot i) items among.1)
 
   entry_stays : (e : Entry) → EntryIsAmong seen e → masked_entry ways followed e ≡ masked_entry ways seen e
   entry_stays Begin among = refl
-  entry_stays (Call items) among = ap Call (items_stay Client items among)
+  entry_stays (Call items) among = ap Call (items_stay InCall items among)
   entry_stays Turn among = refl
-  entry_stays (Reply id items) among = ap (Reply id) (items_stay Server items among)
+  entry_stays (Reply id items) among = ap (Reply id) (items_stay InReply items among)
   entry_stays Close among = refl
   entry_stays End among = refl
 
@@ -116,8 +118,8 @@ module _ (ways : Ways) (seen more : Class → List ℕ) where
   entries_stay (e ∷ a) among = ap₂ (λ (f : Entry) (l : List Entry). f ∷ l) (entry_stays e among.0) (entries_stay a among.1)
 
 -- an item that has no class stays
-pub unmasked : (ways : Ways) (seen : Class → List ℕ) (side : Side) (i : Item) → class_of side i ≡ None → masked_item ways seen side i ≡ i
-unmasked ways seen side i none = ap (λ o. with_value i (substitute ways seen o (class_value i))) none
+pub unmasked : (ways : Ways) (seen : Class → List ℕ) (spot : Spot) (i : Item) → class_of spot i ≡ None → masked_item ways seen spot i ≡ i
+unmasked ways seen spot i none = ap (λ o. with_value i (substitute ways seen o (class_value i))) none
 
 -- the values of entries, and of more after them
 pub values_split : (a b : List Entry) → values (a ++ b) ≡ (λ d. values a d ++ values b d)

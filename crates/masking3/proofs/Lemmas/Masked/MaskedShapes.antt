@@ -16,7 +16,10 @@ use Rattle.procs3.specs.Table.{arguments_of, is_mount, is_nfs, mount_arguments, 
 use Rattle.capture3.specs.declared.fault.Side.{Side}
 use Rattle.capture3.specs.declared.fault.Side.TheVariants.{Client, Server}
 use Rattle.masking3.specs.declared.class.Class.{Class}
+use Rattle.masking3.specs.declared.spot.Spot.{Spot}
+use Rattle.masking3.specs.declared.spot.Spot.TheVariants.{InCall, InReply, InDirectory, InWcc}
 use Rattle.masking3.specs.Classes.{class_of_word}
+use Rattle.masking3.proofs.Lemmas.Classes.SpotLemmas.{IsOn}
 
 -- ---- what is asked of a shape
 
@@ -30,60 +33,64 @@ abbrev pub IsNotEight : Part → Type 0
 IsNotEight (fixed_part name) = ⊥
 IsNotEight _ = ⊤
 
-abbrev pub TakesMasks : Side → Shape → Type 0
-TakesMasks side (choose name accepted reason next) = TakesWord (class_of_word side name) accepted next × ((n : ℕ) → TakesMasks side (next n))
-TakesMasks side (both a b) = TakesMasks side a × TakesMasks side b
-TakesMasks side (linked name s) = (class_of_word side name ≡ None) × TakesMasks side s
-TakesMasks side (counted name max s) = (class_of_word side name ≡ None) × TakesMasks side s
-TakesMasks side (sized name s) = (class_of_word side name ≡ None) × HasParts IsNotEight s × TakesMasks side s
-TakesMasks side _ = ⊤
+abbrev pub TakesMasks : Spot → Shape → Type 0
+TakesMasks spot (choose name accepted reason next) = TakesWord (class_of_word spot name) accepted next × ((n : ℕ) → TakesMasks spot (next n))
+TakesMasks spot (both a b) = TakesMasks spot a × TakesMasks spot b
+TakesMasks spot (linked name s) = (class_of_word spot name ≡ None) × TakesMasks spot s
+TakesMasks spot (counted name max s) = (class_of_word spot name ≡ None) × TakesMasks spot s
+TakesMasks spot (sized name s) = (class_of_word spot name ≡ None) × HasParts IsNotEight s × TakesMasks spot s
+TakesMasks spot _ = ⊤
 
-abbrev pub RowTakesMasks : Side → Layout → Type 0
-RowTakesMasks side (exactly s) = TakesMasks side s
-RowTakesMasks side (rest name) = ⊤
-RowTakesMasks side (after s next) = ⊥
+abbrev pub RowTakesMasks : Spot → Layout → Type 0
+RowTakesMasks spot (exactly s) = TakesMasks spot s
+RowTakesMasks spot (rest name) = ⊤
+RowTakesMasks spot (after s next) = ⊥
 
--- on either side
-module _ (side : Side) where
-  takes_if : (b : Bool) (s t : Shape) → TakesMasks side s → TakesMasks side t → TakesMasks side (if b then s else t)
+-- a count of links has a class at some spots
+attributes_at : (spot : Spot) → TakesMasks spot attributes
+unfolding attributes file_kind times time names head_names
+attributes_at InCall = assumption
+attributes_at InReply = assumption
+attributes_at InDirectory = assumption
+attributes_at InWcc = assumption
+
+-- at any spot
+module _ (spot : Spot) where
+  takes_if : (b : Bool) (s t : Shape) → TakesMasks spot s → TakesMasks spot t → TakesMasks spot (if b then s else t)
   takes_if true s t h k = h
   takes_if false s t h k = k
 
-  row_takes_if : (b : Bool) (s t : Layout) → RowTakesMasks side s → RowTakesMasks side t → RowTakesMasks side (if b then s else t)
+  row_takes_if : (b : Bool) (s t : Layout) → RowTakesMasks spot s → RowTakesMasks spot t → RowTakesMasks spot (if b then s else t)
   row_takes_if true s t h k = h
   row_takes_if false s t h k = k
 
   -- ---- parts
 
-  optional_takes : (name : List ℕ) (s : Shape) → class_of_word side name ≡ None → TakesMasks side s → TakesMasks side (optional name s)
+  optional_takes : (name : List ℕ) (s : Shape) → class_of_word spot name ≡ None → TakesMasks spot s → TakesMasks spot (optional name s)
   unfolding optional
   optional_takes name s w h = (rw w tt, λ n. takes_if (nat_eq n 0) nothing s tt h)
 
-  attributes_take : TakesMasks side attributes
-  unfolding attributes file_kind times time names head_names
-  attributes_take = assumption
-
-  post_op_attr_takes : TakesMasks side post_op_attr
+  post_op_attr_takes : TakesMasks spot post_op_attr
   unfolding post_op_attr names head_names
-  post_op_attr_takes = optional_takes names.attr attributes refl attributes_take
+  post_op_attr_takes = optional_takes names.attr attributes refl (attributes_at spot)
 
-  wcc_attr_takes : TakesMasks side wcc_attr
+  wcc_attr_takes : TakesMasks spot wcc_attr
   unfolding wcc_attr time names head_names
   wcc_attr_takes = assumption
 
-  wcc_takes : TakesMasks side wcc
+  wcc_takes : TakesMasks spot wcc
   unfolding wcc names head_names
   wcc_takes = (optional_takes names.before wcc_attr refl wcc_attr_takes, post_op_attr_takes)
 
-  post_op_fh_takes : TakesMasks side post_op_fh
+  post_op_fh_takes : TakesMasks spot post_op_fh
   unfolding post_op_fh handle names head_names
   post_op_fh_takes = optional_takes names.handle handle refl tt
 
-  time_how_takes : (name sec nsec : List ℕ) → class_of_word side name ≡ None → TakesMasks side (time sec nsec) → TakesMasks side (time_how name sec nsec)
+  time_how_takes : (name sec nsec : List ℕ) → class_of_word spot name ≡ None → TakesMasks spot (time sec nsec) → TakesMasks spot (time_how name sec nsec)
   unfolding time_how
   time_how_takes name sec nsec w h = (rw w tt, λ how. takes_if (nat_eq how 2) (time sec nsec) nothing h tt)
 
-  settable_takes : TakesMasks side settable
+  settable_takes : TakesMasks spot settable
   unfolding settable set_word set_hyper time names head_names
   settable_takes = assumption (
     optional_takes names.set_mode (word names.mode) refl (assumption),
@@ -94,23 +101,23 @@ module _ (side : Side) where
     time_how_takes names.set_mtime names.mtime_sec names.mtime_nsec refl (assumption),
   )
 
-  guard_takes : TakesMasks side guard
+  guard_takes : TakesMasks spot guard
   unfolding guard time names head_names
   guard_takes = optional_takes names.check (time names.ctime_sec names.ctime_nsec) refl (assumption)
 
-  results_take : (done failed : Shape) → TakesMasks side done → TakesMasks side failed → TakesMasks side (results done failed)
+  results_take : (done failed : Shape) → TakesMasks spot done → TakesMasks spot failed → TakesMasks spot (results done failed)
   unfolding results names head_names
   results_take done failed h k = (tt, λ n. takes_if (nat_eq n 0) done failed h k)
 
-  create_how_takes : TakesMasks side create_how
+  create_how_takes : TakesMasks spot create_how
   unfolding create_how names head_names
   create_how_takes = (tt, λ how. takes_if (nat_eq how 2) (fixed names.createverf) settable tt settable_takes)
 
-  device_takes : TakesMasks side device
+  device_takes : TakesMasks spot device
   unfolding device names head_names
   device_takes = assumption settable_takes
 
-  mknod_what_takes : TakesMasks side mknod_what
+  mknod_what_takes : TakesMasks spot mknod_what
   unfolding mknod_what names head_names
   mknod_what_takes = (
     tt,
@@ -118,27 +125,27 @@ module _ (side : Side) where
         (takes_if (nat_eq kind 6 || nat_eq kind 7) settable nothing settable_takes tt),
   )
 
-  mount_results_take : TakesMasks side mount_results
+  mount_results_take : TakesMasks spot mount_results
   unfolding mount_results mount_ok handle flavor names head_names
   mount_results_take = (tt, λ n. takes_if (nat_eq n 0) mount_ok nothing (assumption) tt)
 
   -- ---- the table of procedures
 
-  arg_row : (b : Bool) (s : Shape) (more : Layout) → TakesMasks side s → RowTakesMasks side more → RowTakesMasks side (if b then exactly s else more)
+  arg_row : (b : Bool) (s : Shape) (more : Layout) → TakesMasks spot s → RowTakesMasks spot more → RowTakesMasks spot (if b then exactly s else more)
   arg_row b s more h k = row_takes_if b (exactly s) more h k
 
-  result_row : (b : Bool) (done failed : Shape) (more : Layout) → TakesMasks side done → TakesMasks side failed → RowTakesMasks side more → RowTakesMasks side (if b then exactly (results done failed) else more)
+  result_row : (b : Bool) (done failed : Shape) (more : Layout) → TakesMasks spot done → TakesMasks spot failed → RowTakesMasks spot more → RowTakesMasks spot (if b then exactly (results done failed) else more)
   result_row b done failed more h k l = arg_row b (results done failed) more (results_take done failed h k) l
 
-  dir_op_takes : TakesMasks side dir_op
+  dir_op_takes : TakesMasks spot dir_op
   unfolding dir_op handle
   dir_op_takes = assumption
 
-  handle_takes : TakesMasks side handle
+  handle_takes : TakesMasks spot handle
   unfolding handle
   handle_takes = tt
 
-  nfs_arguments_take : (n : ℕ) → RowTakesMasks side (nfs_arguments n)
+  nfs_arguments_take : (n : ℕ) → RowTakesMasks spot (nfs_arguments n)
   unfolding access_args create_args file_range handle head_names link_args mkdir_args mknod_args names readdir_args readdirplus_args rename_args setattr_args symlink_args write_args
   nfs_arguments_take n =
       arg_row (nat_eq n 0) nothing _ tt (
@@ -164,7 +171,7 @@ module _ (side : Side) where
       arg_row (nat_eq n 20) handle _ handle_takes (
       arg_row (nat_eq n 21) file_range _ (assumption) tt)))))))))))))))))))))
 
-  mount_arguments_take : (n : ℕ) → RowTakesMasks side (mount_arguments n)
+  mount_arguments_take : (n : ℕ) → RowTakesMasks spot (mount_arguments n)
   unfolding dirpath
   mount_arguments_take n =
       arg_row (nat_eq n 0) nothing _ tt (
@@ -174,17 +181,17 @@ module _ (side : Side) where
       arg_row (nat_eq n 4) nothing _ tt (
       arg_row (nat_eq n 5) nothing _ tt tt)))))
 
-  pub arguments_take : (id : ProcId) → RowTakesMasks side (arguments_of id)
+  pub arguments_take : (id : ProcId) → RowTakesMasks spot (arguments_of id)
   unfolding arguments_of
   arguments_take id =
       row_takes_if (is_nfs id) (nfs_arguments id.proc_no) _ (nfs_arguments_take id.proc_no)
       (row_takes_if (is_mount id) (mount_arguments id.proc_no) (rest names.rest) (mount_arguments_take id.proc_no) tt)
 
-  nfs_results_take : (n : ℕ) → RowTakesMasks side (nfs_results n)
+  nfs_results_take : (n : ℕ) → RowTakesMasks spot (nfs_results n)
   unfolding access_ok commit_ok create_ok entry entry_plus fsinfo_ok fsstat_ok handle head_names link_wcc lookup_ok names pathconf_ok read_ok readdir_ok readdirplus_ok readlink_ok rename_wcc time write_ok
   nfs_results_take n =
       arg_row (nat_eq n 0) nothing _ tt (
-      result_row (nat_eq n 1) attributes nothing _ attributes_take tt (
+      result_row (nat_eq n 1) attributes nothing _ (attributes_at spot) tt (
       result_row (nat_eq n 2) wcc wcc _ wcc_takes wcc_takes (
       result_row (nat_eq n 3) lookup_ok post_op_attr _ (assumption post_op_attr_takes) post_op_attr_takes (
       result_row (nat_eq n 4) access_ok post_op_attr _ (assumption post_op_attr_takes) post_op_attr_takes (
@@ -208,63 +215,80 @@ module _ (side : Side) where
 
   -- ---- heads
 
-  verifier_takes : TakesMasks side verifier
+  verifier_takes : TakesMasks spot verifier
   unfolding verifier names head_names
   verifier_takes = assumption
 
-  accept_takes : TakesMasks side accept
+  accept_takes : TakesMasks spot accept
   unfolding accept names head_names
   accept_takes = (tt, λ n. takes_if (nat_eq n 2) versions nothing (assumption) tt)
 
-  deny_takes : TakesMasks side deny
+  deny_takes : TakesMasks spot deny
   unfolding deny names head_names
   deny_takes = (tt, λ n. takes_if (nat_eq n 0) versions (listed head_names.auth_stat auth_stats) (assumption) (assumption))
 
-  pub reply_head_takes : TakesMasks side reply_head
+  pub reply_head_takes : TakesMasks spot reply_head
   unfolding reply_head names head_names
   reply_head_takes = (tt, λ n. takes_if (nat_eq n 0) (verifier then accept) deny (verifier_takes, accept_takes) deny_takes)
 
-  -- words that are of no class
-  pub xid_free : class_of_word side head_names.xid ≡ None
-  unfolding names head_names
-  xid_free = refl
-
-  pub mtype_takes : (types : List ℕ) → TakesMasks side (listed head_names.mtype types)
+  pub mtype_takes : (types : List ℕ) → TakesMasks spot (listed head_names.mtype types)
   unfolding names head_names
   mtype_takes types = assumption
 
 -- ---- a group of a credential has a class
 
-auth_sys_takes : TakesMasks Client auth_sys
+auth_sys_takes : TakesMasks InCall auth_sys
 unfolding auth_sys parameters gids names head_names
 auth_sys_takes = assumption
 
-credential_takes : TakesMasks Client credential
+credential_takes : TakesMasks InCall credential
 unfolding credential names head_names
-credential_takes = (tt, λ n. takes_if Client (nat_eq n 0) (opaque Var head_names.cred_body 400) auth_sys tt auth_sys_takes)
+credential_takes = (tt, λ n. takes_if InCall (nat_eq n 0) (opaque Var head_names.cred_body 400) auth_sys tt auth_sys_takes)
 
-pub call_head_takes : TakesMasks Client call_head
+call_head_in_call : TakesMasks InCall call_head
 unfolding call_head names head_names
-call_head_takes = assumption (credential_takes, verifier_takes Client)
+call_head_in_call = assumption (credential_takes, verifier_takes InCall)
 
 -- ---- a word for another group of an export has none
 
-mount_results_of_take : (n : ℕ) → RowTakesMasks Server (mount_results_of n)
-unfolding export exports group head_names mount_list mounted names
-mount_results_of_take n =
-    arg_row Server (nat_eq n 0) nothing _ tt (
-    arg_row Server (nat_eq n 1) mount_results _ (mount_results_take Server) (
-    arg_row Server (nat_eq n 2) mount_list _ (assumption) (
-    arg_row Server (nat_eq n 3) nothing _ tt (
-    arg_row Server (nat_eq n 4) nothing _ tt (
-    arg_row Server (nat_eq n 5) exports _ (assumption) tt)))))
+exports_at : (spot : Spot) → IsOn Server spot → TakesMasks spot exports
+unfolding export exports group head_names names
+exports_at InCall on = absurd on
+exports_at InReply on = assumption
+exports_at InDirectory on = assumption
+exports_at InWcc on = assumption
 
-procedure_results_take : (id : ProcId) → RowTakesMasks Server (results_of id)
-unfolding results_of
-procedure_results_take id =
-    row_takes_if Server (is_nfs id) (nfs_results id.proc_no) _ (nfs_results_take Server id.proc_no)
-    (row_takes_if Server (is_mount id) (mount_results_of id.proc_no) (rest names.rest) (mount_results_of_take id.proc_no) tt)
+module _ (spot : Spot) (on : IsOn Server spot) where
+  mount_results_of_take : (n : ℕ) → RowTakesMasks spot (mount_results_of n)
+  unfolding head_names mount_list mounted names
+  mount_results_of_take n =
+      arg_row spot (nat_eq n 0) nothing _ tt (
+      arg_row spot (nat_eq n 1) mount_results _ (mount_results_take spot) (
+      arg_row spot (nat_eq n 2) mount_list _ (assumption) (
+      arg_row spot (nat_eq n 3) nothing _ tt (
+      arg_row spot (nat_eq n 4) nothing _ tt (
+      arg_row spot (nat_eq n 5) exports _ (exports_at spot on) tt)))))
 
--- what follows the head of a reply
-pub reply_takes : (id : ProcId) (items : List Item) → RowTakesMasks Server (if has_results items then results_of id else exactly nothing)
-reply_takes id items = row_takes_if Server (has_results items) (results_of id) (exactly nothing) (procedure_results_take id) tt
+  procedure_results_take : (id : ProcId) → RowTakesMasks spot (results_of id)
+  unfolding results_of
+  procedure_results_take id =
+      row_takes_if spot (is_nfs id) (nfs_results id.proc_no) _ (nfs_results_take spot id.proc_no)
+      (row_takes_if spot (is_mount id) (mount_results_of id.proc_no) (rest names.rest) (mount_results_of_take id.proc_no) tt)
+
+  -- what follows the head of a reply
+  pub reply_takes : (id : ProcId) (items : List Item) → RowTakesMasks spot (if has_results items then results_of id else exactly nothing)
+  reply_takes id items = row_takes_if spot (has_results items) (results_of id) (exactly nothing) (procedure_results_take id) tt
+
+-- ---- at each spot of a side
+
+abbrev pub TakesOn : Side → Shape → Type 0
+TakesOn side s = (spot : Spot) → IsOn side spot → TakesMasks spot s
+
+abbrev pub RowTakesOn : Side → Layout → Type 0
+RowTakesOn side layout = (spot : Spot) → IsOn side spot → RowTakesMasks spot layout
+
+pub call_head_takes : TakesOn Client call_head
+call_head_takes InCall on = call_head_in_call
+call_head_takes InReply on = absurd on
+call_head_takes InDirectory on = absurd on
+call_head_takes InWcc on = absurd on

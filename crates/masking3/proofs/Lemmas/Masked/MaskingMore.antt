@@ -3,21 +3,22 @@ use Rattle.std.proofs.Common.{◌≡◌, inl, inr, ℕ, List, [], refl, sym, sub
 use Rattle.std.specs.Prelude.{nat_eq, Option, None, Some}
 use Rattle.std.proofs.lemmas.Bool.Decides.{Decides-eqb}
 use Rattle.xdr3.specs.Item.{Item}
-use Rattle.capture3.specs.declared.fault.Side.{Side}
-use Rattle.capture3.specs.declared.fault.Side.TheVariants.{Client, Server}
 use Rattle.capture3.specs.Entry.{Entry}
 use Rattle.canon3.specs.Pairing.{Pairs}
-use Rattle.canon3.specs.Renaming.{Pairwise, none, more, Same}
+use Rattle.canon3.specs.Renaming.{none, more, Same}
 use Rattle.canon3.proofs.Lemmas.Renaming.PairingLemmas.{Agree, agree-graph, graph, member-graph}
 use Rattle.canon3.proofs.Lemmas.Numbers.RankLemmas.{by_test}
 use Rattle.masking3.specs.declared.class.Class.{Class}
+use Rattle.masking3.specs.declared.spot.Spot.{Spot}
+use Rattle.masking3.specs.declared.spot.Spot.TheVariants.{InCall, InReply}
 use Rattle.masking3.specs.declared.ways.Way.{Way}
 use Rattle.masking3.specs.declared.ways.Way.TheVariants.{Keep, Zero, Number}
 use Rattle.masking3.specs.declared.ways.Ways.{Ways}
 use Rattle.masking3.specs.Classes.{class_of, class_value}
 use Rattle.masking3.specs.Laws.{KeepsAll, MasksAsMuch, MasksValuesAsMuch, TellsNoMore}
 use Rattle.masking3.specs.Masked.{is_zero_that_stays, values}
-use Rattle.masking3.specs.SameBut.{AreAlike, ArePartners, ChangesBy, ChangesEntry, ChangesItem, ChangesOf, IsNumbered, SameBut, SameButValues, begin, call, close, end, reply, turn}
+use Rattle.masking3.specs.SameBut.{AreAlike, ArePartners, ChangesBy, ChangesEntry, ChangesItems, ChangesOf, IsNumbered, SameBut, SameButValues, along, begin, call, close, end, over, reply, turn}
+use Rattle.masking3.specs.Spots.{next_spot}
 use Rattle.masking3.specs.Unnamed.{names_by}
 use Rattle.masking3.specs.Ways.{way_of}
 use Rattle.masking3.proofs.Lemmas.Masked.MaskedLemmas.{AreAmong, EntryIsAmong, IsAmong, ItemsAreAmong, among_own}
@@ -40,37 +41,37 @@ module _ (ways others : Ways) (much : MasksValuesAsMuch ways others) (all : List
   agree_by Number d = agree d
   agree_by Zero d = record { parts = λ p m. elim m [ ]; alike = λ p q m n. elim m [ ] }
 
-  own_partner : (side : Side) (d : Class) (i : Item) → IsAmong (values all) side i → class_of side i ≡ Some d → ArePartners d (graph (λ n. n) (values all d)) (class_value i) (class_value i)
-  own_partner side d i among is = by_test (is_zero_that_stays d (class_value i)) (λ t. inr (t, t)) (λ f. inl (member-graph (λ n. n) (among d is f)))
+  own_partner : (spot : Spot) (d : Class) (i : Item) → IsAmong (values all) spot i → class_of spot i ≡ Some d → ArePartners d (graph (λ n. n) (values all d)) (class_value i) (class_value i)
+  own_partner spot d i among is = by_test (is_zero_that_stays d (class_value i)) (λ t. inr (t, t)) (λ f. inl (member-graph (λ n. n) (among d is f)))
 
-  alike_itself : (side : Side) (d : Class) (i : Item) → class_of side i ≡ Some d → AreAlike i i
-  alike_itself side d i is = alike_linked (alike_put side i d 0 is) (alike_turned (alike_put side i d 0 is))
+  alike_itself : (spot : Spot) (d : Class) (i : Item) → class_of spot i ≡ Some d → AreAlike i i
+  alike_itself spot d i is = alike_linked (alike_put spot i d 0 is) (alike_turned (alike_put spot i d 0 is))
 
-  by_way_more : (w v : Way) → TellsNoMore w v → (side : Side) (d : Class) (i j : Item) → IsAmong (values all) side i → class_of side i ≡ Some d → ChangesBy w d (pairs d) i j → ChangesBy v d (pairs_by w d) i j
-  by_way_more Keep Keep t side d i j among is h = h
-  by_way_more Keep Number t side d i j among is h =
-      subst (λ k. AreAlike i k × ArePartners d (graph (λ n. n) (values all d)) (class_value i) (class_value k)) h (alike_itself side d i is, own_partner side d i among is)
-  by_way_more Keep Zero t side d i j among is h = subst (AreAlike i) h (alike_itself side d i is)
-  by_way_more Number Keep t side d i j among is h = absurd t
-  by_way_more Number Number t side d i j among is h = h
-  by_way_more Number Zero t side d i j among is h = h.0
-  by_way_more Zero Keep t side d i j among is h = absurd t
-  by_way_more Zero Number t side d i j among is h = absurd t
-  by_way_more Zero Zero t side d i j among is h = h
+  by_way_more : (w v : Way) → TellsNoMore w v → (spot : Spot) (d : Class) (i j : Item) → IsAmong (values all) spot i → class_of spot i ≡ Some d → ChangesBy w d (pairs d) i j → ChangesBy v d (pairs_by w d) i j
+  by_way_more Keep Keep t spot d i j among is h = h
+  by_way_more Keep Number t spot d i j among is h =
+      subst (λ k. AreAlike i k × ArePartners d (graph (λ n. n) (values all d)) (class_value i) (class_value k)) h (alike_itself spot d i is, own_partner spot d i among is)
+  by_way_more Keep Zero t spot d i j among is h = subst (AreAlike i) h (alike_itself spot d i is)
+  by_way_more Number Keep t spot d i j among is h = absurd t
+  by_way_more Number Number t spot d i j among is h = h
+  by_way_more Number Zero t spot d i j among is h = h.0
+  by_way_more Zero Keep t spot d i j among is h = absurd t
+  by_way_more Zero Number t spot d i j among is h = absurd t
+  by_way_more Zero Zero t spot d i j among is h = h
 
-  of_more : (side : Side) (o : Option Class) (i j : Item) → IsAmong (values all) side i → class_of side i ≡ o → ChangesOf ways pairs o i j → ChangesOf others more_pairs o i j
-  of_more side None i j among is h = h
-  of_more side (Some d) i j among is h = by_way_more (way_of ways d) (way_of others d) (much d) side d i j among is h
+  of_more : (spot : Spot) (o : Option Class) (i j : Item) → IsAmong (values all) spot i → class_of spot i ≡ o → ChangesOf ways pairs o i j → ChangesOf others more_pairs o i j
+  of_more spot None i j among is h = h
+  of_more spot (Some d) i j among is h = by_way_more (way_of ways d) (way_of others d) (much d) spot d i j among is h
 
-  message_more : (side : Side) {l m : List Item} → ItemsAreAmong (values all) side l → Pairwise (ChangesItem ways pairs side) l m → Pairwise (ChangesItem others more_pairs side) l m
-  message_more side among none = none
-  message_more side among (more {x = i} {y = j} c p) = more (of_more side (class_of side i) i j among.0 refl c) (message_more side among.1 p)
+  message_more : (spot : Spot) {l m : List Item} → ItemsAreAmong (values all) spot l → ChangesItems ways pairs spot l m → ChangesItems others more_pairs spot l m
+  message_more spot among over = over
+  message_more spot among (along {i = i} {j = j} c p) = along (of_more spot (class_of spot i) i j among.0 refl c) (message_more (next_spot spot i) among.1 p)
 
   entry_more : (e f : Entry) → EntryIsAmong (values all) e → ChangesEntry ways pairs e f → ChangesEntry others more_pairs e f
   entry_more e f among begin = begin
-  entry_more e f among (call c) = call (message_more Client among c)
+  entry_more e f among (call c) = call (message_more InCall among c)
   entry_more e f among turn = turn
-  entry_more e f among (reply c) = reply (message_more Server among c)
+  entry_more e f among (reply c) = reply (message_more InReply among c)
   entry_more e f among close = close
   entry_more e f among end = end
 

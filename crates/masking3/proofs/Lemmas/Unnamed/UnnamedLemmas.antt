@@ -5,11 +5,11 @@ use Rattle.std.proofs.lemmas.Slice.Eq.{bytes_eq-Decides}
 use Rattle.xdr3.specs.Item.{Item, Word, Hyper, Fixed, WriteVerf, Opaque, Rest, Var, Text, Handle}
 use Rattle.rpc_head.specs.Names.{head_names}
 use Rattle.nfs3_types.specs.Names.{names}
-use Rattle.capture3.specs.declared.fault.Side.{Side}
-use Rattle.capture3.specs.declared.fault.Side.TheVariants.{Client}
 use Rattle.capture3.specs.Entry.{Entry, Begin, Call, Turn, Reply, Close, End}
 use Rattle.canon3.proofs.Lemmas.Numbers.RankLemmas.{by_test}
 use Rattle.masking3.specs.declared.class.Class.{Class}
+use Rattle.masking3.specs.declared.spot.Spot.{Spot}
+use Rattle.masking3.specs.declared.spot.Spot.TheVariants.{InCall}
 use Rattle.masking3.specs.declared.ways.Way.{Way}
 use Rattle.masking3.specs.declared.ways.Way.TheVariants.{Keep, Zero, Number}
 use Rattle.masking3.specs.declared.ways.Ways.{Ways}
@@ -21,12 +21,12 @@ use Rattle.masking3.proofs.Lemmas.Masked.MaskedLemmas.{unmasked}
 
 -- ---- the length of a credential is of no class
 
-length_free : (side : Side) → class_of_word side head_names.cred_length ≡ None
+length_free : (spot : Spot) → class_of_word spot head_names.cred_length ≡ None
 unfolding names head_names
-length_free side = refl
+length_free spot = refl
 
-pub free_length : (side : Side) (name : List ℕ) → bytes_eq name head_names.cred_length ≡ true → class_of_word side name ≡ None
-free_length side name t = subst (λ (n : List ℕ). class_of_word side n ≡ None) (sym ((bytes_eq-Decides name head_names.cred_length).0 t)) (length_free side)
+pub free_length : (spot : Spot) (name : List ℕ) → bytes_eq name head_names.cred_length ≡ true → class_of_word spot name ≡ None
+free_length spot name t = subst (λ (n : List ℕ). class_of_word spot n ≡ None) (sym ((bytes_eq-Decides name head_names.cred_length).0 t)) (length_free spot)
 
 -- another word stays
 pub other_word : (size : ℕ) (name : List ℕ) (n : ℕ) → bytes_eq name head_names.cred_length ≡ false → less_by size (Word name n) ≡ Word name n
@@ -35,20 +35,20 @@ other_word size name n f = rw f refl
 -- ---- values stay
 
 module _ (d : Class) where
-  none_of : (name : List ℕ) (n : ℕ) → class_of_word Client name ≡ None → value_in d Client (Word name n) ≡ []
+  none_of : (name : List ℕ) (n : ℕ) → class_of_word InCall name ≡ None → value_in d InCall (Word name n) ≡ []
   none_of name n none = ap (λ o. value_where d o n) none
 
-  less_values : (size : ℕ) (i : Item) → value_in d Client (less_by size i) ≡ value_in d Client i
+  less_values : (size : ℕ) (i : Item) → value_in d InCall (less_by size i) ≡ value_in d InCall i
   less_values size (Word name n) = by_test (bytes_eq name head_names.cred_length)
-      (λ t. none_of name (if bytes_eq name head_names.cred_length then n - size else n) (free_length Client name t) ∙ sym (none_of name n (free_length Client name t)))
-      (λ f. ap (value_in d Client) (other_word size name n f))
+      (λ t. none_of name (if bytes_eq name head_names.cred_length then n - size else n) (free_length InCall name t) ∙ sym (none_of name n (free_length InCall name t)))
+      (λ f. ap (value_in d InCall) (other_word size name n f))
   less_values size (Hyper name n) = refl
   less_values size (Fixed name bytes) = refl
   less_values size (WriteVerf name bytes) = refl
   less_values size (Opaque kind name bytes) = refl
   less_values size (Rest name bytes) = refl
 
-  emptied_values : (i : Item) → value_in d Client (emptied i) ≡ value_in d Client i
+  emptied_values : (i : Item) → value_in d InCall (emptied i) ≡ value_in d InCall i
   emptied_values (Word name n) = refl
   emptied_values (Hyper name n) = refl
   emptied_values (Fixed name bytes) = refl
@@ -58,18 +58,18 @@ module _ (d : Class) where
   emptied_values (Opaque Handle name bytes) = refl
   emptied_values (Rest name bytes) = refl
 
-  credential_values : (l : List Item) → values_in d Client (unnamed_credential l) ≡ values_in d Client l
+  credential_values : (l : List Item) → values_in d InCall (unnamed_credential l) ≡ values_in d InCall l
   credential_values [] = refl
   credential_values (i ∷ []) = refl
   credential_values (i ∷ j ∷ []) = refl
-  credential_values (i ∷ j ∷ k ∷ l) = ap₂ (λ (a b : List ℕ). a ++ (value_in d Client j ++ (b ++ values_in d Client l))) (less_values (text_size k) i) (emptied_values k)
+  credential_values (i ∷ j ∷ k ∷ l) = ap₂ (λ (a b : List ℕ). a ++ (value_in d InCall j ++ (b ++ values_in d InCall l))) (less_values (text_size k) i) (emptied_values k)
 
-  after_values : (n : ℕ) (l : List Item) → values_in d Client (after_first n unnamed_credential l) ≡ values_in d Client l
+  after_values : (n : ℕ) (l : List Item) → values_in d InCall (after_first n unnamed_credential l) ≡ values_in d InCall l
   after_values zero l = credential_values l
   after_values (suc n) [] = refl
-  after_values (suc n) (i ∷ l) = ap (λ (a : List ℕ). value_in d Client i ++ a) (after_values n l)
+  after_values (suc n) (i ∷ l) = ap (λ (a : List ℕ). value_in d InCall i ++ a) (after_values n l)
 
-  named_values : (way : Way) (l : List Item) → values_in d Client (named_by way l) ≡ values_in d Client l
+  named_values : (way : Way) (l : List Item) → values_in d InCall (named_by way l) ≡ values_in d InCall l
   named_values Keep l = refl
   named_values Zero l = after_values 7 l
   named_values Number l = after_values 7 l
@@ -123,21 +123,21 @@ emptied_fixed name bytes (Some m) = refl
 
 module _ (ways : Ways) (seen : Class → List ℕ) where
   abbrev under : Item → Item
-  under i = masked_item ways seen Client i
+  under i = masked_item ways seen InCall i
 
   less_masked : (size : ℕ) (i : Item) → under (less_by size i) ≡ less_by size (under i)
   less_masked size (Word name n) = by_test (bytes_eq name head_names.cred_length)
-      (λ t. unmasked ways seen Client (less_by size (Word name n)) (free_length Client name t) ∙ ap (less_by size) (sym (unmasked ways seen Client (Word name n) (free_length Client name t))))
-      (λ f. ap under (other_word size name n f) ∙ sym (less_word size name n (substitute ways seen (class_of_word Client name) n) f))
-  less_masked size (Hyper name n) = sym (less_hyper size name n (substitute ways seen (class_of_hyper name) n))
+      (λ t. unmasked ways seen InCall (less_by size (Word name n)) (free_length InCall name t) ∙ ap (less_by size) (sym (unmasked ways seen InCall (Word name n) (free_length InCall name t))))
+      (λ f. ap under (other_word size name n f) ∙ sym (less_word size name n (substitute ways seen (class_of_word InCall name) n) f))
+  less_masked size (Hyper name n) = sym (less_hyper size name n (substitute ways seen (class_of_hyper InCall name) n))
   less_masked size (Fixed name bytes) = sym (less_fixed size name bytes (substitute ways seen (class_of_fixed name) (class_value (Fixed name bytes))))
   less_masked size (WriteVerf name bytes) = refl
   less_masked size (Opaque kind name bytes) = refl
   less_masked size (Rest name bytes) = refl
 
   emptied_masked : (i : Item) → under (emptied i) ≡ emptied (under i)
-  emptied_masked (Word name n) = sym (emptied_word name n (substitute ways seen (class_of_word Client name) n))
-  emptied_masked (Hyper name n) = sym (emptied_hyper name n (substitute ways seen (class_of_hyper name) n))
+  emptied_masked (Word name n) = sym (emptied_word name n (substitute ways seen (class_of_word InCall name) n))
+  emptied_masked (Hyper name n) = sym (emptied_hyper name n (substitute ways seen (class_of_hyper InCall name) n))
   emptied_masked (Fixed name bytes) = sym (emptied_fixed name bytes (substitute ways seen (class_of_fixed name) (class_value (Fixed name bytes))))
   emptied_masked (WriteVerf name bytes) = refl
   emptied_masked (Opaque Var name bytes) = refl
@@ -146,21 +146,21 @@ module _ (ways : Ways) (seen : Class → List ℕ) where
   emptied_masked (Rest name bytes) = refl
 
   size_masked : (i : Item) → text_size (under i) ≡ text_size i
-  size_masked i = size_with i (substitute ways seen (class_of Client i) (class_value i))
+  size_masked i = size_with i (substitute ways seen (class_of InCall i) (class_value i))
 
-  credential_masked : (l : List Item) → masked_items ways seen Client (unnamed_credential l) ≡ unnamed_credential (masked_items ways seen Client l)
+  credential_masked : (l : List Item) → masked_items ways seen InCall (unnamed_credential l) ≡ unnamed_credential (masked_items ways seen InCall l)
   credential_masked [] = refl
   credential_masked (i ∷ []) = refl
   credential_masked (i ∷ j ∷ []) = refl
   credential_masked (i ∷ j ∷ k ∷ l) =
-      ap₂ (λ (a b : Item). a ∷ under j ∷ b ∷ masked_items ways seen Client l) (less_masked (text_size k) i ∙ ap (λ size. less_by size (under i)) (sym (size_masked k))) (emptied_masked k)
+      ap₂ (λ (a b : Item). a ∷ under j ∷ b ∷ masked_items ways seen InCall l) (less_masked (text_size k) i ∙ ap (λ size. less_by size (under i)) (sym (size_masked k))) (emptied_masked k)
 
-  after_masked : (n : ℕ) (l : List Item) → masked_items ways seen Client (after_first n unnamed_credential l) ≡ after_first n unnamed_credential (masked_items ways seen Client l)
+  after_masked : (n : ℕ) (l : List Item) → masked_items ways seen InCall (after_first n unnamed_credential l) ≡ after_first n unnamed_credential (masked_items ways seen InCall l)
   after_masked zero l = credential_masked l
   after_masked (suc n) [] = refl
   after_masked (suc n) (i ∷ l) = ap (λ (a : List Item). under i ∷ a) (after_masked n l)
 
-  named_masked : (way : Way) (l : List Item) → masked_items ways seen Client (named_by way l) ≡ named_by way (masked_items ways seen Client l)
+  named_masked : (way : Way) (l : List Item) → masked_items ways seen InCall (named_by way l) ≡ named_by way (masked_items ways seen InCall l)
   named_masked Keep l = refl
   named_masked Zero l = after_masked 7 l
   named_masked Number l = after_masked 7 l

@@ -3,17 +3,17 @@ use Rattle.std.proofs.Common.{◌≡◌, ℕ, zero, suc, false, List, refl, sym,
 use Rattle.std.specs.Prelude.{bytes_eq, Option, None, Some}
 use Rattle.xdr3.specs.Item.{Item, Word, Hyper, Fixed, WriteVerf, Opaque, Rest, Var, Text, Handle}
 use Rattle.rpc_head.specs.Names.{head_names}
-use Rattle.capture3.specs.declared.fault.Side.TheVariants.{Client}
 use Rattle.capture3.specs.Entry.{Entry}
 use Rattle.canon3.specs.Pairing.{Pairs}
 use Rattle.canon3.specs.Renaming.{IsPlain, RenamesItem, handle, verifier, plain, Pairwise, none, more, RenamesMessage, message, Renames, ended, begins, calls, turns, replies, closes, ends, Same}
 use Rattle.canon3.proofs.Lemmas.Numbers.RankLemmas.{by_test}
 use Rattle.masking3.specs.declared.class.Class.{Class}
+use Rattle.masking3.specs.declared.spot.Spot.TheVariants.{InCall}
 use Rattle.masking3.specs.declared.ways.Way.{Way}
 use Rattle.masking3.specs.declared.ways.Way.TheVariants.{Keep, Zero, Number}
 use Rattle.masking3.specs.declared.ways.Ways.{Ways}
 use Rattle.masking3.specs.Classes.{class_of}
-use Rattle.masking3.specs.SameBut.{AreAlike, words, hypers, eights, ChangesBy, ChangesOf, ChangesItem, ChangesEntry, begin, call, turn, reply, close, end}
+use Rattle.masking3.specs.SameBut.{AreAlike, words, hypers, eights, ChangesBy, ChangesOf, ChangesItem, ChangesItems, over, along, ChangesEntry, begin, call, turn, reply, close, end}
 use Rattle.masking3.specs.Unnamed.{after_first, emptied, less_by, named_by, names_by, text_size, unnamed_credential}
 use Rattle.masking3.specs.Ways.{way_of}
 use Rattle.masking3.proofs.Lemmas.Unnamed.UnnamedLemmas.{free_length, other_word}
@@ -146,16 +146,16 @@ no_length_alike i j hypers f = tt
 no_length_alike i j eights f = tt
 
 module _ (ways : Ways) (pairs : Class → Pairs ℕ) where
-  size_changed : (i j : Item) → ChangesItem ways pairs Client i j → text_size i ≡ text_size j
-  size_changed i j h = changed_is (λ i j. text_size i ≡ text_size j) (λ i. refl) size_alike ways pairs (class_of Client i) i j h
+  size_changed : (i j : Item) → ChangesItem ways pairs InCall i j → text_size i ≡ text_size j
+  size_changed i j h = changed_is (λ i j. text_size i ≡ text_size j) (λ i. refl) size_alike ways pairs (class_of InCall i) i j h
 
   -- an item that stays
-  emptied_stays : (i j : Item) → emptied i ≡ i → ChangesItem ways pairs Client i j → ChangesItem ways pairs Client (emptied i) (emptied j)
+  emptied_stays : (i j : Item) → emptied i ≡ i → ChangesItem ways pairs InCall i j → ChangesItem ways pairs InCall (emptied i) (emptied j)
   emptied_stays i j e h =
-      subst (λ k. ChangesItem ways pairs Client k (emptied j)) (sym e)
-      (subst (ChangesItem ways pairs Client i) (sym (changed_is (StayTogether emptied) (λ k s. s) emptied_alike ways pairs (class_of Client i) i j h e)) h)
+      subst (λ k. ChangesItem ways pairs InCall k (emptied j)) (sym e)
+      (subst (ChangesItem ways pairs InCall i) (sym (changed_is (StayTogether emptied) (λ k s. s) emptied_alike ways pairs (class_of InCall i) i j h e)) h)
 
-  emptied_changed : (i j : Item) → ChangesItem ways pairs Client i j → ChangesItem ways pairs Client (emptied i) (emptied j)
+  emptied_changed : (i j : Item) → ChangesItem ways pairs InCall i j → ChangesItem ways pairs InCall (emptied i) (emptied j)
   emptied_changed (Word name n) j h = emptied_stays (Word name n) j refl h
   emptied_changed (Hyper name n) j h = emptied_stays (Hyper name n) j refl h
   emptied_changed (Fixed name b) j h = emptied_stays (Fixed name b) j refl h
@@ -165,14 +165,14 @@ module _ (ways : Ways) (pairs : Class → Pairs ℕ) where
   emptied_changed (Opaque Handle name b) j h = ap emptied h
   emptied_changed (Rest name b) j h = ap emptied h
 
-  less_kept : (n : ℕ) (i j : Item) → IsNoLength i → ChangesItem ways pairs Client i j → ChangesItem ways pairs Client (less_by n i) (less_by n j)
+  less_kept : (n : ℕ) (i j : Item) → IsNoLength i → ChangesItem ways pairs InCall i j → ChangesItem ways pairs InCall (less_by n i) (less_by n j)
   less_kept n i j f h =
-      let other = changed_is NoLengthsTogether (λ k s. s) no_length_alike ways pairs (class_of Client i) i j h f in
-      subst (λ k. ChangesItem ways pairs Client k (less_by n j)) (sym (less_stays n i f)) (subst (ChangesItem ways pairs Client i) (sym (less_stays n j other)) h)
+      let other = changed_is NoLengthsTogether (λ k s. s) no_length_alike ways pairs (class_of InCall i) i j h f in
+      subst (λ k. ChangesItem ways pairs InCall k (less_by n j)) (sym (less_stays n i f)) (subst (ChangesItem ways pairs InCall i) (sym (less_stays n j other)) h)
 
-  less_changed : (n : ℕ) (i j : Item) → ChangesItem ways pairs Client i j → ChangesItem ways pairs Client (less_by n i) (less_by n j)
+  less_changed : (n : ℕ) (i j : Item) → ChangesItem ways pairs InCall i j → ChangesItem ways pairs InCall (less_by n i) (less_by n j)
   less_changed n (Word name m) j h = by_test (bytes_eq name head_names.cred_length)
-      (λ t. let free = free_length Client name t in
+      (λ t. let free = free_length InCall name t in
       let same : Word name m ≡ j = subst (λ o. ChangesOf ways pairs o (Word name m) j) free h in
       subst (λ o. ChangesOf ways pairs o (less_by n (Word name m)) (less_by n j)) (sym free) (ap (less_by n) same))
       (λ f. less_kept n (Word name m) j f h)
@@ -182,10 +182,22 @@ module _ (ways : Ways) (pairs : Class → Pairs ℕ) where
   less_changed n (Opaque kind name b) j h = less_kept n (Opaque kind name b) j tt h
   less_changed n (Rest name b) j h = less_kept n (Rest name b) j tt h
 
-  message_changed : (way : Way) {l m : List Item} → Pairwise (ChangesItem ways pairs Client) l m → Pairwise (ChangesItem ways pairs Client) (named_by way l) (named_by way m)
+  -- all items of a call stand in a call
+  each_changes : {l m : List Item} → ChangesItems ways pairs InCall l m → Pairwise (ChangesItem ways pairs InCall) l m
+  each_changes over = none
+  each_changes (along c p) = more c (each_changes p)
+
+  all_change : {l m : List Item} → Pairwise (ChangesItem ways pairs InCall) l m → ChangesItems ways pairs InCall l m
+  all_change none = over
+  all_change (more c p) = along c (all_change p)
+
+  after_changed : {l m : List Item} → ChangesItems ways pairs InCall l m → ChangesItems ways pairs InCall (after_first 7 unnamed_credential l) (after_first 7 unnamed_credential m)
+  after_changed p = all_change (after_too (ChangesItem ways pairs InCall) size_changed less_changed emptied_changed 7 (each_changes p))
+
+  message_changed : (way : Way) {l m : List Item} → ChangesItems ways pairs InCall l m → ChangesItems ways pairs InCall (named_by way l) (named_by way m)
   message_changed Keep p = p
-  message_changed Zero p = after_too (ChangesItem ways pairs Client) size_changed less_changed emptied_changed 7 p
-  message_changed Number p = after_too (ChangesItem ways pairs Client) size_changed less_changed emptied_changed 7 p
+  message_changed Zero p = after_changed p
+  message_changed Number p = after_changed p
 
   pub changes_named : (way : Way) {a b : List Entry} → Pairwise (ChangesEntry ways pairs) a b → Pairwise (ChangesEntry ways pairs) (names_by way a) (names_by way b)
   changes_named way none = none

@@ -1,29 +1,31 @@
 -- A message is masked item by item.
 use Rattle.std.proofs.Common.{◌≡◌, ℕ, List, [], ◌∷◌, ◌++◌, length, refl, sym, ap, ap₂, ◌∙◌, subst, append_assoc, append-nil, arith}
-use Rattle.std.specs.Prelude.{Option, None}
+use Rattle.std.specs.Prelude.{Option, None, Some}
+use Rattle.std.specs.List.{flat_map}
 use Rattle.std.proofs.lemmas.Grind.{flat_map-append}
-use Rattle.std.proofs.lemmas.List.{map-append}
-use Rattle.xdr3.specs.Item.{Item, Word, zero_spelling}
+use Rattle.xdr3.specs.Item.{Item, Word, Hyper, Fixed, WriteVerf, Opaque, Rest, zero_spelling}
 use Rattle.xdr3.specs.Visit.{Adds, Keeps}
 use Rattle.nfs3_types.specs.declared.values.handle.Handle as handles
 use Rattle.capture3.specs.declared.fault.Side.{Side}
-use Rattle.capture3.specs.declared.fault.Side.TheVariants.{Client}
 use Rattle.canon3.specs.HandleTable.{Gathers, HoldsHandles}
 use Rattle.canon3.specs.Values.{handle_in, handles_in}
 use Rattle.canon3.proofs.Lemmas.Numbers.HandleTableLemmas.{gathers_none}
 use Rattle.canon3.proofs.Lemmas.Numbers.RankLemmas.{member-append_right}
 use Rattle.masking3.specs.declared.class_tables.ClassTables.{ClassTables}
 use Rattle.masking3.specs.declared.masking_writer.MaskingWriter.{MaskingWriter}
+use Rattle.masking3.specs.declared.spot.Spot.{Spot}
 use Rattle.masking3.specs.declared.ways.Ways.{Ways}
 use Rattle.masking3.specs.declared.class.Class.{Class}
 use Rattle.masking3.specs.Classes.{class_of, class_value}
 use Rattle.masking3.specs.Masked.{masked_item, masked_items, substitute, value_in, value_where, values_in, with_value}
 use Rattle.masking3.specs.machinery.ClassTables.{HoldsValues, tables_in, with_one}
-use Rattle.masking3.specs.machinery.MaskingWriter.{after_messages, as_in_calls, HasMaskedUnderWay, HasMemory, MaskStands, values_so_far}
-use Rattle.masking3.specs.machinery.MessageSide.{BeginsOn}
+use Rattle.masking3.specs.machinery.MaskingWriter.{after_messages, HasMaskedUnderWay, HasMemory, MaskStands, told_items, told_value, values_so_far}
+use Rattle.masking3.specs.machinery.MessageSpot.{BeginsOn, class_found, first_spot, found_next}
 use Rattle.masking3.proofs.Lemmas.Classes.ClassLemmas.{holds_without, seen_alike}
+use Rattle.masking3.proofs.Lemmas.Classes.MessageSpotLemmas.{begins_before, found_class, found_more}
+use Rattle.masking3.proofs.Lemmas.Classes.SpotLemmas.{IsNoWord, masked_items-append, spot_after, still_after, values_in-append}
 use Rattle.masking3.proofs.Lemmas.Masked.MaskedLemmas.{ItemsAreAmong, items_among, items_stay}
-use Rattle.masking3.proofs.Lemmas.Classes.SideLemmas.{begins_before, handles_as_in_calls, values_as_in_calls}
+use Rattle.masking3.proofs.Lemmas.Writing.ToldItems.{told_handles, told_values}
 
 -- the bytes spell the items
 abbrev pub Spells : List ℕ → List Item → Type 0
@@ -46,26 +48,34 @@ after_messages-append front items more = ap (λ (l : List Item). Word [] (length
 
 -- ---- the values so far
 
-so_far_more : (front : List Item) (side : Side) (items : List Item) (i : Item) → with_one (values_so_far front side items) (class_of side i) (class_value i) ≡ values_so_far front side (items ++ i ∷ [])
-so_far_more front side items i =
-    seen_alike (with_one (values_so_far front side items) (class_of side i) (class_value i)) (values_so_far front side (items ++ i ∷ []))
-    (λ d. append_assoc (values_in d Client front) (values_in d side items) (value_in d side i)
-    ∙ ap (λ (l : List ℕ). values_in d Client front ++ l) (sym (flat_map-append (value_in d side) items (i ∷ []) ∙ ap (λ (l : List ℕ). values_in d side items ++ l) (append-nil (value_in d side i)))))
+module _ (side : Side) where
+  -- where an item after these stands
+  abbrev spot_of_next : List Item → Spot
+  spot_of_next items = spot_after (first_spot side) items
 
-among_so_far : (front : List Item) (side : Side) (items : List Item) → ItemsAreAmong (values_so_far front side items) side items
-among_so_far front side items = items_among (values_so_far front side items) side items (λ d x m. member-append_right (values_in d Client front) m)
+  so_far_more : (front items : List Item) (i : Item) → with_one (values_so_far front side items) (class_of (spot_of_next items) i) (class_value i) ≡ values_so_far front side (items ++ i ∷ [])
+  so_far_more front items i =
+      seen_alike (with_one (values_so_far front side items) (class_of (spot_of_next items) i) (class_value i)) (values_so_far front side (items ++ i ∷ []))
+      (λ d. append_assoc (flat_map (told_value d) front) (values_in d (first_spot side) items) (value_in d (spot_of_next items) i)
+      ∙ ap (λ (l : List ℕ). flat_map (told_value d) front ++ l) (sym (values_in-append d (first_spot side) items (i ∷ []) ∙ ap (λ (l : List ℕ). values_in d (first_spot side) items ++ l) (append-nil (value_in d (spot_of_next items) i)))))
 
--- a message is over, and another one may begin
-so_far_over : (front : List Item) (side other : Side) (items : List Item) → values_so_far front side items ≡ values_so_far (front ++ as_in_calls side items) other []
-so_far_over front side other items =
-    seen_alike (values_so_far front side items) (values_so_far (front ++ as_in_calls side items) other [])
-    (λ d. sym (append-nil (values_in d Client (front ++ as_in_calls side items)) ∙ flat_map-append (value_in d Client) front (as_in_calls side items)
-    ∙ ap (λ (l : List ℕ). values_in d Client front ++ l) (values_as_in_calls d side items)))
+  among_so_far : (front items : List Item) → ItemsAreAmong (values_so_far front side items) (first_spot side) items
+  among_so_far front items = items_among (values_so_far front side items) (first_spot side) items (λ d x m. member-append_right (flat_map (told_value d) front) m)
 
-handles_over : (front : List Item) (side : Side) (items : List Item) → handles_in (front ++ items) ≡ handles_in ((front ++ as_in_calls side items) ++ [])
-handles_over front side items =
-    flat_map-append handle_in front items
-    ∙ sym (ap handles_in (append-nil (front ++ as_in_calls side items)) ∙ flat_map-append handle_in front (as_in_calls side items) ∙ ap (λ (l : List (List ℕ)). handles_in front ++ l) (handles_as_in_calls side items))
+  abbrev told : List Item → List Item
+  told items = told_items (first_spot side) items
+
+  -- a message is over, and another one may begin
+  so_far_over : (front : List Item) (other : Side) (items : List Item) → values_so_far front side items ≡ values_so_far (front ++ told items) other []
+  so_far_over front other items =
+      seen_alike (values_so_far front side items) (values_so_far (front ++ told items) other [])
+      (λ d. sym (append-nil (flat_map (told_value d) (front ++ told items)) ∙ flat_map-append (told_value d) front (told items)
+      ∙ ap (λ (l : List ℕ). flat_map (told_value d) front ++ l) (told_values d (first_spot side) items)))
+
+  handles_over : (front items : List Item) → handles_in (front ++ items) ≡ handles_in ((front ++ told items) ++ [])
+  handles_over front items =
+      flat_map-append handle_in front items
+      ∙ sym (ap handles_in (append-nil (front ++ told items)) ∙ flat_map-append handle_in front (told items) ∙ ap (λ (l : List (List ℕ)). handles_in front ++ l) (told_handles (first_spot side) items))
 
 -- ---- a message under way
 
@@ -81,27 +91,28 @@ module _ {P S H : Type 0} (ways : Ways) (w : MaskingWriter P S H) where
   pub stands_after : (front items : List Item) → ((side : Side) → BeginsOn side items → HasMaskedUnderWay ways w front side items) → MaskStands ways w (after_messages front items)
   stands_after front items is going = (front, items, refl, is)
 
-  abbrev pub with_parts : List handles.Handle → ClassTables S H → List ℕ → MaskingWriter P S H
-  with_parts gathered classes bytes = record { handles = gathered; classes = classes; writer = bytes; unnamed = w.unnamed; failed = w.failed; plan = w.plan }
+  abbrev pub with_parts : List handles.Handle → ClassTables S H → List ℕ → Option Spot → MaskingWriter P S H
+  with_parts gathered classes bytes spot = record { handles = gathered; classes = classes; writer = bytes; spot = spot; unnamed = w.unnamed; failed = w.failed; plan = w.plan }
 
   -- the next message
   pub begun : (front items : List Item) (side : Side) (bytes : List ℕ) → bytes ≡ [] → BeginsOn side items → MaskStands ways w (after_messages front items)
-      → MaskStands ways (with_parts w.handles w.classes bytes) (after_messages (front ++ as_in_calls side items) [])
+      → MaskStands ways (with_parts w.handles w.classes bytes None) (after_messages (front ++ told_items (first_spot side) items) [])
   begun front items side bytes empty begins stands going =
       let h = is_after front items side begins going stands in (
-        front ++ as_in_calls side items,
+        front ++ told_items (first_spot side) items,
         [],
         refl,
         (λ other b. record {
           ways_are = h.ways_are;
-          tables = subst (HoldsValues ways (tables_in w.classes)) (so_far_over front side other items) h.tables;
-          handles = subst (HoldsHandles w.handles) (handles_over front side items) h.handles;
+          tables = subst (HoldsValues ways (tables_in w.classes)) (so_far_over side front other items) h.tables;
+          handles = subst (HoldsHandles w.handles) (handles_over side front items) h.handles;
+          spot_is = refl;
           written = empty;
         }),
       )
 
   -- the bytes stay, or spell what they did
-  pub keeps_spelled : (bytes : List ℕ) → Keeps Spells w.writer bytes → Keeps (MaskStands ways) w (with_parts w.handles w.classes bytes)
+  pub keeps_spelled : (bytes : List ℕ) → Keeps Spells w.writer bytes → Keeps (MaskStands ways) w (with_parts w.handles w.classes bytes w.spot)
   unfolding Keeps
   keeps_spelled bytes keeps all stands going =
       let (front, items, are, is) = stands going in (
@@ -110,13 +121,13 @@ module _ {P S H : Type 0} (ways : Ways) (w : MaskingWriter P S H) where
         are,
         (λ side begins.
             let h = is side begins in
-            record { ways_are = h.ways_are; tables = h.tables; handles = h.handles; written = keeps (masked_items ways (values_so_far front side items) side items) h.written }),
+            record { ways_are = h.ways_are; tables = h.tables; handles = h.handles; spot_is = h.spot_is; written = keeps (masked_items ways (values_so_far front side items) (first_spot side) items) h.written }),
       )
 
   -- ---- one item more
 
-  -- of the class that was found
-  module _ (own : Option Class) (gathered : List handles.Handle) (classes : ClassTables S H) (bytes : List ℕ) (i : Item) where
+  -- of the class that was found, and with the spot after it
+  module _ (own : Option Class) (gathered : List handles.Handle) (classes : ClassTables S H) (bytes : List ℕ) (spot : Option Spot) (i : Item) where
     abbrev more_values : (Class → List ℕ) → Class → List ℕ
     more_values seen = with_one seen own (class_value i)
 
@@ -124,29 +135,32 @@ module _ {P S H : Type 0} (ways : Ways) (w : MaskingWriter P S H) where
     abbrev put : Ways → (Class → List ℕ) → Item
     put by seen = with_value i (substitute by (more_values seen) own (class_value i))
 
-    one_more : (front : List Item) (side : Side) (items : List Item) → HasMaskedUnderWay ways w front side items → own ≡ class_of side i → classes.ways ≡ ways
+    one_more : (front : List Item) (side : Side) (items : List Item) → HasMaskedUnderWay ways w front side items → own ≡ class_of (spot_of_next side items) i → spot ≡ found_next w.spot i → classes.ways ≡ ways
         → HoldsValues ways (tables_in classes) (more_values (values_so_far front side items)) → Gathers gathered (front ++ (items ++ i ∷ [])) → Adds Spells w.writer bytes (put ways (values_so_far front side items) ∷ [])
-        → HasMaskedUnderWay ways (with_parts gathered classes bytes) front side (items ++ i ∷ [])
+        → HasMaskedUnderWay ways (with_parts gathered classes bytes spot) front side (items ++ i ∷ [])
     unfolding Adds
-    one_more front side items is found are tables gathers write =
+    one_more front side items is found moved are tables gathers write =
         let so_far : Class → List ℕ = values_so_far front side items in
-        let now : more_values so_far ≡ values_so_far front side (items ++ i ∷ []) = ap (λ o. with_one so_far o (class_value i)) found ∙ so_far_more front side items i in
-        let before : List Item = masked_items ways so_far side items in
-        let stay : masked_items ways (more_values so_far) side items ≡ before = items_stay ways so_far (λ d. value_where d own (class_value i)) side items (among_so_far front side items) in
-        let item : put ways so_far ≡ masked_item ways (more_values so_far) side i = ap (λ o. with_value i (substitute ways (more_values so_far) o (class_value i))) found in
+        let first : Spot = first_spot side in
+        let later : Spot = spot_of_next side items in
+        let now : more_values so_far ≡ values_so_far front side (items ++ i ∷ []) = ap (λ o. with_one so_far o (class_value i)) found ∙ so_far_more side front items i in
+        let before : List Item = masked_items ways so_far first items in
+        let stay : masked_items ways (more_values so_far) first items ≡ before = items_stay ways so_far (λ d. value_where d own (class_value i)) first items (among_so_far side front items) in
+        let item : put ways so_far ≡ masked_item ways (more_values so_far) later i = ap (λ o. with_value i (substitute ways (more_values so_far) o (class_value i))) found in
         let added : bytes ≡ zero_spelling (before ++ put ways so_far ∷ []) = write before is.written in
-        let whole : before ++ put ways so_far ∷ [] ≡ masked_items ways (more_values so_far) side (items ++ i ∷ []) =
-        ap₂ (λ (l : List Item) (j : Item). l ++ j ∷ []) (sym stay) item ∙ sym (map-append (masked_item ways (more_values so_far) side) items (i ∷ [])) in
+        let whole : before ++ put ways so_far ∷ [] ≡ masked_items ways (more_values so_far) first (items ++ i ∷ []) =
+        ap₂ (λ (l : List Item) (j : Item). l ++ j ∷ []) (sym stay) item ∙ sym (masked_items-append ways (more_values so_far) first items (i ∷ [])) in
         record {
           ways_are = are;
           tables = subst (HoldsValues ways (tables_in classes)) now tables;
           handles = gathers;
-          written = subst (λ (seen : Class → List ℕ). bytes ≡ zero_spelling (masked_items ways seen side (items ++ i ∷ []))) now (added ∙ ap zero_spelling whole);
+          spot_is = moved ∙ ap (λ (o : Option Spot). found_next o i) is.spot_is ∙ sym (found_more items i);
+          written = subst (λ (seen : Class → List ℕ). bytes ≡ zero_spelling (masked_items ways seen first (items ++ i ∷ []))) now (added ∙ ap zero_spelling whole);
         }
 
-    -- the class is the item's, on the side of the message
+    -- the class is that at the writer's spot, and what follows is at the next one
     abbrev pub IsFound : Type 0
-    IsFound = (side : Side) (seen : Class → List ℕ) (items : List Item) → BeginsOn side (items ++ i ∷ []) → w.writer ≡ zero_spelling (masked_items w.classes.ways seen side items) → own ≡ class_of side i
+    IsFound = (own ≡ class_found w.spot i) × (spot ≡ found_next w.spot i)
 
     abbrev Held : (Class → List ℕ) → Type 0
     Held seen = HoldsValues w.classes.ways (tables_in w.classes) seen
@@ -154,7 +168,7 @@ module _ {P S H : Type 0} (ways : Ways) (w : MaskingWriter P S H) where
     adds : classes.ways ≡ w.classes.ways → IsFound → ((seen : Class → List ℕ) → Held seen → HoldsValues classes.ways (tables_in classes) (more_values seen))
         → ((items : List Item) → Gathers w.handles items → Gathers gathered (items ++ i ∷ []))
         → ((seen : Class → List ℕ) → Held seen → Adds Spells w.writer bytes (put w.classes.ways seen ∷ []))
-        → Adds (MaskStands ways) w (with_parts gathered classes bytes) (i ∷ [])
+        → Adds (MaskStands ways) w (with_parts gathered classes bytes spot) (i ∷ [])
     unfolding Adds
     adds same found tables gathers write all stands going =
         let (front, items, are, is) = stands going in (
@@ -165,33 +179,54 @@ module _ {P S H : Type 0} (ways : Ways) (w : MaskingWriter P S H) where
               let h = is side (begins_before side items (i ∷ []) begins) in
               let so_far : Class → List ℕ = values_so_far front side items in
               let held : Held so_far = subst (λ k. HoldsValues k (tables_in w.classes) so_far) (sym h.ways_are) h.tables in
-              let written : w.writer ≡ zero_spelling (masked_items w.classes.ways so_far side items) = subst (λ k. w.writer ≡ zero_spelling (masked_items k so_far side items)) (sym h.ways_are) h.written in
-              one_more front side items h (found side so_far items begins written) (same ∙ h.ways_are)
+              let class : own ≡ class_of (spot_of_next side items) i = found.0 ∙ ap (λ (o : Option Spot). class_found o i) h.spot_is ∙ found_class side items i begins in
+              one_more front side items h class found.1 (same ∙ h.ways_are)
               (subst (λ k. HoldsValues k (tables_in classes) (more_values so_far)) (same ∙ h.ways_are) (tables so_far held))
               (subst (Gathers gathered) (append_assoc front items (i ∷ [])) (gathers (front ++ items) h.handles))
               (subst (λ k. Adds Spells w.writer bytes (put k so_far ∷ [])) h.ways_are (write so_far held))),
         )
 
   -- an item that may have a class, and has no handle
-  pub adds_of_class : (own : Option Class) (n : ℕ) (classes : ClassTables S H) (bytes : List ℕ) (i j : Item) (o : Option ℕ) → n ≡ class_value i → handles_in (i ∷ []) ≡ [] → classes.ways ≡ w.classes.ways
-      → IsFound own w.handles classes bytes i
+  pub adds_of_class : (own : Option Class) (n : ℕ) (classes : ClassTables S H) (bytes : List ℕ) (spot : Option Spot) (i j : Item) (o : Option ℕ) → n ≡ class_value i → handles_in (i ∷ []) ≡ [] → classes.ways ≡ w.classes.ways
+      → IsFound own w.handles classes bytes spot i
       → ((seen : Class → List ℕ) → HoldsValues w.classes.ways (tables_in w.classes) seen → HoldsValues classes.ways (tables_in classes) (with_one seen own n))
       → ((seen : Class → List ℕ) → HoldsValues w.classes.ways (tables_in w.classes) seen → o ≡ substitute w.classes.ways (with_one seen own n) own n)
-      → with_value i o ≡ j → Adds Spells w.writer bytes (j ∷ []) → Adds (MaskStands ways) w (with_parts w.handles classes bytes) (i ∷ [])
-  adds_of_class own n classes bytes i j o value none same found tables is with_it write =
-      adds own w.handles classes bytes i same found (λ seen h. subst (λ m. HoldsValues classes.ways (tables_in classes) (with_one seen own m)) value (tables seen h)) (λ items g. gathers_none w.handles items (i ∷ []) none g)
+      → with_value i o ≡ j → Adds Spells w.writer bytes (j ∷ []) → Adds (MaskStands ways) w (with_parts w.handles classes bytes spot) (i ∷ [])
+  adds_of_class own n classes bytes spot i j o value none same found tables is with_it write =
+      adds own w.handles classes bytes spot i same found (λ seen h. subst (λ m. HoldsValues classes.ways (tables_in classes) (with_one seen own m)) value (tables seen h)) (λ items g. gathers_none w.handles items (i ∷ []) none g)
       (λ seen h. let put_is : o ≡ substitute w.classes.ways (with_one seen own (class_value i)) own (class_value i) = is seen h ∙ ap (λ m. substitute w.classes.ways (with_one seen own m) own m) value in
       subst (λ k. Adds Spells w.writer bytes (k ∷ [])) (sym with_it ∙ ap (with_value i) put_is) write)
 
+  -- ---- an item that is no word moves nowhere
+
+  none_moves : (i : Item) → IsNoWord i → (o : Option Spot) → o ≡ found_next o i
+  none_moves (Word name n) other o = absurd other
+  none_moves (Hyper name n) other None = refl
+  none_moves (Fixed name bytes) other None = refl
+  none_moves (WriteVerf name bytes) other None = refl
+  none_moves (Opaque kind name bytes) other None = refl
+  none_moves (Rest name bytes) other None = refl
+  none_moves i other (Some spot) = ap Some (sym (still_after spot i other))
+
+  pub stays_found : (i : Item) → IsNoWord i → w.spot ≡ found_next w.spot i
+  stays_found i other = none_moves i other w.spot
+
   -- an item of no class
-  adds_classless : (gathered : List handles.Handle) (bytes : List ℕ) (i : Item) → ((side : Side) → class_of side i ≡ None) → ((items : List Item) → Gathers w.handles items → Gathers gathered (items ++ i ∷ [])) → Adds Spells w.writer bytes (i ∷ [])
-      → Adds (MaskStands ways) w (with_parts gathered w.classes bytes) (i ∷ [])
-  adds_classless gathered bytes i none gathers write =
-      adds None gathered w.classes bytes i refl (λ side seen items b e. sym (none side)) (λ seen h. holds_without w.classes.ways (tables_in w.classes) seen None (class_value i) refl h) gathers (λ seen h. write)
+  abbrev pub IsClassless : Item → Type 0
+  IsClassless i = (spot : Spot) → class_of spot i ≡ None
 
-  pub adds_plain : (bytes : List ℕ) (i : Item) → ((side : Side) → class_of side i ≡ None) → handles_in (i ∷ []) ≡ [] → Adds Spells w.writer bytes (i ∷ []) → Adds (MaskStands ways) w (with_parts w.handles w.classes bytes) (i ∷ [])
-  adds_plain bytes i none empty write = adds_classless w.handles bytes i none (λ items g. gathers_none w.handles items (i ∷ []) empty g) write
+  finds_none : (i : Item) → IsClassless i → (o : Option Spot) → None ≡ class_found o i
+  finds_none i none None = refl
+  finds_none i none (Some spot) = sym (none spot)
 
-  pub adds_handle : (gathered : List handles.Handle) (bytes : List ℕ) (i : Item) → ((side : Side) → class_of side i ≡ None) → Adds Gathers w.handles gathered (i ∷ []) → Adds Spells w.writer bytes (i ∷ []) → Adds (MaskStands ways) w (with_parts gathered w.classes bytes) (i ∷ [])
+  adds_classless : (gathered : List handles.Handle) (bytes : List ℕ) (i : Item) → IsNoWord i → IsClassless i → ((items : List Item) → Gathers w.handles items → Gathers gathered (items ++ i ∷ [])) → Adds Spells w.writer bytes (i ∷ [])
+      → Adds (MaskStands ways) w (with_parts gathered w.classes bytes w.spot) (i ∷ [])
+  adds_classless gathered bytes i other none gathers write =
+      adds None gathered w.classes bytes w.spot i refl (finds_none i none w.spot, stays_found i other) (λ seen h. holds_without w.classes.ways (tables_in w.classes) seen None (class_value i) refl h) gathers (λ seen h. write)
+
+  pub adds_plain : (bytes : List ℕ) (i : Item) → IsNoWord i → IsClassless i → handles_in (i ∷ []) ≡ [] → Adds Spells w.writer bytes (i ∷ []) → Adds (MaskStands ways) w (with_parts w.handles w.classes bytes w.spot) (i ∷ [])
+  adds_plain bytes i other none empty write = adds_classless w.handles bytes i other none (λ items g. gathers_none w.handles items (i ∷ []) empty g) write
+
+  pub adds_handle : (gathered : List handles.Handle) (bytes : List ℕ) (i : Item) → IsNoWord i → IsClassless i → Adds Gathers w.handles gathered (i ∷ []) → Adds Spells w.writer bytes (i ∷ []) → Adds (MaskStands ways) w (with_parts gathered w.classes bytes w.spot) (i ∷ [])
   unfolding Adds
-  adds_handle gathered bytes i none gathers write = adds_classless gathered bytes i none gathers write
+  adds_handle gathered bytes i other none gathers write = adds_classless gathered bytes i other none gathers write

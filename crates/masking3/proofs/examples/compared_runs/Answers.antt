@@ -11,6 +11,7 @@ use Rattle.masking3.specs.Masked.{masked_values, values}
 use Rattle.masking3.specs.SameBut.{SameButValues}
 use Rattle.masking3.specs.Ways.{usual}
 use Rattle.masking3.proofs.Lemmas.Classes.ClassLemmas.{for_each}
+use Rattle.masking3.proofs.Lemmas.Classes.SpotLemmas.{xid_free}
 use Rattle.masking3.proofs.Lemmas.Masked.SameButLemmas.{HasFreeXid, same_but_from_same, same_from_same_but}
 use Rattle.masking3.proofs.examples.compared_runs.Goals as goal
 
@@ -19,16 +20,16 @@ told_by a b free d s = not_same_by (masked_values usual a) (masked_values usual 
 
 free : (first second sec : ℕ) → AllByRecursion HasFreeXid (getattrs_of_two first second sec)
 unfolding names head_names
-free first second sec = assumption
+free first second sec = assumption xid_free
 
 free_cookie : (cookie : ℕ) → AllByRecursion HasFreeXid (list_from cookie)
 unfolding names head_names
-free_cookie cookie = assumption
+free_cookie cookie = assumption xid_free
 
 room : (first second sec : ℕ) (d : Class) → length (values (getattrs_of_two first second sec) d) < 2 ^ 64
 unfolding names head_names
 room first second sec d =
-    for_each (λ d. length (values (getattrs_of_two first second sec) d) < 2 ^ 64) (omega arith) (omega arith) (omega arith) (omega arith) (omega arith) (omega arith) (omega arith) (omega arith) (omega arith) d
+    for_each (λ d. length (values (getattrs_of_two first second sec) d) < 2 ^ 64) (omega arith) (omega arith) (omega arith) (omega arith) (omega arith) (omega arith) (omega arith) (omega arith) (omega arith) (omega arith) d
 
 pub returns : goal.returns
 unfolding names head_names

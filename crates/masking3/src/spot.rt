@@ -1,0 +1,68 @@
+//! Where an item stands in its message, as far as its class depends on that.
+
+ghost use Rattle.std.specs.Prelude.{◌≡◌, None};
+ghost use Rattle.xdr3.specs.Item.{Word};
+ghost use Rattle.masking3.specs.Spots.{after_word, next_spot};
+ghost use Rattle.masking3.specs.machinery.MessageSpot.{found_next};
+
+/// Where an item stands in its message.
+#[derive(Clone, Copy, Debug, PartialEq, Eq)]
+pub enum Spot {
+    /// In a call.
+    InCall,
+    /// In a reply, at none of the following.
+    InReply,
+    /// In a reply, in the attributes of a directory, or after them.
+    InDirectory,
+    /// In a reply, in wcc_data (RFC 1813, section 2.6), or after it.
+    InWcc,
+}
+
+impl Spot {
+    /// Returns the spot of what follows a word of this name.
+    pub(crate) fn next(self, name: &str, n: u32) -> Spot
+        ensures { result ≡ next_spot self (Word name.now n) }
+    {
+        match self {
+            Spot::InCall => Spot::InCall,
+            Spot::InReply => after_word(Spot::InReply, name, n),
+            Spot::InDirectory => after_word(Spot::InDirectory, name, n),
+            Spot::InWcc => Spot::InWcc,
+        }
+    }
+}
+
+/// Returns the spot of what follows a word of this name, in a reply and in no wcc_data.
+#[tactic(auto, unfolding(nfs3_types::specs::Names::names))]
+fn after_word(spot: Spot, name: &str, n: u32) -> Spot
+    ensures { result ≡ after_word spot name.now n }
+{
+    match name {
+        "before" => Spot::InWcc,
+        "type" if n == 2 => Spot::InDirectory,
+        "type" => Spot::InReply,
+        _ => spot,
+    }
+}
+
+/// Returns the spot of what follows a word of this name in a message. There is none up to the mtype.
+pub(crate) fn found_next(spot: Option<Spot>, name: &str, n: u32) -> Option<Spot>
+    ensures { result ≡ found_next spot (Word name.now n) }
+{
+    match spot {
+        Some(spot) => Some(spot.next(name, n)),
+        None => first_found(name, n),
+    }
+}
+
+/// Returns the first spot after an mtype, which is 0 in a call (RFC 5531, section 9).
+#[tactic(auto, unfolding(rpc_head::specs::Names::head_names))]
+fn first_found(name: &str, n: u32) -> Option<Spot>
+    ensures { result ≡ found_next None (Word name.now n) }
+{
+    match name {
+        "mtype" if n == 0 => Some(Spot::InCall),
+        "mtype" => Some(Spot::InReply),
+        _ => None,
+    }
+}
