@@ -260,26 +260,6 @@ def sizes_of_changes(place: Findings) -> None:
                ['dir before.size', 'dir after.nlink', 'dir after.size'])
 
 
-def names_of_removed_files(place: Findings) -> None:
-    """Names of .nfs and 24 digits are renamed one to one in calls and replies, and others are not."""
-    one, other, third = b'.nfs' + b'0' * 24, b'.nfs' + b'a1' * 12, b'.nfs' + b'7' * 24
-    mask = {'sillynames': Way.NUMBER}
-    def removed(*names: bytes) -> tuple[int, bytes, bytes]:
-        return 14, dirop(H, names[0]) + dirop(H, names[1]), ok(wcc(), wcc())
-    place.want('renamed', differing_under(place, mask, removed(one, third), removed(other, one)), [])
-    place.want('one for two', differing_under(place, mask, removed(one, third), removed(other, other)), ['to.name'])
-    place.want('two for one', differing_under(place, mask, removed(one, one), removed(other, third)), ['to.name'])
-    place.want('without the mask', differing_under(place, {}, removed(one, one), removed(other, other)), ['from.name', 'to.name'])
-    for name in (other + b'0', other[:-1], b'x' + other[1:], other.upper(), b'a'):
-        place.want(name.decode(), differing_under(place, mask, removed(one, one), removed(name, one)), ['from.name'])
-    def listing(*names: bytes) -> tuple[int, bytes, bytes]:
-        entries = [messages.entry(number, name, 0) for number, name in enumerate(names)]
-        return 16, fh(H) + bytes(20), ok(messages.entries(None, bytes(8), entries, is_end=True))
-    place.want('entries', differing_under(place, mask, listing(b'a', one, third), listing(b'a', third, other)), [])
-    place.want('an entry more', differing_under(place, mask, listing(b'a', one), listing(b'a', third, other)), ['entry.name'])
-    place.want('without the mask', differing_under(place, {}, listing(b'a', one), listing(b'a', other)), ['entry.name', 'entry.name'])
-
-
 # --- Long values ---
 
 def written(data: bytes, offset: int = 65_536) -> tuple[list[bytes], list[bytes]]:
@@ -619,7 +599,7 @@ def json_is_an_output(place: Findings) -> None:
 
 TESTS: list[Callable[[Findings], None]] = [
     labels_of_every_procedure, labels_of_fewer_parts, fields_are_those_of_labels, differing_labels, sizes_of_changes,
-    names_of_removed_files, data_of_files, values_that_part, long_names, long_handles, names_of_numbers, equal_findings,
+    data_of_files, values_that_part, long_names, long_handles, names_of_numbers, equal_findings,
     equal_findings_of_one_run, equal_findings_of_renamed_values, the_first_twenty, fields_left_out, as_json, json_of_recordings,
     json_is_an_output]
 

@@ -57,8 +57,6 @@ CLASSES = (
                only_in_calls=names('group')),
     ValueClass('wcc', names('size nlink'), Way.ZERO, False,
                'sizes and counts of links, in replies, that others may change meanwhile', is_of_changes=True),
-    ValueClass('sillynames', names('name'), Way.NUMBER, False, 'names that clients give to removed files that are open: .nfs and 24 digits',
-               form=re.compile(r'"\.nfs[0-9a-f]{24}"')),
 )
 BY_NAME = {one.name: one for one in CLASSES}
 

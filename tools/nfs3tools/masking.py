@@ -3,13 +3,9 @@ from .classes import BY_NAME, Mask
 from .programs import MASKED, program_beside, run_program
 
 
-# Classes of which nfs3mask does not know yet.
-UNKNOWN = ('sillynames',)
-
-
 def words_for(mask: Mask) -> list[str]:
     """Returns the words by which nfs3mask masks the classes of a mask, and keeps all others."""
-    return [f'{name}={mask[name].value if name in mask else "keep"}' for name in BY_NAME if name not in UNKNOWN]
+    return [f'{name}={mask[name].value if name in mask else "keep"}' for name in BY_NAME]
 
 
 def write_masked(program: str, capture: str, path: str, mask: Mask) -> None:
