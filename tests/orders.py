@@ -310,6 +310,40 @@ def ids_and_orders(place: Comparisons) -> None:
     place.want('compared', (status, out[1][:10], any('fileid' in line for line in out)), (1, 'differ at ', True))
 
 
+def seen_in_the_middle(place: Comparisons) -> None:
+    """Sizes in replies to WRITE depend on which of several writes the server has done, and are not compared in any order. They are told,
+    and compared if the class is named."""
+    def run(*sizes: int) -> Conversation:
+        data = [opaque(b'%d' % number) for number in range(4)]
+        order = sorted(range(4), key=lambda number: sizes[number])
+        return ([call(at, NFS, 3, WRITE, fh(b'a') + hyper(8 * at) + word(1) + word(0) + data[at]) for at in order],
+                [success(at, ok(wcc(sizes[at] - 8, fattr(1, 5, sizes[at])), word(1), word(2), b'verifier')) for at in order])
+    place.put('a', run(8, 16, 24, 32))
+    place.put('b', run(16, 8, 24, 32))
+    words = ('4 of 4 calls belong together; 1 in another turn; 1 reply in another turn; obj before.size in 2 replies; '
+             'obj after.size in 2 replies')
+    place.wants('sizes', 0, [words], '--order', 'any')
+    place.want('told', place.compare('a', 'b')[1][1],
+               'same in another order: 4 calls; 1 in another turn; 1 reply in another turn; masked besides: ids=zero,wcc=zero')
+    status, out, _ = place.compare('--mask=-wcc', '--order', 'any', 'a', 'b')
+    place.want('compared', (status, out[1][:10], '  - obj after.size=8' in out), (1, 'differ at ', True))
+
+
+def folders_that_others_change(place: Comparisons) -> None:
+    """GETATTR of a folder whose count of links grows meanwhile: those with the same count belong together, so nothing more is masked."""
+    def run(*links: int) -> Conversation:
+        return ([call(xid, NFS, 3, GETATTR, fh(b'folder')) for xid, _ in enumerate(links)],
+                [success(xid, ok(fattr(2, 5, nlink=nlink))) for xid, nlink in enumerate(links)])
+    place.put('a', run(2, 3, 4, 5))
+    place.put('b', run(3, 2, 4, 5))
+    place.want('links', place.compare('--order', 'any', 'a', 'b')[1][1],
+               'same in another order: 4 calls; 1 in another turn; 1 reply in another turn')
+    place.put('b', run(9, 2, 3, 5))
+    status, out, _ = place.compare('--order', 'any', 'a', 'b')
+    place.want('another count', (status, out[1].partition('; masked besides: ')[2], out[2].endswith('; obj.nlink in 1 reply')),
+               (0, 'ids=zero,wcc=zero', True))
+
+
 def masks_of_any_order(place: Comparisons) -> None:
     """Classes that are named stay as they are, and so does a whole mask."""
     last = {name: way for name, way in default_mask().items() if name != 'ids'}
@@ -432,7 +466,8 @@ def many_in_another_order(place: Comparisons) -> None:
 
 TESTS: list[Callable[[Comparisons], None]] = [
     runs_are_written_anew, records_of_several_fragments, orders_that_are_none, wrong_writers_are_caught, clients_at_once,
-    what_differs_is_found, calls_that_only_ask, ids_and_orders, masks_of_any_order, orders_of_replies, connections_by_what_they_ask,
+    what_differs_is_found, calls_that_only_ask, ids_and_orders, seen_in_the_middle, folders_that_others_change,
+    masks_of_any_order, orders_of_replies, connections_by_what_they_ask,
     calls_between_neighbours, files_that_were_made_again, one_name_for_many_files,
     many_in_another_order]
 

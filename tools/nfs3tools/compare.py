@@ -9,8 +9,8 @@ how many calls were compared follows it. If bytes are missing from a recording, 
 is told.
 
 If the runs differ, calls are brought together over all connections and in any order. If nothing else than the order differs, they are
-`same in another order`: that is the word of `nfs3canon same` on both runs in the order of the first. File ids are zero then, and calls
-that only ask (GETATTR, LOOKUP ..) and that one run alone has are left out; all that is told. Otherwise each difference is printed as
+`same in another order`: that is the word of `nfs3canon same` on both runs in the order of the first. File ids are zero then (and the class
+wcc, if that is not enough), and calls that only ask (GETATTR, LOOKUP ..) and that one run alone has are left out; all that is told. Otherwise each difference is printed as
 `diff` would: which call, which field and whose (`dir after.size`), both values, and the frames. Of values of over 60 characters it is
 the bytes round the first that differs. Messages of one procedure that differ in the same way are printed once, with their number.
 

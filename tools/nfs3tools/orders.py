@@ -40,8 +40,8 @@ class Orders:
 
     def __init__(self, trial: Trial, first: Run, second: Run, choices: Choices) -> None:
         self.trial, self.choices = trial, choices
-        leaves_out = frozenset[str]() if choices.order == 'strict' else choices.leaves_out
-        self.pairing = trial.paired(choices.masks[0 if choices.order == 'strict' else -1], leaves_out)
+        leaves_out, masks = (frozenset[str](), choices.masks[:1]) if choices.order == 'strict' else (choices.leaves_out, choices.masks[-2:])
+        self.pairing = trial.paired(masks, leaves_out)
         self.is_in_place = self.pairing.is_in_place()
         self.captures = trial.captures if self.is_in_place else trial.in_one_order(self.pairing)
         self.explaining = Explaining(first, second, self.pairing, leaves_out)

@@ -273,6 +273,20 @@ class Outlines:
         """Returns the exchanges with the lines of their calls."""
         return enumerate(line for line in lines if ' client ' in line[:24])
 
+    def said_again(self, lines: Iterable[str], wanted: set[int], mask: Mask) -> dict[int, tuple[int, ...]]:
+        """Returns what is said in some exchanges, by the listing under another mask."""
+        out, pattern = {at: [self.asked[at], self.identities[self.found[at]]] for at in wanted}, renamed_values(mask)
+        place, replies = -1, array('I')
+        for line in self.without_silly_names(lines):
+            number, side, record, _, rest = line.split(' ', 4)
+            if place < 0 or self.connections[place] != int(number):
+                place = self.place_of(int(number))
+                replies = self.exchanges_of_replies(place)
+            at = self.starts[place] + int(record) - 1 if side == 'client' else replies[int(record)]
+            if at in wanted:
+                out[at].append(hash(pattern.sub('', rest)))
+        return {at: tuple(said) for at, said in out.items()}
+
     def with_origins(self, exchanges: Iterable[int]) -> set[int]:
         """Returns these exchanges, and all that say where their objects are."""
         out = set(exchanges)

@@ -5,7 +5,9 @@ from collections.abc import Callable, Hashable, Iterable, Iterator, Sequence
 from dataclasses import dataclass
 from functools import cached_property
 from itertools import groupby, islice, pairwise
+from typing import NamedTuple
 
+from .classes import Mask
 from .matching import Pair, aligned, blocks_of, increasing
 from .outlines import Outlines
 from .reordered import Exchange
@@ -218,13 +220,34 @@ class Pairs:
                 self.bind(here[at], there[to])
 
 
-def paired(here: Outlines, there: Outlines, listings: tuple[Listing, Listing], lonely: frozenset[str]) -> Pairing:
-    """Brings the exchanges of two runs together: those that are equal first, then those whose calls ask the same, then alike calls, then
-    calls of one procedure between the same neighbours. Calls of the lonely procedures are brought together only if they ask the same.
+class Relaxed(NamedTuple):
+    """A mask that masks more, and the listings of both runs under it."""
+    mask: Mask
+    listings: tuple[Listing, Listing]
+
+
+def several(pairs: Pairs) -> tuple[set[int], set[int]]:
+    """Returns the exchanges without a partner of which several ask the same, and both runs have some."""
+    left, others = pairs.left()
+    asked, asked_there = Counter(map(pairs.here.asked.__getitem__, left)), Counter(map(pairs.there.asked.__getitem__, others))
+    keys = {key for key in asked.keys() & asked_there.keys() if asked[key] + asked_there[key] > 2}
+    return {at for at in left if pairs.here.asked[at] in keys}, {to for to in others if pairs.there.asked[to] in keys}
+
+
+def paired(here: Outlines, there: Outlines, listings: tuple[Listing, Listing], lonely: frozenset[str],
+           relaxed: Callable[[], Relaxed] | None = None) -> Pairing:
+    """Brings the exchanges of two runs together: those that are equal first, also under a relaxed mask if there is one; then those whose
+    calls ask the same, then alike calls, then calls of one procedure between the same neighbours. Calls of the lonely procedures are
+    brought together only if they ask the same.
     """
     pairs = Pairs(here, there)
     pairs.in_order()
     pairs.by_turn(here.said.__getitem__, there.said.__getitem__)
+    own, its = several(pairs) if relaxed else (set[int](), set[int]())
+    if relaxed and own:
+        mask, (first, second) = relaxed()
+        said, answered = here.said_again(first(), own, mask), there.said_again(second(), its, mask)
+        pairs.by_turn(lambda at: said.get(at, ('first', at)), lambda to: answered.get(to, ('second', to)))
     pairs.by_turn(here.asked.__getitem__, there.asked.__getitem__)
     left, others = ({at for at in some if outlines.procedure_of(at) not in lonely} for some, outlines in zip(pairs.left(), (here, there)))
     if left and others:

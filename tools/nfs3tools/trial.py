@@ -5,7 +5,7 @@ from pathlib import Path
 from .classes import Mask
 from .masking import write_masked
 from .outlines import Outlines, When
-from .pairing import InOrder, Listing, Pairing, paired
+from .pairing import InOrder, Listing, Pairing, Relaxed, paired
 from .places import Place
 from .programs import CHECKED, COMPARED, lines_of_program, run_program
 from .reordered import write_in_order
@@ -53,11 +53,13 @@ class Trial:
             run_program(self.program, ['canon', capture, name], CHECKED)
         return self.listing(names[0]), self.listing(names[1])
 
-    def paired(self, mask: Mask, lonely: frozenset[str]) -> Pairing:
-        """Brings the exchanges of both runs together, by what they have in common under a mask."""
+    def paired(self, masks: Sequence[Mask], lonely: frozenset[str]) -> Pairing:
+        """Brings the exchanges of both runs together, by what they have in common under the first mask, or else under the second."""
+        mask, *more = masks
         listings = self.canonical(self.masked(self.captures, mask))
         here, there = (Outlines(listing(), mask, when_of(taken)) for listing, taken in zip(listings, self.runs))
-        return paired(here, there, listings, lonely)
+        relaxed = (lambda: Relaxed(more[0], self.canonical(self.masked(self.captures, more[0])))) if more else None
+        return paired(here, there, listings, lonely, relaxed)
 
     def in_one_order(self, pairing: Pairing) -> list[str]:
         """Writes both runs in the order of the first one, without the exchanges that have no partner. Returns the captures' names."""
