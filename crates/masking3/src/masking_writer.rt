@@ -16,7 +16,7 @@ ghost use Rattle.masking3.specs.machinery.UnnamedBody.{body_by, unnamed_body};
 use crate::class::{fixed_class, hyper_class, word_class};
 use crate::class_tables::ClassTables;
 use crate::hashers::ClassHashers;
-use crate::spot::{Spot, found_next};
+use crate::spot::{Spot, spot_after};
 use crate::unnamed_body::without_name;
 use crate::ways::{Way, Ways};
 use byteorder::{BigEndian, ByteOrder};
@@ -94,7 +94,7 @@ impl<P: Plan, S: BuildHasher + Drop> MaskingWriter<P, S> {
             (Adds (MaskStands P.ways) self.old self.new (Word name.now n ∷ [])) }
     {
         let class = word_class(self.spot, name);
-        self.spot = found_next(self.spot, name, n);
+        self.spot = spot_after(self.spot, class, name, n);
         match self.classes.substitute(class, u64::from(n))? {
             Some(substitute) => self.writer.word(name, substitute),
             None => self.writer.word(name, n),

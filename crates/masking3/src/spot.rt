@@ -3,7 +3,9 @@
 ghost use Rattle.std.specs.Prelude.{◌≡◌, None};
 ghost use Rattle.xdr3.specs.Item.{Word};
 ghost use Rattle.masking3.specs.Spots.{after_word, next_spot};
-ghost use Rattle.masking3.specs.machinery.MessageSpot.{found_next};
+ghost use Rattle.masking3.specs.machinery.MessageSpot.{class_found, found_next};
+
+use crate::class::Class;
 
 /// Where an item stands in its message.
 #[derive(Clone, Copy, Debug, PartialEq, Eq)]
@@ -45,8 +47,25 @@ fn after_word(spot: Spot, name: &str, n: u32) -> Spot
     }
 }
 
-/// Returns the spot of what follows a word of this name in a message. There is none up to the mtype.
-pub(crate) fn found_next(spot: Option<Spot>, name: &str, n: u32) -> Option<Spot>
+/// Returns the spot of what follows a word of this name in a message. There is none up to the mtype. A word that has
+/// a class leaves the spot as it is.
+pub(crate) fn spot_after(
+    spot: Option<Spot>,
+    class: Option<Class>,
+    name: &str,
+    n: u32,
+) -> Option<Spot>
+    requires { class ≡ class_found spot (Word name.now n) }
+    ensures { result ≡ found_next spot (Word name.now n) }
+{
+    match class {
+        Some(_) => spot,
+        None => found_next(spot, name, n),
+    }
+}
+
+/// Returns the same for a word of any class, or of none.
+fn found_next(spot: Option<Spot>, name: &str, n: u32) -> Option<Spot>
     ensures { result ≡ found_next spot (Word name.now n) }
 {
     match spot {

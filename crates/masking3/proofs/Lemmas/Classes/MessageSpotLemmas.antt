@@ -13,11 +13,12 @@ use Rattle.capture3.specs.declared.fault.Side.TheVariants.{Client, Server}
 use Rattle.capture3.specs.Entry.{Entry, Reply}
 use Rattle.canon3.proofs.Lemmas.WellFormed.Messages.{FitsCall, FitsReply, is_headed_call, is_headed_reply}
 use Rattle.canon3.proofs.Lemmas.Numbers.RankLemmas.{by_test}
+use Rattle.masking3.specs.declared.class.Class.{Class}
 use Rattle.masking3.specs.declared.spot.Spot.{Spot}
 use Rattle.masking3.specs.Classes.{class_of}
 use Rattle.masking3.specs.Spots.{next_spot}
 use Rattle.masking3.specs.machinery.MessageSpot.{BeginsOn, class_found, first_spot, found_after, found_next, mtype_of}
-use Rattle.masking3.proofs.Lemmas.Classes.SpotLemmas.{mtype_free, spot_after, xid_free}
+use Rattle.masking3.proofs.Lemmas.Classes.SpotLemmas.{mtype_free, spot_after, still, xid_free}
 
 -- ---- how messages begin
 
@@ -53,6 +54,11 @@ entry_side _ = Client
 
 pub found_more : (items : List Item) (i : Item) → found_after (items ++ i ∷ []) ≡ found_next (found_after items) i
 found_more items i = fold-append found_next None items (i ∷ [])
+
+-- an item of a class moves nowhere
+pub found_still : (spot : Option Spot) (i : Item) (d : Class) → class_found spot i ≡ Some d → spot ≡ found_next spot i
+found_still None i d is = absurd cc
+found_still (Some spot) i d is = ap Some (sym (still spot i d is))
 
 found_some : (spot : Spot) (items : List Item) → fold found_next (Some spot) items ≡ Some (spot_after spot items)
 found_some spot [] = refl

@@ -10,8 +10,8 @@ returns-in-Some g c =
     let i = Word c.args.name.now c.args.n in
     record {
       ok = on_ok_weaker c.word.result
-          (adds_of_class g.P.Plan.ways c.args.self.now c.word_class-class.result c.from.result c.substitute.new.self c.word.new.self c.found_next-self.result i (Word c.args.name.now c.in-Some.substitute) (Some c.in-Some.substitute) c.from.ensures refl c.substitute.ensures.ways
-          (c.word_class-class.ensures c.args.n, c.found_next-self.ensures)
+          (adds_of_class g.P.Plan.ways c.args.self.now c.word_class-class.result c.from.result c.substitute.new.self c.word.new.self c.spot_after-self.result i (Word c.args.name.now c.in-Some.substitute) (Some c.in-Some.substitute) c.from.ensures refl c.substitute.ensures.ways
+          (c.word_class-class.ensures c.args.n, c.spot_after-self.ensures)
           (λ seen h. c.in_ok-substitute.ensures.holds seen h)
           (λ seen h. sym c.in-Some.is ∙ c.in_ok-substitute.ensures.stands seen h) refl)
           c.word.ensures.ok;
@@ -22,8 +22,8 @@ returns-in-None g c =
     let i = Word c.args.name.now c.args.n in
     record {
       ok = on_ok_weaker c.word-in-None.result
-          (adds_of_class g.P.Plan.ways c.args.self.now c.word_class-class.result c.from.result c.substitute.new.self c.word-in-None.new.self c.found_next-self.result i i None c.from.ensures refl c.substitute.ensures.ways
-          (c.word_class-class.ensures c.args.n, c.found_next-self.ensures)
+          (adds_of_class g.P.Plan.ways c.args.self.now c.word_class-class.result c.from.result c.substitute.new.self c.word-in-None.new.self c.spot_after-self.result i i None c.from.ensures refl c.substitute.ensures.ways
+          (c.word_class-class.ensures c.args.n, c.spot_after-self.ensures)
           (λ seen h. c.in_ok-substitute.ensures.holds seen h)
           (λ seen h. sym c.in-None.is ∙ c.in_ok-substitute.ensures.stands seen h) refl)
           c.word-in-None.ensures.ok;
