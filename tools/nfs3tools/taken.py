@@ -225,6 +225,14 @@ class Taken:
             raise NoPlace(f'there is no {place._replace(byte=None)}')
         return stream.frames(*bytes_of(stream, extent, place))
 
+    def ends(self) -> tuple[FrameRef, FrameRef] | None:
+        """Returns the first and the last frame that brought bytes of the connections, if frames are noted."""
+        noted = [stream.noted for pair in self.pairs() for stream in pair if stream.noted is not None and stream.noted.numbers]
+        if not noted:
+            return None
+        return (FrameRef(*min(min(zip(frames.numbers, frames.times)) for frames in noted)),
+                FrameRef(*max(max(zip(frames.numbers, frames.times)) for frames in noted)))
+
     def __enter__(self) -> 'Taken':
         return self
 
