@@ -14,6 +14,7 @@ import json
 import os
 import shutil
 import subprocess
+import sys
 import time
 from collections.abc import Iterator
 from pathlib import Path
@@ -21,7 +22,12 @@ from typing import Any
 
 WORDS = ('--headless', '--no-sandbox', '--disable-gpu', '--no-first-run', '--disable-extensions', '--hide-scrollbars',
          '--remote-debugging-pipe')
-READS, WRITES = 3, 4  # the numbers of the pipes in Chromium
+# Gives the pipes the numbers under which Chromium reads and writes, and runs it.
+STARTED = """import os, sys
+os.dup2(int(sys.argv[1]), 3)
+os.dup2(int(sys.argv[2]), 4)
+os.execv(sys.argv[3], sys.argv[3:])
+"""
 SECONDS = 60.0  # that an answer may take
 HEIGHT = 900
 
@@ -46,15 +52,12 @@ class Browser:
         self.number, self.session, self.is_loaded, self.rest = 0, '', False, b''
         theirs, self.out = map(above_standard, os.pipe())
         self.into, others = map(above_standard, os.pipe())
-
-        def prepare() -> None:
-            os.dup2(theirs, READS)
-            os.dup2(others, WRITES)
         path = chromium()
         assert path
         self.process = subprocess.Popen(
-            [path, *WORDS, f'--user-data-dir={folder}', 'about:blank'], stdin=subprocess.DEVNULL, stdout=subprocess.DEVNULL,
-            stderr=subprocess.DEVNULL, pass_fds=(READS, WRITES), preexec_fn=prepare, env={**os.environ, 'HOME': folder})
+            [sys.executable, '-c', STARTED, str(theirs), str(others), path, *WORDS, f'--user-data-dir={folder}', 'about:blank'],
+            stdin=subprocess.DEVNULL, stdout=subprocess.DEVNULL, stderr=subprocess.DEVNULL, pass_fds=(theirs, others),
+            env={**os.environ, 'HOME': folder})
         os.close(theirs)
         os.close(others)
         target = self.ask('Target.createTarget', url='about:blank')['targetId']
