@@ -154,9 +154,9 @@ class Browser:
         self.ask('Input.insertText', text=text)
 
     def click(self, selector: str) -> None:
-        """Clicks into the middle of the first element of a selector."""
+        """Clicks into the middle of the first element of a selector, of its first line if it has several."""
         x, y = self.value(f'(() => {{ const one = document.querySelector({json.dumps(selector)}); one.scrollIntoView({{block: "center"}});'
-                          'const box = one.getBoundingClientRect(); return [box.x + box.width / 2, box.y + box.height / 2] })()')
+                          'const box = one.getClientRects()[0]; return [box.x + box.width / 2, box.y + box.height / 2] })()')
         for kind in ('mousePressed', 'mouseReleased'):
             self.ask('Input.dispatchMouseEvent', type=kind, x=x, y=y, button='left', clickCount=1)
 

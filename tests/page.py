@@ -13,6 +13,7 @@ import struct
 import sys
 import tempfile
 import time
+from collections import Counter
 from collections.abc import Callable, Iterator, Sequence
 from html.parser import HTMLParser
 
@@ -22,6 +23,12 @@ from running import ended, try_all, words_of
 from messages import (
     MOUNT, NFS, array, call, dirop, failed, fattr, fh, fragment, made, ok, opaque, post_op_attr, sattr, success, wcc, word)
 from packets import Talk, pcap
+from nfs3tools import pages
+from nfs3tools.comparing import Compared, Finding, Run
+from nfs3tools.differing import Difference
+from nfs3tools.listings import Message
+from nfs3tools.pages import Content, Recorded
+from nfs3tools.reports import Report, Size
 
 GETATTR, LOOKUP, READLINK, MKDIR, FSINFO = 1, 3, 5, 9, 19
 VOID = ('meta', 'input')
@@ -318,6 +325,20 @@ def findings_that_say_the_same(place: Pages) -> None:
     place.want('how many', page.all('h2')[1].text(), '352 findings, 1 if those that say the same are one')
 
 
+def places_of_many_findings(place: Pages) -> None:
+    """Of many findings that each say the same as many others, 20,000 places are listed."""
+    findings = list[Finding]()
+    for number in range(22_000):
+        message = Message(1, 'server', number + 1, 1, 'NFSPROC3_GETATTR', ())
+        difference = Difference('mode', str(number % 100), '1000', label='obj.mode', field='obj.mode')
+        findings.append(Finding('changed', message, message, None, (difference,)))
+    report = Report('differ', {}, ('a', 'b'), (Size(22_000, 1),) * 2, (0, 0))
+    runs, recorded = [Run(name, lambda: (), lambda message: ()) for name in 'ab'], [Recorded(None, None, ())] * 2
+    content = Content('differ', report, Compared(findings), [], Counter(), runs, recorded)
+    articles = tree_of(''.join(pages.page(content))).all('article')
+    place.want('places', [(len(one.all('li')), one.all('p')[-1].text()) for one in articles], [(200, '.. and 19 more')] * 100)
+
+
 def two_thousand_findings(place: Pages) -> None:
     """There are at most so many, then how many more. No piece of a page is large."""
     place.put('a', gets(list(range(2_500))))
@@ -568,7 +589,7 @@ def keys(place: Pages) -> None:
             place.want(f'{selector} to {wanted}', here(), ([wanted], True))
         browser.click('#find')
         browser.press('n')
-        place.want('a letter', browser.value('find.value'), 'n')
+        place.want('a letter', (browser.value('find.value'), here()[0]), ('n', ['f3']))
         browser.value('find.value = "(0145)", find.dispatchEvent(new Event("input")), find.blur()')
         browser.press('n')
         place.want('of those that are found', here()[0], browser.value(VISIBLE % 'article')[:1])
@@ -576,6 +597,27 @@ def keys(place: Pages) -> None:
         browser.value('new Promise(done => setTimeout(done, 200))')
         browser.press('n')
         place.want('after a link, which shows all again', (here()[0], browser.value('find.value')), (['f21'], ''))
+        place.want('errors', browser.errors, [])
+
+
+def links(place: Pages) -> None:
+    """A link leads to its place, also one far down, and that is not behind the bar."""
+    place.put('a', gets(list(range(400))))
+    place.put('b', gets([1_000 + at if at % 9 == 5 else at for at in range(400)]))
+    with place.browser() as browser:
+        page = place.page()
+        rows = [row.attributes['id'] for row in page.all('details', 'row') if row.all('a')]
+        for width in WIDTHS:
+            browser.open(place.path('page.html'), width)
+            for number, row in ((len(rows), rows[-1]), (20, rows[19]), (1, rows[0])):
+                browser.click(f'#f{number} p a')
+                browser.value('new Promise(done => setTimeout(done, 300))')
+                place.want(f'{width}, finding {number}', browser.value(
+                    '(() => { const box = document.querySelector(":target").getBoundingClientRect(), top = document.querySelector(".bar");'
+                    'return [location.hash, box.top >= top.getBoundingClientRect().bottom, box.bottom <= innerHeight] })()'),
+                    ['#' + row, True, True])
+                browser.click(f'#{row} summary a')
+                place.want(f'{width}, row of {number}', browser.value('location.hash'), f'#f{number}')
         place.want('errors', browser.errors, [])
 
 
@@ -630,9 +672,9 @@ def without_scripts(place: Pages) -> None:
 
 TESTS: list[Callable[[Pages], None]] = [
     the_top, what_does_not_count, other_verdicts, counts_lead_to_findings, findings_of_a_page, parts_of_a_recording,
-    findings_that_say_the_same, two_thousand_findings, size_of_a_page, calls_around, connections_of_one_run, fields_on_a_click,
-    names_are_escaped, pages_stand_alone]
-IN_CHROMIUM: list[Callable[[Pages], None]] = [pages_load, colours, searching, keys, folding, copying, without_scripts]
+    findings_that_say_the_same, places_of_many_findings, two_thousand_findings, size_of_a_page, calls_around, connections_of_one_run,
+    fields_on_a_click, names_are_escaped, pages_stand_alone]
+IN_CHROMIUM: list[Callable[[Pages], None]] = [pages_load, colours, searching, keys, links, folding, copying, without_scripts]
 
 
 def tried(program: str, test: Callable[[Pages], None]) -> list[str]:
