@@ -356,6 +356,16 @@ def two_thousand_findings(place: Pages) -> None:
     place.want(f'{number} pieces of up to {largest} characters', (number > 6_000, largest < 20_000), (True, True))
 
 
+def two_thousand_calls_of_the_second_run(place: Pages) -> None:
+    """Those that are not shown are counted."""
+    place.put('a', gets([1] * 9))
+    place.put('b', gets([1] * 9, [5] * 2_100))
+    calls = rows_and_gaps(place.page())
+    place.want('calls', (calls[:5], calls[5:2_003], calls[2_003:]), (
+        ['2 equal calls', '= 3 3', '= 4 4', '= 5 5', '+ 6'], [f'+ {record}' for record in range(7, 2_005)],
+        ['+ 2005', '4 equal calls', '100 calls more are only in the second run']))
+
+
 # Compares, and prints the number of pieces of the page and the size of the largest.
 PIECES = f"""import sys
 sys.path.insert(0, {str(TOP / 'tools')!r})
@@ -672,8 +682,8 @@ def without_scripts(place: Pages) -> None:
 
 TESTS: list[Callable[[Pages], None]] = [
     the_top, what_does_not_count, other_verdicts, counts_lead_to_findings, findings_of_a_page, parts_of_a_recording,
-    findings_that_say_the_same, places_of_many_findings, two_thousand_findings, size_of_a_page, calls_around, connections_of_one_run,
-    fields_on_a_click, names_are_escaped, pages_stand_alone]
+    findings_that_say_the_same, places_of_many_findings, two_thousand_findings, two_thousand_calls_of_the_second_run,
+    size_of_a_page, calls_around, connections_of_one_run, fields_on_a_click, names_are_escaped, pages_stand_alone]
 IN_CHROMIUM: list[Callable[[Pages], None]] = [pages_load, colours, searching, keys, links, folding, copying, without_scripts]
 
 

@@ -332,7 +332,7 @@ class Body:
             which = count(self.beside.others, 'other connection' if self.beside.connections else 'connection')
             yield from gap(self.beside.rest, f' in {which}')
         if self.beside.cut:
-            yield f'<p class=gap>{count(self.beside.cut, "call")} more that {plural(self.beside.cut, "is", "are")} only in the second run</p>'
+            yield f'<p class=gap>{count(self.beside.cut, "call")} more {plural(self.beside.cut, "is", "are")} only in the second run</p>'
         yield '</section>'
 
     def row(self, row: Row, connection: Connection, number: int) -> Iterator[str]:
