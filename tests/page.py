@@ -611,12 +611,13 @@ def keys(place: Pages) -> None:
 
 
 def links(place: Pages) -> None:
-    """A link leads to its place, also one far down, and that is not behind the bar."""
-    place.put('a', gets(list(range(400))))
-    place.put('b', gets([1_000 + at if at % 9 == 5 else at for at in range(400)]))
+    """A link leads to its place, also one far down among many calls, and that is not behind the bar."""
+    place.put('a', gets(list(range(1_500))))
+    place.put('b', gets([2_000 + at if at % 9 == 5 else at for at in range(1_500)]))
     with place.browser() as browser:
         page = place.page()
         rows = [row.attributes['id'] for row in page.all('details', 'row') if row.all('a')]
+        place.want('many calls', len(page.all('section', 'many')), 1)
         for width in WIDTHS:
             browser.open(place.path('page.html'), width)
             for number, row in ((len(rows), rows[-1]), (20, rows[19]), (1, rows[0])):

@@ -29,6 +29,7 @@ SHOWN_AT_MOST = 2_000  # findings
 OTHERS_AT_MOST, OTHERS_OF_ALL = 300, 20_000  # places of findings that say the same as one: of one, and about so many of all
 DIFFERENCES_AT_MOST = 200  # of a finding
 FIELDS_AT_MOST = 6_000  # characters of a message's fields
+MANY = 2_000  # messages whose calls are shown
 BOTH = (0, 1)
 SIGNS, SIDES, RUNS = ('-', '+'), ('minus', 'plus'), ('first', 'second')
 Places = tuple[str | None, str | None]
@@ -316,7 +317,8 @@ class Body:
 
     def calls(self) -> Iterator[str]:
         """The calls that differ, those around them, and how many are between, by connections."""
-        yield '<section id=calls><h2>Calls</h2>'
+        # (a browser lays out many rows only as they come into sight)
+        yield f'<section id=calls{" class=many" if len(self.anchors) > MANY else ""}><h2>Calls</h2>'
         if not any(self.compared.calls):
             yield '<p>The runs have no calls.</p>'
         if self.beside.connections:

@@ -61,7 +61,8 @@ details ol { margin: 6px 0; padding-left: 3.5em }
 
 .connection { margin: 14px 0 }
 .connection h3 { background: var(--soft); padding: 3px 10px; border-radius: 4px }
-.row { border-bottom: 1px solid var(--line); padding: 2px 4px; content-visibility: auto; contain-intrinsic-size: auto 30px }
+.row { border-bottom: 1px solid var(--line); padding: 2px 4px }
+.many .row { content-visibility: auto; contain-intrinsic-size: auto 30px }
 .row.told { background: var(--soft) }
 .row h4 { margin: 6px 0 0 1.5em; font-size: 13px; font-weight: 600 }
 .mark { display: inline-block; width: 1.3em }
