@@ -22,7 +22,6 @@ complete -o filenames -F _nfs3canon nfs3canon
 
 # The tools, by the names under which they are installed, and from_pcap and verdicts also by their own: compare and where are
 # names of other programs.
-complete -o default -W '--midstream --whole-records --filter --version --help' from_pcap nfs3-from-pcap nfs3-where
+complete -o default -W '--midstream --whole-records --filter --version --help' from_pcap nfs3-from-pcap nfs3-where nfs3-explain
 complete -o default -W '--junit --json -j --allow-losses --midstream --whole-records --filter --program --version --help' verdicts nfs3-verdicts
 complete -o default -W '--mask --order --extra --ignore --all --html --json --allow-losses --midstream --whole-records --filter --program --version --help' nfs3-compare
-complete -o default -W '--version --help' nfs3-explain

@@ -17,7 +17,7 @@ complete -c nfs3canon -n '__fish_seen_subcommand_from canon same; and test (__nf
 complete -c nfs3canon -n '__fish_seen_subcommand_from pack' -F
 
 # The tools for recordings.
-for tool in from_pcap verdicts nfs3-from-pcap nfs3-where nfs3-verdicts nfs3-compare
+for tool in from_pcap verdicts nfs3-from-pcap nfs3-where nfs3-verdicts nfs3-compare nfs3-explain
     complete -c $tool -l midstream -d 'Take connections whose beginning was not recorded'
     complete -c $tool -l whole-records -d 'End each stream after its last whole record'
     complete -c $tool -l filter -x -d 'A display filter of Wireshark'

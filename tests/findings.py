@@ -9,6 +9,7 @@ is 'N passed, M failed', and the status is 1 if any failed.
 """
 import json
 import os
+import random
 import re
 import tempfile
 from collections.abc import Callable, Sequence
@@ -16,10 +17,12 @@ from typing import Any
 
 from compare import CHANGED, FIRST, Comparisons
 from running import try_all, words_of
+from traffic import Names, Traffic
 import messages
 from messages import (
     BLK, DIR, EXCLUSIVE, MOUNT, NFS, NFSACL, NOENT, NOW, REG, UNCHECKED, auth_sys, call, dirop, failed, fattr, fh, guard, how, hyper, made,
     ok, opaque, post_op_attr, sattr, set_to_client_time, success, wcc, word)
+from nfs3tools.apart import apart
 from nfs3tools.classes import Mask, Way
 from nfs3tools.differing import Comparison
 from nfs3tools.listings import Message, messages_of
@@ -64,7 +67,7 @@ def change(owner: str) -> list[str]:
     return [f'{owner}.before', *of(f'{owner} before', 'size mtime_sec mtime_nsec ctime_sec ctime_nsec'), *attr(f'{owner} after')]
 
 
-def listed(name: str, more: str = '') -> list[str]:
+def listed(name: str) -> list[str]:
     """An entry of READDIRPLUS with attributes and a handle."""
     owner = f'entry "{name}"'
     return ['entry', f'{owner} listed.fileid', *of(owner, 'name cookie'), *attr(owner), *of(owner, 'handle fh')]
@@ -148,6 +151,12 @@ def labels_of(message: Message) -> list[str]:
     return [labels.label(at) for at in range(len(message.items))]
 
 
+def all_fields(message: Message) -> dict[str, str]:
+    """Returns the names of the items by their fields."""
+    labels = Labels(message)
+    return {labels.field(at): item.name for at, item in enumerate(message.items)}
+
+
 def labels_of_every_procedure(place: Findings) -> None:
     """Whose each item is, of all procedures, by the names of RFC 1813, sections 3.3 and 5.2."""
     rows = [(NFS, number, row) for number, row in NFS_ROWS.items()] + [(MOUNT, number, row) for number, row in MOUNT_ROWS.items()]
@@ -183,12 +192,15 @@ def fields_are_those_of_labels(place: Findings) -> None:
     """Each field that a message has is among those that its procedure may have, also in an entry."""
     for number, (arguments, done, *_) in NFS_ROWS.items():
         for message in of_exchange(place, NFS, number, arguments, [success(7, ok(done) if number else b'')]):
-            labels = Labels(message)
-            fields = {labels.field(at): message.items[at].name for at in range(len(message.items))}
-            known = fields_of(message.procedure)
+            fields, known = all_fields(message), fields_of(message.procedure)
             place.want(f'procedure {number}', {field: known.get(field) for field in fields}, fields)
     place.want('entries', sorted(field for field in fields_of('NFSPROC3_READDIR') if field.startswith('entry')),
                ['entry', 'entry.cookie', 'entry.fileid', 'entry.name'])
+    for seed in range(60):
+        place.put('a', *Traffic(seed, Names.drawn(random.Random(seed))).connections)
+        listed = messages_of(place.run('show', 'a')[1].splitlines())
+        found = {(message.procedure, field) for message in listed for field in all_fields(message)}
+        place.want(f'seed {seed}', [(procedure, field) for procedure, field in found if field not in fields_of(procedure)], [])
 
 
 def differing_labels(place: Findings) -> None:
@@ -308,6 +320,30 @@ def data_of_files(place: Findings) -> None:
     wants('short data', written(b'abc'), written(b'abd'), '  - data=616263', '  + data=616264')
     wants('other offsets', read(whole, 1), read(with_z(8_191), 2), f'  - data=..{oo} 6f',
           f'  + data=..{oo} 7a    # 1 of 8,192 bytes differs, at byte 8191')
+
+
+def values_that_part(place: Findings) -> None:
+    """Where two values part and how much differs is what a comparison byte by byte says, and what is shown of them is never equal."""
+    chance = random.Random(8)
+    for _ in range(3_000):
+        one = bytes(chance.choices(b'ab\0"', k=chance.choice((0, 1, 15, 16, 17, 40))))
+        other = bytearray(one[:chance.choice((0, 8, 40, 40, 40))])
+        for _ in range(chance.randrange(3) if other else 0):
+            other[chance.randrange(len(other))] = chance.choice(b'xa')
+        other += bytes(chance.choices(b'ay', k=chance.choice((0, 0, 1, 20))))
+        if one == other:
+            continue
+        places = [at for at, (byte, to) in enumerate(zip(one, other)) if byte != to]
+        wanted = (places or [min(len(one), len(other))])[0], len(places), (len(one), len(other))
+        for spell in (bytes.hex, listed_string):
+            found = apart(spell(one), spell(bytes(other)), 1_000)
+            place.want('where', ((found.at, found.differing, found.sizes), found.offset), (wanted, 1_000 + wanted[0]))
+            place.want('what is shown', found.shown[0] != found.shown[1], True)
+
+
+def listed_string(content: bytes) -> str:
+    """Returns a string as docs/FORMATS.md says that a listing has it."""
+    return '"' + ''.join(chr(byte) if 0x20 <= byte <= 0x7e and byte not in (0x22, 0x5c) else f'\\x{byte:02x}' for byte in content) + '"'
 
 
 def long_names(place: Findings) -> None:
@@ -546,7 +582,8 @@ def as_json(place: Findings) -> None:
         **wanted, 'findings': wanted['findings'][1:], 'fields': wanted['fields'][1:], 'ignored': wanted['fields'][:1]})
     place.want('status', place.compare('--mask', 'none', '--json', 'out.json', 'a', 'a')[0], 0)
     place.want('same', json.loads(place.read('out.json') or b''), {
-        **wanted, 'verdict': 'same', 'place': None, 'mask': {}, 'order': {**wanted['order'], 'together': 4}, 'runs': [{**wanted['runs'][0], 'only': 0}] * 2, 'fields': [], 'findings': []})
+        **wanted, 'verdict': 'same', 'place': None, 'mask': {}, 'order': {**wanted['order'], 'together': 4},
+        'runs': [{**wanted['runs'][0], 'only': 0}] * 2, 'fields': [], 'findings': []})
 
 
 def json_of_recordings(place: Findings) -> None:
@@ -579,8 +616,9 @@ def json_is_an_output(place: Findings) -> None:
 
 TESTS: list[Callable[[Findings], None]] = [
     labels_of_every_procedure, labels_of_fewer_parts, fields_are_those_of_labels, differing_labels, sizes_of_changes,
-    names_of_removed_files, data_of_files, long_names, long_handles, names_of_numbers, equal_findings, equal_findings_of_one_run,
-    equal_findings_of_renamed_values, the_first_twenty, fields_left_out, as_json, json_of_recordings, json_is_an_output]
+    names_of_removed_files, data_of_files, values_that_part, long_names, long_handles, names_of_numbers, equal_findings,
+    equal_findings_of_one_run, equal_findings_of_renamed_values, the_first_twenty, fields_left_out, as_json, json_of_recordings,
+    json_is_an_output]
 
 
 def tried(program: str, test: Callable[[Findings], None]) -> list[str]:

@@ -18,6 +18,7 @@ import sys
 from outputs import AS_IT_WAS, NULL_DEVICE
 from running import Answer, ended, program_named, try_all, words_of
 from scripts import ALL, TOP, Tools, packed, tried, whole
+from messages import NFS, call, capture, fattr, fh, ok, success
 from packets import Talk, pcap
 
 RECORDING, CAPTURE = pcap(whole()), packed(ALL)
@@ -117,8 +118,12 @@ def outputs_that_are_recordings(tools: Tools) -> None:
 
 def full_disks(tools: Tools) -> None:
     """A page or a list that does not fit on the disk leaves the old one, and a device that is full is told."""
-    several = writers(tools, 'page', FIRST, CHANGED, FIRST)
-    for kilobytes, words in ((1, several[0]), (1, several[1]), (60, several[2])):
+    for name, mode in (('a', 0), ('b', 1)):
+        asked = [call(xid, NFS, 3, 1, fh(b'f')) for xid in range(60)]
+        tools.write(name, capture((asked, [success(xid, ok(fattr(1, 1, size=60 * mode + xid))) for xid in range(60)])))
+    several, wide = writers(tools, 'page', FIRST, CHANGED, FIRST), writers(tools, 'page', 'a', 'b')
+    # (60 replies take 8 KB, and 60 findings more)
+    for kilobytes, words in ((1, several[0]), (1, several[1]), (12, wide[2]), (12, wide[3])):
         tools.write('page', AS_IT_WAS)
         answer = through_bash(tools, f'ulimit -f {kilobytes}; exec "$@"', tool(words[0]), *words[1:])
         one_line(tools, ' '.join(words[:4]), answer, 3, 'page: File too large')
@@ -375,9 +380,9 @@ def names(tools: Tools) -> None:
             ['from_pcap', recording, recording], ['where', capture, 'file 8'], ['where', HOSTILE, 'file 8'], ['where', recording, HOSTILE],
             ['where', recording, 'file 8', HOSTILE], ['compare', *program, recording, capture], ['compare', *program, HOSTILE, capture],
             ['compare', *program, '--html', recording, capture, capture], ['compare', '--program', HOSTILE, capture, capture],
-            ['verdicts', *program, recording, HOSTILE], ['verdicts', *program, '--junit', recording, capture], ['explain', recording, 'file 8'],
-            ['explain', HOSTILE, 'file 8'], ['install', '--program', HOSTILE, 'prefix'], ['install', '--remove', HOSTILE],
-            ['install', *program, HOSTILE], ['release', '--program', HOSTILE, '.']]
+            ['verdicts', *program, recording, HOSTILE], ['verdicts', *program, '--junit', recording, capture],
+            ['explain', recording, 'file 0: BadMagic'], ['explain', HOSTILE, 'file 8'], ['install', '--program', HOSTILE, 'prefix'],
+            ['install', '--remove', HOSTILE], ['install', *program, HOSTILE], ['release', '--program', HOSTILE, '.']]
     for words in rows:
         command = [tool(words[0]), *words[1:]]
         done = ended([os.fsencode(word) for word in command], tools.folder)

@@ -17,7 +17,6 @@ from running import try_all, words_of
 from scripts import TOP, Streams, Tools, stream, taken_of, tried, whole
 from traffic import Names, Traffic
 from packets import Talk, ethernet, pcap
-from nfs3tools import streams
 from nfs3tools.captures import capture_of
 from nfs3tools.messages import lines_of
 from nfs3tools.places import SIDES
@@ -98,10 +97,11 @@ def bytes_not_on_the_wire(taken: Taken, frames: list[bytes]) -> list[int]:
     wrong = []
     for connection in taken.connections:
         for side in SIDES:
-            stored, noted = connection.stream(side).stored, connection.stream(side).noted or streams.Frames()
-            ends = [*noted.begins[1:], stored.size]
-            wrong += [number for begin, end, number in zip(noted.begins, ends, noted.numbers)
-                      if stored.read(begin, end - begin) not in frames[number - 1][16:]]
+            stored, frames_of_side = connection.stream(side).stored, connection.stream(side).noted
+            noted = list(frames_of_side.between(0, stored.size)) if frames_of_side else []
+            ends = [*(brought.begin for brought in noted[1:]), stored.size]
+            wrong += [brought.number for brought, end in zip(noted, ends)
+                      if stored.read(brought.begin, end - brought.begin) not in frames[brought.number - 1][16:]]
     return wrong
 
 

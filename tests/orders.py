@@ -22,6 +22,7 @@ from traffic import Names, Traffic
 
 sys.path[:0] = [str(TOP / 'tools'), str(TOP / 'examples')]
 import messages  # noqa: E402
+from packets import Talk, pcap  # noqa: E402
 from messages import MOUNT, NFS, auth_sys, call, dirop, fattr, fh, hyper, ok, opaque, post_op_attr, sattr, success, wcc, word  # noqa: E402
 from nfs3tools.classes import Way, default_mask, in_any_order, mask_of  # noqa: E402
 from nfs3tools.places import Side  # noqa: E402
@@ -249,7 +250,8 @@ def clients_at_once(place: Comparisons) -> None:
         place.want(f'seed {seed} in words', out[2].startswith(calls_of(106)), True)
         place.want(f'seed {seed} by default', place.compare('a', 'b'), (1, out, ''))
         status, strict, _ = place.compare('--order', 'strict', 'a', 'b')
-        place.want(f'seed {seed} strictly', (status, strict[1].startswith('differ at '), strict[-1].startswith(calls_of(106))), (1, True, True))
+        place.want(f'seed {seed} strictly', (status, strict[1].startswith('differ at '), strict[-1].startswith(calls_of(106))),
+                   (1, True, True))
 
 
 def what_differs_is_found(place: Comparisons) -> None:
@@ -279,8 +281,8 @@ def calls_that_only_ask(place: Comparisons) -> None:
     place.put('a', *mixed(random.Random(1), [asking, Client('c1')], 2))
     place.put('b', *mixed(random.Random(2), [Client('c2'), Client('c1')], 2))
     status, out, _ = place.compare('--order', 'any', 'a', 'b')
-    place.want('left out', (status, '; left out: 3 GETATTR of the first run' in out[1], out[2].endswith('; 3 GETATTR more in the first run')),
-               (0, True, True))
+    place.want('left out', (status, '; left out: 3 GETATTR of the first run' in out[1]), (0, True))
+    place.want('in words', out[2].endswith('; 3 GETATTR more in the first run'), True)
     place.want('by default', place.compare('a', 'b')[0], 1)
     status, out, _ = place.compare('b', 'a')
     place.want('of the second', '; left out: 3 GETATTR of the second run' in out[1], True)
@@ -334,6 +336,40 @@ def orders_of_replies(place: Comparisons) -> None:
                                 line], '--order', 'strict')
 
 
+def connections_by_what_they_ask(place: Comparisons) -> None:
+    """Connections belong together by their calls, whatever their turn; what differs in one is found in the right one."""
+    def connection(name: bytes, mode: int) -> Conversation:
+        return ([call(1, MOUNT, 3, 1, opaque(b'/')), call(2, NFS, 3, LOOKUP, dirop(b'top', name)), call(3, NFS, 3, GETATTR, fh(name))],
+                [success(1, ok(fh(b'top'), word(0))), success(2, ok(fh(name), post_op_attr(), post_op_attr())),
+                 success(3, ok(fattr(1, 5, mode=mode)))])
+    names = [b'file %d' % number for number in range(20)]
+    place.put('a', *(connection(name, 0o644) for name in names))
+    place.put('b', ([call(1, NFS, 3, 0)], [success(1)]), *(connection(name, 0o600 if name == names[3] else 0o644) for name in names[::-1]))
+    status, out, _ = place.compare('--order', 'strict', 'a', 'b')
+    found = [line for line in out[2:] if line[0] != ' ']
+    place.want('strict', (status, found[:2]), (1, [
+        'NFSPROC3_GETATTR reply /file 3: connection 4 server record 3 | connection 18 server record 3',
+        'only in the second run: connection 1']))
+    place.want('in words', found[-1], '60 of 61 calls belong together; 19 connections in another turn; 1 more in the second run; '
+               'obj.mode in 1 reply')
+
+
+def calls_between_neighbours(place: Comparisons) -> None:
+    """Calls of one procedure that stand between the same neighbours belong together, also if they ask for something else."""
+    def run(name: bytes) -> Conversation:
+        asked = [(GETATTR, fh(b'a'), ok(fattr(1, 1))),
+                 (CREATE, dirop(b'top', name) + word(0) + sattr(), ok(messages.made(None, None, wcc()))),
+                 (GETATTR, fh(b'b'), ok(fattr(1, 2)))]
+        return ([call(xid, NFS, 3, number, words) for xid, (number, words, _) in enumerate(asked)],
+                [success(xid, results) for xid, (_, _, results) in enumerate(asked)])
+    place.put('a', run(b'x'))
+    place.put('b', run(b'y'))
+    line = 'NFSPROC3_CREATE: connection 1 client record 2 | connection 1 client record 2'
+    for order in ('strict', 'any'):
+        status, out, _ = place.compare('--order', order, 'a', 'b')
+        place.want(order, (status, out[2:5]), (1, [line, '  - name="x"', '  + name="y"']))
+
+
 def files_that_were_made_again(place: Comparisons) -> None:
     """Two files that had one name, one after the other, are two, and a rename moves a file."""
     def run(order: Sequence[int], prefix: bytes) -> Conversation:
@@ -348,6 +384,34 @@ def files_that_were_made_again(place: Comparisons) -> None:
     place.put('b', run((5, 0, 1, 2, 3, 4), b'b'))
     status, out, _ = place.compare('--order', 'any', 'a', 'b')
     place.want('again', (status, out[2]), (0, '6 of 6 calls belong together; 1 in another turn; 1 reply in another turn'))
+
+
+def one_name_for_many_files(place: Comparisons) -> None:
+    """A journal that is made, written and removed again and again, over any of three connections: frames say which came first. Before
+    it is removed it may be renamed, and then be looked up under its new name on another connection."""
+    def run(seed: int) -> bytes:
+        chance = random.Random(seed)
+        handles, talks, xids = [chance.randbytes(28) for _ in range(40)], [Talk(700 + number) for number in range(3)], iter(range(1, 999))
+        frames = [frame for talk in talks for frame in talk.opened()]
+        def said(procedure: int, arguments: bytes, results: bytes) -> None:
+            talk, xid = chance.choice(talks), next(xids)
+            frames.append(talk.sent(0, messages.fragment(call(xid, NFS, 3, procedure, arguments))))
+            frames.append(talk.sent(1, messages.fragment(success(xid, ok(results)))))
+        for number, handle in enumerate(handles):
+            data = b'journal %d' % number
+            said(CREATE, dirop(b'top', b'journal') + word(0) + sattr(), messages.made(handle, None, wcc()))
+            said(WRITE, fh(handle) + hyper(0) + word(len(data)) + word(2) + opaque(data), wcc() + word(len(data)) + word(2) + b'verifier')
+            if number % 3 == 0:
+                said(14, dirop(b'top', b'journal') + dirop(b'top', b'kept %d' % number), wcc() + wcc())
+                said(LOOKUP, dirop(b'top', b'kept %d' % number), fh(handle) + post_op_attr(fattr(1, number)) + post_op_attr())
+            else:
+                said(REMOVE, dirop(b'top', b'journal'), wcc())
+        return pcap([*frames, *(frame for talk in talks for frame in talk.closed())])
+    for seed in range(6):
+        place.write('a', run(seed))
+        place.write('b', run(seed + 100))
+        status, out, error = place.compare('--order', 'any', 'a', 'b')
+        place.want(f'seed {seed}', (status, out[1].partition(':')[0], error), (0, 'same in another order', ''))
 
 
 def many_in_another_order(place: Comparisons) -> None:
@@ -368,7 +432,8 @@ def many_in_another_order(place: Comparisons) -> None:
 
 TESTS: list[Callable[[Comparisons], None]] = [
     runs_are_written_anew, records_of_several_fragments, orders_that_are_none, wrong_writers_are_caught, clients_at_once,
-    what_differs_is_found, calls_that_only_ask, ids_and_orders, masks_of_any_order, orders_of_replies, files_that_were_made_again,
+    what_differs_is_found, calls_that_only_ask, ids_and_orders, masks_of_any_order, orders_of_replies, connections_by_what_they_ask,
+    calls_between_neighbours, files_that_were_made_again, one_name_for_many_files,
     many_in_another_order]
 
 

@@ -1,7 +1,8 @@
 """Capture files: reading both versions, writing version 1 (docs/FORMATS.md)."""
+import contextlib
 import typing
 
-from .recordings import Source
+from .recordings import Damaged, Source
 from .streams import Spool, Stored
 
 MAGICS = (b'NFS3CAP1', b'NFS3CAP2')
@@ -43,7 +44,7 @@ class Container:
 
         Raises `BadCapture`, after the connections that are whole.
         """
-        sides = self.sides_of_version_1 if self.source.take(8) == MAGICS[0] else self.sides_of_version_2
+        sides = self.sides()
         while (mark := self.word()) == 1:
             streams = Stored(self.spool), Stored(self.spool)
             for side in sides():
@@ -51,6 +52,21 @@ class Container:
             yield streams
         if mark or self.source.peek(1):
             raise BadCapture
+
+    def connection(self, number: int) -> tuple[Stored, Stored] | None:
+        """Returns the streams of one connection, also of one that is not whole, if there is one of this number, from 1. Those before it
+        are not stored."""
+        streams, begun = (Stored(self.spool), Stored(self.spool)), 0
+        with contextlib.suppress(BadCapture, Damaged):
+            sides = self.sides()
+            while begun < number and self.word() == 1:
+                begun += 1
+                for side in sides():
+                    self.chunk(streams[side] if begun == number else None)
+        return streams if 0 < begun == number else None
+
+    def sides(self) -> typing.Callable[[], typing.Iterator[int]]:
+        return self.sides_of_version_1 if self.source.take(8) == MAGICS[0] else self.sides_of_version_2
 
     def sides_of_version_1(self) -> typing.Iterator[int]:
         """Iterates over the side of each chunk, which is to be taken before the next step."""
@@ -65,7 +81,8 @@ class Container:
                 raise BadCapture
             yield side - 1
 
-    def chunk(self, stored: Stored) -> None:
+    def chunk(self, stored: Stored | None) -> None:
+        """Takes a chunk, and appends it if it is to be stored."""
         left = self.word()
         if not left:
             raise BadCapture
@@ -73,7 +90,8 @@ class Container:
             piece = self.source.take(min(left, READ_AT_ONCE))
             if not piece:
                 raise BadCapture
-            stored.append(piece)
+            if stored is not None:
+                stored.append(piece)
             left -= len(piece)
 
     def word(self) -> int:

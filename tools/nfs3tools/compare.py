@@ -84,7 +84,7 @@ def words_of(words: list[str]) -> argparse.Namespace:
     parser.add_argument('--ignore', type=ignored_of, action='extend', default=[], metavar='PROCEDURE.FIELD,..',
                         help='fields that are left out of the explanation; * is any procedure')
     parser.add_argument('--all', action='store_true',
-                        help=f'prints each finding by itself, not the first {FINDINGS_AT_MOST} of different ones')
+                        help=f'prints each finding by itself; by default, equal ones are one, and {FINDINGS_AT_MOST} are printed')
     parser.add_argument('--html', metavar='FILE', help='writes a page for a browser with what differs and the calls around it')
     parser.add_argument('--json', metavar='FILE', help='writes the verdict and all findings as JSON')
     add_options(parser)

@@ -116,7 +116,6 @@ class Lonely:
                 out.left_out.update(outlines.procedure_of(at) for at in some if outlines.procedure_of(at) in leaves_out)
         return out
 
-
     def number(self) -> int:
         """Returns how many exchanges are told."""
         return len(self.told) + sum(self.connections.values())
@@ -145,8 +144,8 @@ class Explaining:
             findings += [*self.of_moved(), *self.of_late()]
         return Compared(sorted(findings, key=lambda finding: self.place_of(finding.first, finding.second)),
                         len(self.firsts), (len(pairing.here), len(pairing.there)), len(pairing.moved), len(pairing.elsewhere),
-                        sum(number for _, number, _ in pairing.late_replies), pairing.late_connections, (self.lonely.number(), self.others.number()),
-                        (self.lonely.left_out, self.others.left_out),
+                        sum(number for _, number, _ in pairing.late_replies), pairing.late_connections,
+                        (self.lonely.number(), self.others.number()), (self.lonely.left_out, self.others.left_out),
                         self.beside([*(pair for pair, _ in changed), *moved], around) if around else Beside())
 
     def has_another_order(self) -> bool:

@@ -1,7 +1,7 @@
 """The layouts of NFS version 3 and MOUNT version 3 messages, as docs/FORMATS.md has them, with the names of the listing."""
 import contextlib
 from collections.abc import Callable, Iterable, Iterator, Mapping
-from typing import NamedTuple
+from typing import NamedTuple, Protocol
 
 NFS, MOUNT = 100003, 100005
 
@@ -257,36 +257,49 @@ def cases_of(inner: str) -> dict[int, str]:
 # --- Bytes ---
 
 class Item(NamedTuple):
-    """An item of a message: its bytes, its name, its value as a text, what may stand there, and whether it has all its bytes."""
+    """An item of a message: its bytes, its name, its value as a text (of a long one the beginning), what may stand there, whether it
+    has all its bytes, and the name of its number, if that has one."""
     begin: int
     end: int
     name: str
     value: str
     allowed: str
     is_whole: bool
+    meaning: str
+
+
+class Body(Protocol):
+    """The bytes of a message."""
+
+    def __len__(self) -> int: ...
+
+    def __getitem__(self, part: slice, /) -> bytes: ...
 
 
 class Message(Walk):
-    """Reads the items of a body up to its end, or to the first that is at fault."""
+    """Reads the items of a body up to its end, or to the first that is at fault. They are passed to `tell`, or kept in `items`. The value
+    of an item is that of its first bytes, `most` at most."""
 
-    def __init__(self, body: bytes) -> None:
+    def __init__(self, body: Body, tell: Callable[[Item], object] | None = None, most: int = 1 << 32) -> None:
         super().__init__(None)
-        self.body, self.at, self.end = body, 0, len(body)
+        self.body, self.at, self.end, self.most = body, 0, len(body), most
         self.items: list[Item] = []
+        self.tell = tell or self.items.append
 
-    def taken(self, size: int, name: str, allowed: str, spell: Spell) -> bytes:
-        """Reads an item of this size. Raises `Stop` if fewer bytes are left."""
+    def taken(self, size: int, name: str, allowed: str, spell: Spell, meaning: Callable[[str], str] | None = None) -> bytes:
+        """Reads an item of this size, and returns its bytes, of a long one the first. Raises `Stop` if fewer bytes are left."""
         begin, self.at = self.at, min(self.at + size, self.end)
-        piece = self.body[begin:self.at]
-        self.items.append(Item(begin, self.at, name, spell(piece), allowed, len(piece) == size))
-        if len(piece) < size:
+        piece = self.body[begin:min(self.at, begin + self.most)]
+        value, is_whole = spell(piece), self.at - begin == size
+        self.tell(Item(begin, self.at, name, value, allowed, is_whole, meaning(value) if meaning and is_whole else ''))
+        if not is_whole:
             raise Stop
         return piece
 
     def word(self, name: str, values: Mapping[int, str] | None = None, most: int = 0xffffffff) -> int:
         allowed = 'any word' if values is None else ', '.join('%d %s' % value for value in values.items())
         allowed = allowed if most == 0xffffffff else 'at most %d' % most
-        value = int.from_bytes(self.taken(4, name, allowed, number), 'big')
+        value = int.from_bytes(self.taken(4, name, allowed, number, lambda text: meaning_of(name, text, values)), 'big')
         if value > most or values is not None and value not in values:
             raise Stop
         return value
@@ -313,12 +326,16 @@ class Message(Walk):
             raise Stop
         self.end = whole
 
-    def read(self, is_call: bool, procedure: Procedure | None) -> None:
-        """Reads all items up to the end or a fault. A call, and a reply if that is known, is read as one of the procedure."""
+    def read(self, is_call: bool, procedure: Procedure | None) -> bool:
+        """Reads all items up to the end or a fault, and returns whether there was none. A call, and a reply if that is known, is read as
+        one of the procedure."""
         self.procedure = procedure
-        with contextlib.suppress(Stop):
+        try:
             self.word('xid')
             self.message(is_call)
+        except Stop:
+            return False
+        return True
 
 
 def number(piece: bytes) -> str:

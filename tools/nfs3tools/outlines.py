@@ -17,6 +17,8 @@ HANDLE = re.compile(r' fh=([0-9a-f]{1,8})(?=\s)')
 NAME = re.compile(r' (?:name|dirpath)="([^"]*)"')
 NAME_OR_HANDLE = re.compile(r' name="([^"]*)"| fh=([0-9a-f]{1,8})(?=\s)')
 ALIKE = re.compile(r' (?:prog|vers|proc|name|dirpath|offset)=("[^"]*"|\S+)')
+# A name that Linux's client gives to a removed file that is open. In another order it has another number.
+SILLY_NAME = re.compile(r'"\.nfs[0-9a-f]{24}"')
 MOUNT, LISTING = 'MOUNTPROC3_MNT', 'NFSPROC3_READDIRPLUS'
 DOTS = hash('.'), hash('..')  # the folder itself, and the one above it
 UNKNOWN, SEEN, MADE = range(3)  # how well it is known where an object is
@@ -133,12 +135,18 @@ class Outlines:
         self.kinds, self.procedures = array('B'), list[str]()  # the procedure of a call, by its place in the list of them
         self.replies = array('I')  # the record of the first reply, or 0
         self.further: dict[int, list[int]] = {}  # the records of further replies
-        self.objects = Objects()
-        self.take(lines, renamed_values(mask))
+        self.objects, self.has_silly_names = Objects(), 'sillynames' in mask
+        self.take(self.without_silly_names(lines), renamed_values(mask))
         self.ask_of_objects(lambda at: when(*self.record_of(at)) if when else at)
 
     def __len__(self) -> int:
         return len(self.asked)
+
+    def without_silly_names(self, lines: Iterable[str]) -> Iterable[str]:
+        """Returns lines in which all names of removed files are the same, if they are masked."""
+        if not self.has_silly_names:
+            return lines
+        return (SILLY_NAME.sub('".nfs"', line) if '".nfs' in line else line for line in lines)
 
     def take(self, lines: Iterable[str], pattern: re.Pattern[str]) -> None:
         waiting, named, start = Waiting(), array('q'), 0
@@ -222,6 +230,14 @@ class Outlines:
         """Returns the exchanges of a connection, by its place among all."""
         return range(self.starts[place], self.starts[place + 1] if place + 1 < len(self.starts) else len(self))
 
+    def first_asked(self, place: int, number: int) -> tuple[int, ...]:
+        """Returns what the first calls of a connection ask, so many of them."""
+        return tuple(self.asked[at] for at in self.exchanges_of(place)[:number])
+
+    def first_procedures(self, place: int, number: int) -> tuple[str, ...]:
+        """Returns their procedures."""
+        return tuple(map(self.procedure_of, self.exchanges_of(place)[:number]))
+
     def record_of(self, at: int) -> tuple[int, int]:
         """Returns the number of a call's connection, and the call's record."""
         place = self.connection_of(at)
@@ -251,7 +267,7 @@ class Outlines:
         """Returns of some exchanges what alike calls have in common: procedure, objects, names and offset. The lines are those of
         the listing."""
         return {at: (self.procedure_of(at), tuple(ALIKE.findall(line)), *map(self.identities.__getitem__, self.objects_of(at)))
-                for at, line in self.calls_of(lines) if at in wanted}
+                for at, line in self.calls_of(self.without_silly_names(lines)) if at in wanted}
 
     def calls_of(self, lines: Iterable[str]) -> Iterator[tuple[int, str]]:
         """Returns the exchanges with the lines of their calls."""

@@ -4,7 +4,7 @@ from collections import Counter, defaultdict, deque
 from collections.abc import Callable, Hashable, Iterable, Iterator, Sequence
 from dataclasses import dataclass
 from functools import cached_property
-from itertools import islice, pairwise
+from itertools import groupby, islice, pairwise
 
 from .matching import Pair, aligned, blocks_of, increasing
 from .outlines import Outlines
@@ -116,14 +116,15 @@ class Pairing:
 
 
 def together(here: Outlines, there: Outlines) -> list[int]:
-    """Returns for each connection the one of the other run that begins with the same calls. What is left goes by turn."""
+    """Returns for each connection the one of the other run that has most calls in common with it at its beginning, or else one that
+    begins with the same calls, or with calls of the same procedures."""
     begun = defaultdict[int, list[int]](list)
-    for place, start in enumerate(there.starts):
-        for asked in set(there.asked[start:min(start + FIRST_CALLS, there.exchanges_of(place).stop)]):
-            begun[asked].append(place)
+    for other in range(len(there.starts)):
+        for asked in set(there.first_asked(other, FIRST_CALLS)):
+            begun[asked].append(other)
     votes = Counter[Pair]()
-    for place, start in enumerate(here.starts):
-        for asked in set(here.asked[start:min(start + FIRST_CALLS, here.exchanges_of(place).stop)]):
+    for place in range(len(here.starts)):
+        for asked in set(here.first_asked(place, FIRST_CALLS)):
             if len(begun[asked]) <= ASKED_BY_MANY:
                 votes.update((place, other) for other in begun[asked])
     homes, taken = [NOBODY] * len(here.starts), set[int]()
@@ -131,8 +132,17 @@ def together(here: Outlines, there: Outlines) -> list[int]:
         if homes[place] == NOBODY and other not in taken:
             homes[place] = other
             taken.add(other)
-    left = (other for other in range(len(there.starts)) if other not in taken)
-    return [next(left, NOBODY) if home == NOBODY else home for home in homes]
+    for begins in (Outlines.first_asked, Outlines.first_procedures):
+        waiting = defaultdict[tuple[int | str, ...], deque[int]](deque)
+        for other in range(len(there.starts)):
+            if other not in taken:
+                waiting[begins(there, other, FIRST_CALLS)].append(other)
+        for place, home in enumerate(homes):
+            alike = waiting.get(begins(here, place, FIRST_CALLS)) if home == NOBODY else None
+            if alike:
+                homes[place] = alike.popleft()
+                taken.add(homes[place])
+    return homes
 
 
 def is_in_order(numbers: Iterable[int]) -> bool:
@@ -185,29 +195,33 @@ class Pairs:
                 if own:
                     self.bind(at, own.popleft())
 
+    def gaps(self) -> Iterator[tuple[list[int], list[int]]]:
+        """Returns what is left between two neighbours, in connections that belong together."""
+        left, _ = self.left()
+        for _, run in groupby(enumerate(left), lambda numbered: (self.here.connection_of(numbered[1]), numbered[1] - numbered[0])):
+            here = [at for _, at in run]
+            place = self.here.connection_of(here[0])
+            own = self.here.exchanges_of(place)
+            its = self.there.exchanges_of(self.homes[place]) if self.homes[place] != NOBODY else range(0)
+            before = self.partners[here[0] - 1] if here[0] > own.start else its.start - 1
+            after = self.partners[here[-1] + 1] if here[-1] + 1 < own.stop else its.stop
+            if before + 1 in its and after - 1 in its:
+                yield here, [to for to in range(before + 1, after) if not self.taken[to]]
+
     def in_gaps(self, lonely: frozenset[str]) -> None:
-        """Binds what is left between pairs, in connections that belong together, if the procedures are the same."""
-        for place, home in enumerate(self.homes):
-            own, its = self.here.exchanges_of(place), self.there.exchanges_of(home) if home != NOBODY else range(0)
-            edges = increasing([(at, self.partners[at]) for at in own if self.partners[at] in its])
-            for here, there in gaps(edges, own, its):
-                here, there = [[at for at in some if is_free(at) and outlines.procedure_of(at) not in lonely] for some, is_free, outlines in (
-                    (here, lambda at: self.partners[at] == NOBODY, self.here), (there, lambda to: not self.taken[to], self.there))]
-                found = aligned([self.here.procedure_of(at) for at in here], [self.there.procedure_of(to) for to in there])
-                for at, to in found:
-                    self.bind(here[at], there[to])
-
-
-def gaps(pairs: Sequence[Pair], own: range, its: range) -> Iterator[tuple[Sequence[int], Sequence[int]]]:
-    """Returns the elements between each pair and the next, before the first and after the last, where both sides have some."""
-    edges = [(own.start - 1, its.start - 1), *pairs, (own.stop, its.stop)]
-    return ((range(at + 1, end), range(to + 1, other_end)) for (at, to), (end, other_end) in zip(edges, edges[1:])
-            if at + 1 < end and to + 1 < other_end)
+        """Binds what is left between two neighbours if the procedures are the same."""
+        for own, its in self.gaps():
+            here = [at for at in own if self.here.procedure_of(at) not in lonely]
+            there = [to for to in its if self.there.procedure_of(to) not in lonely]
+            found = aligned([self.here.procedure_of(at) for at in here], [self.there.procedure_of(to) for to in there])
+            for at, to in found:
+                self.bind(here[at], there[to])
 
 
 def paired(here: Outlines, there: Outlines, listings: tuple[Listing, Listing], lonely: frozenset[str]) -> Pairing:
-    """Brings the exchanges of two runs together: those that are equal first, then those whose calls ask the same, then alike calls,
-    then calls of one procedure between the same neighbours. Calls of the lonely procedures are brought together only if they ask the same."""
+    """Brings the exchanges of two runs together: those that are equal first, then those whose calls ask the same, then alike calls, then
+    calls of one procedure between the same neighbours. Calls of the lonely procedures are brought together only if they ask the same.
+    """
     pairs = Pairs(here, there)
     pairs.in_order()
     pairs.by_turn(here.said.__getitem__, there.said.__getitem__)

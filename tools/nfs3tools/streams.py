@@ -2,6 +2,7 @@
 import array
 import bisect
 import os
+import struct
 import tempfile
 import typing
 
@@ -51,6 +52,8 @@ class Spool:
 
 
 NONE_WRITTEN = array.array('Q')  # is never changed
+BROUGHT = struct.Struct('<QQq')
+BLOCK_OF_FRAMES = 128 * BROUGHT.size  # bytes
 
 
 class Stored:
@@ -121,16 +124,41 @@ class Run(typing.NamedTuple):
     gap: Gap | None
 
 
-class Frames:
-    """Which frame brought which of the stored bytes."""
+class Brought(typing.NamedTuple):
+    """A frame that brought stored bytes: where they begin, its number, and its time."""
+    begin: int
+    number: int
+    time: int
 
-    def __init__(self) -> None:
-        self.begins, self.numbers, self.times = array.array('Q'), array.array('Q'), array.array('q')
+
+class Frames:
+    """Which frame brought which of the stored bytes, in order. It is stored as the bytes are, so little memory follows the frames."""
+    __slots__ = 'stored', 'firsts'
+
+    def __init__(self, spool: Spool) -> None:
+        self.stored, self.firsts = Stored(spool), array.array('Q')  # where the bytes of every 128th frame begin
 
     def append(self, begin: int, number: int, time: int) -> None:
-        self.begins.append(begin)
-        self.numbers.append(number)
-        self.times.append(time)
+        if not self.stored.size % BLOCK_OF_FRAMES:
+            self.firsts.append(begin)
+        self.stored.append(BROUGHT.pack(begin, number, time))
+
+    def between(self, begin: int, end: int) -> typing.Iterator[Brought]:
+        """Iterates over the frames that brought the stored bytes from `begin` up to `end`, in order of the bytes."""
+        noted = self.noted_from(max(0, bisect.bisect_right(self.firsts, begin) - 1))
+        last = next(noted, None)
+        for brought in noted:
+            if last and brought.begin > begin:
+                yield last
+            if brought.begin >= end:
+                return
+            last = brought
+        if last:
+            yield last
+
+    def noted_from(self, block: int) -> typing.Iterator[Brought]:
+        for at in range(block * BLOCK_OF_FRAMES, self.stored.size, BLOCK_OF_FRAMES):
+            yield from map(Brought._make, BROUGHT.iter_unpack(self.stored.read(at, BLOCK_OF_FRAMES)))
 
 
 class Stream:
@@ -271,7 +299,7 @@ class Connection:
         self.client: int | None = None  # the end that sent SYN
         self.first_payload: int | None = None  # the end that sent payload first
         self.is_closed = self.is_chosen = False
-        self.streams = [Stream(spool, budget, Frames() if keeps_frames else None) for _ in range(2)]
+        self.streams = [Stream(spool, budget, Frames(spool) if keeps_frames else None) for _ in range(2)]
 
     @property
     def ends(self) -> tuple[str, str]:

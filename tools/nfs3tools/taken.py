@@ -106,17 +106,9 @@ class TakenStream:
         while self.noted is not None and begin < min(end, self.size):
             part_end = min(end, self.begins[part + 1])
             shift = self.ranges[part][0] - self.begins[part]
-            found.update(frames_between(self.noted, begin + shift, part_end + shift))
+            found.update(FrameRef(brought.number, brought.time) for brought in self.noted.between(begin + shift, part_end + shift))
             begin, part = part_end, part + 1
         return sorted(found)
-
-
-def frames_between(noted: Frames, begin: int, end: int) -> typing.Iterator[FrameRef]:
-    """Iterates over the frames that brought stored bytes."""
-    at = bisect.bisect_right(noted.begins, begin) - 1
-    while at < len(noted.begins) and noted.begins[at] < end:
-        yield FrameRef(noted.numbers[at], noted.times[at])
-        at += 1
 
 
 class TakenConnection(typing.NamedTuple):
@@ -225,13 +217,16 @@ class Taken:
             raise NoPlace(f'there is no {place._replace(byte=None)}')
         return stream.frames(*bytes_of(stream, extent, place))
 
+    def all_frames(self) -> typing.Iterator[FrameRef]:
+        """Iterates over the frames that brought bytes of the connections, stream by stream, if frames are noted."""
+        for stream in itertools.chain.from_iterable(self.pairs()):
+            if stream.noted is not None:
+                yield from (FrameRef(brought.number, brought.time) for brought in stream.noted.noted_from(0))
+
     def ends(self) -> tuple[FrameRef, FrameRef] | None:
-        """Returns the first and the last frame that brought bytes of the connections, if frames are noted."""
-        noted = [stream.noted for pair in self.pairs() for stream in pair if stream.noted is not None and stream.noted.numbers]
-        if not noted:
-            return None
-        return (FrameRef(*min(min(zip(frames.numbers, frames.times)) for frames in noted)),
-                FrameRef(*max(max(zip(frames.numbers, frames.times)) for frames in noted)))
+        """Returns the first and the last of these frames, if there are some."""
+        first = min(self.all_frames(), default=None)
+        return None if first is None else (first, max(self.all_frames()))
 
     def __enter__(self) -> 'Taken':
         return self
@@ -259,7 +254,7 @@ def bytes_of(stream: TakenStream, extent: Extent, place: Place) -> tuple[int, in
 def take(path: str, options: Options = Options(), frames: bool = True, shows_progress: bool = True) -> Taken:
     """Reads a recording or a capture, `-` for standard input. A path that is the name of no file is a pattern, whose files are parts of
     one recording, in the order of the times of their first frames. `frames` says whether the frames of bytes are noted, which
-    takes 24 bytes of memory for each frame; `shows_progress` whether their number is shown on a terminal meanwhile.
+    takes 24 bytes of a temporary file for each frame; `shows_progress` whether their number is shown on a terminal meanwhile.
 
     Raises `NotTaken`, `Missing` and `FilterRefused` (of `programs`), and `OSError` if a file cannot be read or a temporary
     file not be written.
