@@ -21,7 +21,7 @@ from browser import Browser, chromium
 from compare import CHANGED, EXAMPLES, FIRST, SECOND, TOP, Comparisons, Conversation, many_calls
 from running import ended, try_all, words_of
 from messages import (
-    MOUNT, NFS, array, call, dirop, failed, fattr, fh, fragment, made, ok, opaque, post_op_attr, sattr, success, wcc, word)
+    MOUNT, NFS, array, call, dirop, entries, entryplus, failed, fattr, fh, fragment, ok, opaque, post_op_attr, sattr, success, wcc)
 from packets import Talk, pcap
 from nfs3tools import pages
 from nfs3tools.comparing import Compared, Finding, Run
@@ -30,7 +30,7 @@ from nfs3tools.listings import Message
 from nfs3tools.pages import Content, Recorded
 from nfs3tools.reports import Report, Size
 
-GETATTR, LOOKUP, READLINK, MKDIR, FSINFO = 1, 3, 5, 9, 19
+GETATTR, LOOKUP, READLINK, MKDIR, READDIRPLUS, FSINFO = 1, 3, 5, 9, 17, 19
 VOID = ('meta', 'input')
 WIDTHS = (480, 1300)
 CONCURRENT = tuple(str(EXAMPLES / f'concurrent_{name}.pcap') for name in ('a', 'b', 'changed'))
@@ -221,9 +221,12 @@ def what_does_not_count(place: Pages) -> None:
     place.want('ignored', '*.mode: obj.mode of NFSPROC3_GETATTR 2.' in page.all('dl')[0].text(), True)
     place.want('all is ignored', 'All fields that differ are ignored.' in page.text(), True)
     place.want('marks', [one for one in rows_and_gaps(page) if one[0] == '≠'], ['≠ 4 4', '≠ 5 5'])
+    page = place.page(*CONCURRENT[::2])
+    place.want('masked in any order', 'masked besidesids=zero, wcc=zero, since any order was tried.' in page.all('dl')[0].text(), True)
+    place.want('strictly', 'masked besides' in place.page('--order', 'strict', *CONCURRENT[::2]).text(), False)
     talk = Talk()
-    messages = [body for at in range(4) for body in (null(at), success(at))]
-    frames = [*talk.opened(), *(talk.sent(number % 2, fragment(body)) for number, body in enumerate(messages))]
+    bodies = [body for at in range(4) for body in (null(at), success(at))]
+    frames = [*talk.opened(), *(talk.sent(number % 2, fragment(body)) for number, body in enumerate(bodies))]
     place.write('lossy', pcap([*frames[:-1], *talk.closed()]))
     page = place.page('--allow-losses', 'lossy', 'lossy')
     place.want('missing', runs_of(page)['missing'], ['28 bytes', '28 bytes'])
@@ -323,6 +326,22 @@ def findings_that_say_the_same(place: Pages) -> None:
         '/m/f300: connection 1 server record 603 | connection 1 server record 603'))
     place.want('more', (article.all('summary')[0].text(), article.all('p')[-1].text()), ('351 places more', '.. and 51 more'))
     place.want('how many', page.all('h2')[1].text(), '352 findings, 1 if those that say the same are one')
+
+
+def long_messages(place: Pages) -> None:
+    """A finding has 200 fields at most, and a message in a row 6,000 characters of fields; then how many more."""
+    def listing(mode: int) -> Conversation:
+        listed = [entryplus(number, b'%03d' % number, number, fattr(1, number, mode=mode), b'%d' % number) for number in range(300)]
+        return [call(1, NFS, 3, READDIRPLUS, fh(b'top') + bytes(24))], [success(1, ok(entries(None, bytes(8), listed, is_end=True)))]
+    place.put('a', listing(0o640))
+    place.put('b', listing(0o600))
+    page = place.page()
+    values = [one.text() for one in page.all('div', 'change')[0].all('div')]
+    place.want('finding', (len(values), values[0], values[-2:]), (
+        401, '- entry "000".mode=416 (0640)', ['+ entry "199".mode=384 (0600)', '.. and 100 more fields']))
+    lines, every = fields_of(page)[1], 8 + 300 * 24 + 2
+    more = int(re.sub('[^0-9]', '', lines[-1]))
+    place.want('row', (5_000 < sum(map(len, lines)) < 6_100, lines[-1][:7], more + len(lines) - 1), (True, '.. and ', every))
 
 
 def places_of_many_findings(place: Pages) -> None:
@@ -683,7 +702,7 @@ def without_scripts(place: Pages) -> None:
 
 TESTS: list[Callable[[Pages], None]] = [
     the_top, what_does_not_count, other_verdicts, counts_lead_to_findings, findings_of_a_page, parts_of_a_recording,
-    findings_that_say_the_same, places_of_many_findings, two_thousand_findings, two_thousand_calls_of_the_second_run,
+    findings_that_say_the_same, long_messages, places_of_many_findings, two_thousand_findings, two_thousand_calls_of_the_second_run,
     size_of_a_page, calls_around, connections_of_one_run, fields_on_a_click, names_are_escaped, pages_stand_alone]
 IN_CHROMIUM: list[Callable[[Pages], None]] = [pages_load, colours, searching, keys, links, folding, copying, without_scripts]
 

@@ -49,6 +49,7 @@ class Compared:
     lonely: how many calls the first and the second run have alone, which are told
     left_out: how often a procedure was left out of the first and of the second run
     beside: what differs with some pairs before and after it, for those who show both runs side by side
+    mask: that under which they were compared
     """
     findings: list[Finding] = field(default_factory=list)
     exchanges: int = 0
@@ -60,6 +61,7 @@ class Compared:
     lonely: tuple[int, int] = (0, 0)
     left_out: tuple[Counter[str], Counter[str]] = field(default_factory=lambda: (Counter(), Counter()))
     beside: Beside = field(default_factory=Beside)
+    mask: Mask = field(default_factory=dict)
 
     def fields(self) -> Counter[tuple[str, str]]:
         """Returns how often each field of each procedure differs."""
@@ -146,7 +148,7 @@ class Explaining:
                         len(self.firsts), (len(pairing.here), len(pairing.there)), len(pairing.moved), len(pairing.elsewhere),
                         sum(number for _, number, _ in pairing.late_replies), pairing.late_connections,
                         (self.lonely.number(), self.others.number()), (self.lonely.left_out, self.others.left_out),
-                        self.beside([*(pair for pair, _ in changed), *moved], around) if around else Beside())
+                        self.beside([*(pair for pair, _ in changed), *moved], around) if around else Beside(), mask)
 
     def has_another_order(self) -> bool:
         """Returns whether it makes a difference that the order does not count."""

@@ -131,9 +131,11 @@ def words_of_masks(content: Content) -> Iterator[tuple[str, str]]:
     """What does not count, as HTML."""
     report = content.report
     yield 'masked', f'{code(told(report.mask).replace(",", ", "))}. Xids, file handles and write verifiers are renamed one to one.'
-    besides = summing.besides(report.same_under, report.mask) if report.same_under is not None else {}
+    is_turned = report.same_under is not None
+    besides = summing.besides(report.same_under or content.compared.mask, report.mask)
     if besides:
-        yield 'masked besides', f'{code(told(besides).replace(",", ", "))}, in another order.'
+        yield 'masked besides', (f'{code(told(besides).replace(",", ", "))}, ' + (
+            'in another order.' if is_turned else 'since any order was tried. What differs in these alone is not told.'))
     if any(content.compared.left_out):
         yield 'left out', 'Calls that only ask, which one run alone has.'
     if content.ignored:
