@@ -447,7 +447,9 @@ def connections_of_one_run(place: Pages) -> None:
     """A connection that one run alone has is told with its first call, and is not among the equal ones."""
     place.put('a', gets([1] * 4))
     place.put('b', gets([1] * 4), ([call(at, NFS, 3, MKDIR, dirop(b'top', b'%d' % at) + sattr()) for at in range(6)], []), NULLS)
-    place.want('of the second run', rows_and_gaps(place.page()), ['+ 1', '4 equal calls in 1 other connection'])
+    page = place.page()
+    place.want('of the second run', (rows_and_gaps(page), page.all('div', 'connection')[0].all('h3')[0].text()), (
+        ['+ 1', '4 equal calls in 1 other connection'], 'connection 2 of the second run'))
     page = place.page('b', 'a')
     place.want('of the first run', rows_and_gaps(page), [
         '- 1', '5 calls that differ', '4 equal calls, 5 calls of the first run left out in 2 other connections'])

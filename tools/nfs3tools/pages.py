@@ -373,8 +373,8 @@ class Body:
 
 def heading_of(connection: Connection) -> str:
     both = connection.first, connection.second
-    only = '' if None not in both else f', only in the {RUNS[connection.first is None]} run'
-    return ' | '.join(f'connection {number}' for number in both if number is not None) + only
+    of_one = f' of the {RUNS[connection.first is None]} run' if None in both else ''
+    return ' | '.join(f'connection {number}' for number in both if number is not None) + of_one
 
 
 def record_of(call: Message, connection: int | None) -> str:
