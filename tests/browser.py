@@ -12,6 +12,7 @@ import base64
 import fcntl
 import json
 import os
+import select
 import shutil
 import subprocess
 import sys
@@ -20,8 +21,8 @@ from collections.abc import Iterator
 from pathlib import Path
 from typing import Any
 
-WORDS = ('--headless', '--no-sandbox', '--disable-gpu', '--no-first-run', '--disable-extensions', '--hide-scrollbars',
-         '--remote-debugging-pipe')
+WORDS = ('--headless', '--no-sandbox', '--disable-gpu', '--disable-dev-shm-usage', '--no-first-run', '--disable-extensions',
+         '--hide-scrollbars', '--remote-debugging-pipe')
 # Gives the pipes the numbers under which Chromium reads and writes, and runs it.
 STARTED = """import os, sys
 os.dup2(int(sys.argv[1]), 3)
@@ -106,7 +107,7 @@ class Browser:
                 answer: dict[str, Any] = json.loads(text)
                 self.note(answer)
                 yield answer
-            else:
+            elif select.select([self.into], [], [], SECONDS)[0]:
                 piece = os.read(self.into, 1 << 16)
                 if not piece:
                     return

@@ -714,7 +714,7 @@ def tried(program: str, test: Callable[[Pages], None]) -> list[str]:
         place = Pages(program, folder)
         try:
             test(place)
-        except (AssertionError, IndexError, KeyError, StopIteration, ValueError, RuntimeError) as wrong:
+        except (AssertionError, IndexError, KeyError, OSError, RuntimeError, ValueError) as wrong:
             place.wrong.append(f'{type(wrong).__name__}: {wrong}')
         return place.wrong
 
