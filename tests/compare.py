@@ -16,7 +16,6 @@ import time
 from array import array
 from collections import Counter
 from collections.abc import Callable
-from html.parser import HTMLParser
 
 from running import Runs, ended, try_all, words_of
 from traffic import Names, Traffic
@@ -407,13 +406,13 @@ finally:
 """
 
 
-def many_calls(first_handle: int, changed: int | None = None) -> Conversation:
-    """LOOKUP of each file, and then GETATTR and WRITE by turns. One reply to GETATTR may have another mode."""
+def many_calls(first_handle: int, *changed: int) -> Conversation:
+    """LOOKUP of each file, and then GETATTR and WRITE by turns. Some replies may have another mode."""
     calls, replies = list[bytes](), list[bytes]()
     for number in range(MANY):
         file, xid = number % FILES_OF_MANY, number + 1
         handle = b'%08d' % (first_handle + file)
-        attributes = fattr(1, file + 2, size=number, mode=0o645 if number == changed else 0o644)
+        attributes = fattr(1, file + 2, size=number, mode=0o645 if number in changed else 0o644)
         if number < FILES_OF_MANY:
             calls.append(call(xid, NFS, 3, 3, dirop(b'folder', b'name%d' % file)))
             replies.append(success(xid, ok(fh(handle), post_op_attr(attributes), post_op_attr())))
@@ -430,7 +429,7 @@ def one_bit_of_many_calls(place: Comparisons) -> None:
     """What is equal is not taken apart: a changed bit costs little time and memory, and is told with its path. The limits are four
     times what is promised."""
     place.put('a', many_calls(1))
-    place.put('b', many_calls(7_000, changed=70_001))
+    place.put('b', many_calls(7_000, 70_001))
     words = [sys.executable, '-c', MEASURED, str(TOP / 'tools/compare'), '--program', place.program, 'a', 'b']
     status, out, error = ended(words, place.folder, limit=None).text()
     where = 'connection 1 server record 70002'
@@ -493,34 +492,6 @@ def same_in_part(place: Comparisons) -> None:
     for options in ('--mask=none', '--allow-losses'):
         status, out, _ = place.compare(options, '--order', 'strict', 'a', 'b')
         place.want('they differ', (status, out[1:3]), (1, ['differ at connection 1 client record 1034', 'compared in part: ' + missing % 'second']))
-    place.write('a', lossy)
-    place.want('a page', (place.compare('--allow-losses', '--html', 'page.html', 'a', 'b')[0],
-                          b'<h1 class=same>same in part: 1,033 calls' in (place.read('page.html') or b'')), (0, True))
-
-
-class Page(HTMLParser):
-    """Counts what a page has."""
-
-    def __init__(self) -> None:
-        super().__init__()
-        self.tags: dict[str, int] = {}
-        self.links: list[str] = []
-
-    def handle_starttag(self, tag: str, attrs: list[tuple[str, str | None]]) -> None:
-        self.tags[tag] = self.tags.get(tag, 0) + 1
-        self.links += [value or '' for name, value in attrs if name in ('src', 'href')]
-
-
-def pages(place: Comparisons) -> None:
-    """A page stands alone, and marks the fields that differ."""
-    place.want('status', place.compare('--html', 'page.html', FIRST, CHANGED)[0], 1)
-    page = Page()
-    page.feed((place.read('page.html') or b'').decode())
-    place.want('marks', (page.tags['del'], page.tags['ins'], page.links), (4, 4, []))
-    place.want('status', place.compare('--html', 'page.html', FIRST, SECOND)[0], 0)
-    page = Page()
-    page.feed((place.read('page.html') or b'').decode())
-    place.want('no marks', (page.tags.get('del'), page.tags['tr']), (None, 1))
 
 
 def refused_runs(place: Comparisons) -> None:
@@ -539,7 +510,7 @@ TESTS: list[Callable[[Comparisons], None]] = [
     sequences_brought_together, sequences_in_blocks, retransmissions_are_linear, words_of_masks,
     ordinary_runs, changed_fields, statuses_that_differ, one_call_more, other_orders, bound_values, zero_cookies,
     equal_numbers_of_two_classes, users_and_groups, directories, entries_of_one_name, replies_of_one_call, files_by_their_paths,
-    raw_messages, connections_of_one_run, random_traffic, one_bit_of_many_calls, example_recordings, same_in_part, pages, refused_runs]
+    raw_messages, connections_of_one_run, random_traffic, one_bit_of_many_calls, example_recordings, same_in_part, refused_runs]
 
 
 def tried(program: str, test: Callable[[Comparisons], None]) -> list[str]:

@@ -518,9 +518,6 @@ def fields_left_out(place: Findings) -> None:
                        ('NFSPROC3_GETATTR', 'NFSPROC3_GETATTR'), ('*.nlink,MOUNTPROC3_NULL.nlink', 'nlink'), ('*.obj', 'obj')):
         status, out, error = place.compare('--ignore', bad, 'a', 'b')
         place.want(bad, (status, out, named in error.splitlines()[-1], 'Traceback' in error), (2, [], True, False))
-    place.compare('--ignore', '*.nlink', '--html', 'page.html', 'a', 'b')
-    place.want('a page', (b'nlink=' in re.sub(rb'<details>.*?</details>', b'', place.read('page.html') or b''),
-                          b'left out: *.nlink' in (place.read('page.html') or b'')), (False, True))
 
 
 # --- JSON ---

@@ -26,6 +26,7 @@ same in part or in another order, 2 if a recording, a capture, FILE or the comma
 failed.
 """
 import argparse
+import os
 import re
 import sys
 import tempfile
@@ -41,6 +42,7 @@ from .listings import Message
 from .messages import REFUSED, add_losses, add_options, options_of, parser_of
 from .orders import Choices, Found, Orders
 from .outputs import check_output, held, write_file
+from .pages import Content, Recorded
 from .pairing import ASKING
 from .parts import files_of
 from .places import Place, parse_fault
@@ -48,13 +50,14 @@ from .printed import escaped
 from .programs import CHECKED, program_path, run_program
 from .reports import Report, Size, json_of
 from .selection import count
+from .shown import Around
 from .taken import Taken, take
 from .trial import Trial
 
 SAME, DIFFERENT = range(2)
 COUNTS = re.compile(r'ok connections=(\d+) calls=(\d+) ')
 FINDINGS_AT_MOST = 20
-AROUND = 3  # equal pairs before and after what differs, on a page
+AROUND = Around(3, pages.SHOWN_AT_MOST)  # on a page
 
 
 class Ended(Exception):
@@ -82,7 +85,7 @@ def words_of(words: list[str]) -> argparse.Namespace:
                         help='fields that are left out of the explanation; * is any procedure')
     parser.add_argument('--all', action='store_true',
                         help=f'prints each finding by itself; by default, equal ones are one, and {FINDINGS_AT_MOST} are printed')
-    parser.add_argument('--html', metavar='FILE', help='writes a page with both runs side by side')
+    parser.add_argument('--html', metavar='FILE', help='writes a page for a browser with what differs and the calls around it')
     parser.add_argument('--json', metavar='FILE', help='writes the verdict and all findings as JSON')
     add_options(parser)
     add_losses(parser, 'same in part')
@@ -119,9 +122,14 @@ def run_of(trial: Trial, taken: Taken, capture: str, name: str) -> Run:
     return Run(escaped(name), trial.listing(capture), frames)
 
 
-def write_page(path: str, inputs: list[str], compared: Compared, first: Run, second: Run, verdict: str, mask: str) -> None:
-    pieces = pages.page(compared, first, second, verdict, mask)
-    write_file(path, (piece.encode(errors='backslashreplace') for piece in pieces), inputs)
+def recorded_of(taken: Taken, name: str) -> Recorded:
+    files = files_of(name)
+    is_known = all(os.path.isfile(file) for file in files)
+    return Recorded(sum(map(os.path.getsize, files)) if is_known else None, taken.ends(), taken.parts)
+
+
+def write_page(path: str, inputs: list[str], content: Content) -> None:
+    write_file(path, (piece.encode(errors='backslashreplace') for piece in pages.page(content)), inputs)
 
 
 def losses_of(first: Taken, second: Taken) -> str:
@@ -157,22 +165,22 @@ def compared_runs(words: argparse.Namespace, stack: ExitStack) -> int:
     found = Found(Compared(exchanges=sizes[0].calls, calls=(sizes[0].calls, sizes[1].calls)))
     if verdict != 'same' or words.html:
         leaves_out, order = frozenset() if words.extra == 'none' else ASKING, 'strict' if verdict == 'same' else words.order
-        found = Orders(trial, *sides, Choices(order, masks, leaves_out, AROUND if words.html else 0)).found()
+        found = Orders(trial, *sides, Choices(order, masks, leaves_out, AROUND if words.html else None)).found()
     is_turned = found.same_under is not None
     line = line_of(summing.IN_ANOTHER_ORDER if is_turned else verdict, summing.of_same(found, masks[0]) if is_turned else sizes[0], losses)
     print(line, flush=True)
     report = Report(verdict, masks[0], (names[0], names[1]), (sizes[0], sizes[1]), (runs[0].missing, runs[1].missing), found.same_under)
-    explain(words, inputs, line, report, found.compared, sides)
+    explain(words, inputs, line, report, found.compared, sides, [recorded_of(*one) for one in zip(runs, names) if words.html])
     is_same = verdict == 'same' or is_turned and words.order == 'any'
     return SAME if is_same and (words.allow_losses or not losses) else DIFFERENT
 
 
-def explain(words: argparse.Namespace, inputs: list[str], line: str, report: Report, whole: Compared, runs: list[Run]) -> None:
+def explain(words: argparse.Namespace, inputs: list[str], line: str, report: Report, whole: Compared, runs: list[Run],
+            recorded: list[Recorded]) -> None:
     """Writes and prints what differs between two runs. Findings that do not count in another order are printed if all are asked for."""
     compared, left_out = without(whole, words.ignore)
     if words.html:
-        mask = '; '.join([told(report.mask), *(f'left out: {one}' for one in words.ignore)])
-        write_page(words.html, inputs, compared, runs[0], runs[1], line, mask)
+        write_page(words.html, inputs, Content(line, report, compared, words.ignore, left_out, runs, recorded))
     if words.json:
         write_file(words.json, json_of(report, compared, left_out, [run.frames for run in runs]), inputs)
     if report.verdict != 'same':

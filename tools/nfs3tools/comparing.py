@@ -1,4 +1,5 @@
 """Two runs compared: which exchanges belong together, and what differs."""
+import functools
 import itertools
 from collections import Counter
 from collections.abc import Callable, Iterable, Iterator, Sequence
@@ -9,11 +10,11 @@ from .differing import Comparison, Difference
 from .listings import Exchange, Message, exchanges_of, messages_of
 from .matching import Pair
 from .outlines import Outlines
-from .pairing import Listing, Pairing
+from .pairing import NOBODY, Listing, Pairing
 from .paths import Paths
+from .shown import Around, Beside, Row, Shown
 
 Framing = Callable[[Message], Sequence[int]]
-Row = tuple[Exchange | None, Exchange | None]
 
 
 @dataclass
@@ -47,7 +48,8 @@ class Compared:
     late_connections: how many connections do
     lonely: how many calls the first and the second run have alone, which are told
     left_out: how often a procedure was left out of the first and of the second run
-    rows: what differs with some pairs before and after it, for those who show both runs side by side
+    beside: what differs with some pairs before and after it, for those who show both runs side by side
+    mask: that under which they were compared
     """
     findings: list[Finding] = field(default_factory=list)
     exchanges: int = 0
@@ -58,7 +60,8 @@ class Compared:
     late_connections: int = 0
     lonely: tuple[int, int] = (0, 0)
     left_out: tuple[Counter[str], Counter[str]] = field(default_factory=lambda: (Counter(), Counter()))
-    rows: list[Row] = field(default_factory=list)
+    beside: Beside = field(default_factory=Beside)
+    mask: Mask = field(default_factory=dict)
 
     def fields(self) -> Counter[tuple[str, str]]:
         """Returns how often each field of each procedure differs."""
@@ -71,7 +74,7 @@ class Apart:
 
     def __init__(self, run: Run, outlines: Outlines, wanted: Iterable[int]) -> None:
         kept = sorted(outlines.with_origins(wanted))
-        found = exchanges_of(messages_of(chosen(run.listing(), outlines, kept)))
+        found = exchanges_of(messages_of(chosen(run.listing() if kept else (), outlines, kept)))
         self.exchanges = dict(zip(kept, itertools.chain.from_iterable(some for _, some in sorted(found.items()))))
         self.paths = Paths()
         for exchange in self.exchanges.values():
@@ -130,23 +133,22 @@ class Explaining:
         self.lonely = Lonely.of(pairing.here, pairing.only_first(), leaves_out)
         self.others = Lonely.of(pairing.there, pairing.only_second(), leaves_out)
 
-    def explained(self, unequal: set[int], named: set[int], mask: Mask, tells_order: bool, around: int) -> Compared:
+    def explained(self, unequal: set[int], named: set[int], mask: Mask, tells_order: bool, around: Around | None) -> Compared:
         """Returns what differs in the pairs of the unequal turns, and besides.
 
         named: the turns of equal pairs that say what stands for what
-        around: how many pairs before and after what differs are in the rows
+        around: how much is shown of both runs side by side, if that is asked for
         """
-        pairing, moved = self.pairing, [*self.pairing.moved, *self.pairing.elsewhere]
-        shown = unequal | self.neighbours(unequal, around)
-        turns = self.take_apart(shown | named, moved if tells_order else [])
-        findings = [*self.of_turns(unequal, turns, Comparison(mask)), *self.of_the_lonely()]
+        pairing, moved = self.pairing, [*self.pairing.moved, *self.pairing.elsewhere] if tells_order else []
+        changed = list(self.of_turns(unequal, self.take_apart(unequal | named, moved), Comparison(mask)))
+        findings = [*(finding for _, finding in changed), *self.of_the_lonely()]
         if tells_order:
             findings += [*self.of_moved(), *self.of_late()]
         return Compared(sorted(findings, key=lambda finding: self.place_of(finding.first, finding.second)),
                         len(self.firsts), (len(pairing.here), len(pairing.there)), len(pairing.moved), len(pairing.elsewhere),
                         sum(number for _, number, _ in pairing.late_replies), pairing.late_connections,
                         (self.lonely.number(), self.others.number()), (self.lonely.left_out, self.others.left_out),
-                        self.rows(shown) if around else [])
+                        self.beside([*(pair for pair, _ in changed), *moved], around) if around else Beside(), mask)
 
     def has_another_order(self) -> bool:
         """Returns whether it makes a difference that the order does not count."""
@@ -157,13 +159,6 @@ class Explaining:
     def tells_lonely(self) -> bool:
         """Returns whether something is told that one run alone has."""
         return any(some.told or some.connections for some in (self.lonely, self.others))
-
-    def neighbours(self, unequal: set[int], around: int) -> set[int]:
-        """Returns the turns that are at most so many before or after what differs."""
-        near = range(-around, around + 1)
-        here = {self.firsts[turn] + step for turn in unequal for step in near} | {at + step for at in self.lonely.told for step in near}
-        there = {to + step for to in self.others.told for step in near}
-        return {turn for turn, (at, to) in enumerate(zip(self.firsts, self.seconds)) if at in here or to in there}
 
     def take_apart(self, turns: set[int], moved: Iterable[Pair]) -> set[int]:
         """Takes the exchanges of some turns apart, and all that are told. Returns the turns, with those of the exchanges that say where
@@ -176,13 +171,13 @@ class Explaining:
         self.there = Apart(self.second, self.pairing.there, there.union(self.seconds[turn] for turn in turns))
         return turns
 
-    def of_turns(self, unequal: set[int], turns: set[int], comparison: Comparison) -> Iterator[Finding]:
+    def of_turns(self, unequal: set[int], turns: set[int], comparison: Comparison) -> Iterator[tuple[Pair, Finding]]:
         """The differences between exchanges that belong together. Those of equal ones bind what stands for what."""
         for turn in (*sorted(turns - unequal), *sorted(unequal)):
             at, to = self.firsts[turn], self.seconds[turn]
             found = list(of_pair(self.here.exchanges[at], self.there.exchanges[to], self.here.path(at), comparison))
             if turn in unequal:
-                yield from found
+                yield from (((at, to), finding) for finding in found)
 
     def of_moved(self) -> Iterator[Finding]:
         for pairs, remark in ((self.pairing.moved, 'the call has changed its turn'),
@@ -215,12 +210,22 @@ class Explaining:
             place = self.pairing.places_of_homes.get(place, len(self.pairing.homes))
         return place, message.record, first is None
 
-    def rows(self, turns: set[int]) -> list[Row]:
-        """The exchanges of some turns, and those that are told, in the order of the first run."""
-        rows: list[Row] = [(self.here.exchanges[self.firsts[turn]], self.there.exchanges[self.seconds[turn]]) for turn in turns]
-        rows += [(self.here.exchanges[at], None) for at in (*self.lonely.told, *self.lonely.connections)]
-        rows += [(None, self.there.exchanges[to]) for to in (*self.others.told, *self.others.connections)]
-        return sorted(rows, key=lambda row: self.place_of(row[0] and row[0].call, row[1] and row[1].call))
+    def beside(self, changed: Iterable[Pair], around: Around) -> Beside:
+        """Returns some pairs that are told, what one run alone has, and pairs around that. Of a connection that one run alone has it is
+        the first exchange."""
+        told = [*changed, *((at, NOBODY) for at in (*self.lonely.told, *self.lonely.connections)),
+                *((NOBODY, to) for to in (*self.others.told, *self.others.connections))]
+        besides = itertools.chain.from_iterable(range(at, at + number) for at, number in self.lonely.connections.items())
+        shown = Shown(self.pairing, told, besides, around)
+        here = Apart(self.first, self.pairing.here, (at for at, _ in shown.pairs if at != NOBODY))
+        there = Apart(self.second, self.pairing.there, (to for _, to in shown.pairs if to != NOBODY))
+        return shown.beside(functools.partial(row_of, here, there))
+
+
+def row_of(here: Apart, there: Apart, pair: Pair, is_told: bool) -> Row:
+    at, to = pair
+    return Row(here.exchanges[at] if at != NOBODY else None, there.exchanges[to] if to != NOBODY else None,
+               here.path(at) if at != NOBODY else there.path(to), is_told)
 
 
 def of_pair(one: Exchange, other: Exchange, path: str | None, comparison: Comparison) -> Iterator[Finding]:

@@ -6,6 +6,7 @@ from typing import Literal
 from .classes import Mask
 from .comparing import Compared, Explaining, Run
 from .pairing import ASKING, Pairing
+from .shown import Around
 from .trial import Trial
 from .unequal import Listed, ListedInPlace
 
@@ -19,12 +20,12 @@ class Choices:
     order: whether the order counts; if it is None, any order is tried, and counts if it makes a difference
     masks: that of the comparison, and those of any order, each with more than the one before
     leaves_out: the procedures whose calls are left out in any order if one run alone has them
-    around: how many pairs before and after what differs are shown
+    around: how much is shown of both runs side by side, if that is asked for
     """
     order: Order
     masks: Sequence[Mask]
     leaves_out: frozenset[str] = ASKING
-    around: int = 0
+    around: Around | None = None
 
 
 @dataclass(frozen=True)

@@ -217,6 +217,17 @@ class Taken:
             raise NoPlace(f'there is no {place._replace(byte=None)}')
         return stream.frames(*bytes_of(stream, extent, place))
 
+    def all_frames(self) -> typing.Iterator[FrameRef]:
+        """Iterates over the frames that brought bytes of the connections, stream by stream, if frames are noted."""
+        for stream in itertools.chain.from_iterable(self.pairs()):
+            if stream.noted is not None:
+                yield from (FrameRef(brought.number, brought.time) for brought in stream.noted.noted_from(0))
+
+    def ends(self) -> tuple[FrameRef, FrameRef] | None:
+        """Returns the first and the last of these frames, if there are some."""
+        first = min(self.all_frames(), default=None)
+        return None if first is None else (first, max(self.all_frames()))
+
     def __enter__(self) -> 'Taken':
         return self
 

@@ -20,8 +20,10 @@ The status is 0, 1 if the capture has no such place, 2 if PLACE, RECORDING or FI
 import datetime
 import sys
 import typing
+from collections.abc import Sequence
 
 from .messages import REFUSED, add_options, ended, options_of, parser_of
+from .parts import Part
 from .places import FilePlace, NoPlace, Place, parse_place
 from .printed import escaped
 from .taken import FrameRef, NotTaken, Taken, take
@@ -62,12 +64,8 @@ def lines_of(taken: Taken, place: Place | FilePlace, frames: list[FrameRef]) -> 
         yield f'frame {frame.number}, {time_of(frame)}'
     if len(frames) > SHOWN_AT_MOST:
         yield f'and {len(frames) - SHOWN_AT_MOST} more, the last of them frame {frames[-1].number}, {time_of(frames[-1])}'
-    if not taken.parts:
-        yield filter_of([frame.number for frame in frames])
-    for part, after in zip(taken.parts, [*(part.before for part in taken.parts[1:]), sys.maxsize]):
-        numbers = [frame.number - part.before for frame in frames if part.before < frame.number <= after]
-        if numbers:
-            yield f'{escaped(part.path)}: {filter_of(numbers)}'
+    for name, text in filters_of(taken.parts, [frame.number for frame in frames]):
+        yield f'{name}: {text}' if name else text
 
 
 def time_of(frame: FrameRef) -> str:
@@ -82,7 +80,18 @@ def time_of(frame: FrameRef) -> str:
     return f'{moment:%Y-%m-%d %H:%M:%S}.{nanoseconds:09} UTC'
 
 
-def filter_of(numbers: list[int]) -> str:
+def filters_of(parts: Sequence[Part], numbers: Sequence[int]) -> typing.Iterator[tuple[str, str]]:
+    """Iterates over display filters of Wireshark for frames: one after an empty name, or for each part of a recording that has such
+    frames one with its own numbers, after the part's name."""
+    if not parts:
+        yield '', filter_of(numbers)
+    for part, after in zip(parts, [*(part.before for part in parts[1:]), sys.maxsize]):
+        own = [number - part.before for number in numbers if part.before < number <= after]
+        if own:
+            yield escaped(part.path), filter_of(own)
+
+
+def filter_of(numbers: Sequence[int]) -> str:
     """A display filter of Wireshark for frames."""
     if len(numbers) == 1:
         return f'frame.number == {numbers[0]}'
