@@ -5,7 +5,7 @@ ghost use Rattle.hex.specs.Hex.{encode_lower};
 ghost use Rattle.xdr3.specs.Visit.{body_limit};
 ghost use Rattle.listing3.specs.Listing.{opening, prefix, quoted};
 
-use crate::room::{DIGITS, put_decimal, put_digits, put_name, put_number, put_quoted, put_short};
+use crate::room::{DIGITS, put_decimal, put_hex, put_name, put_number, put_quoted, put_short};
 use crate::run::put_run;
 use std::alloc::{AllocError, Global};
 use std::marker::Model;
@@ -157,7 +157,7 @@ impl LineText {
     {
         make_room(&mut self.room, self.end, name.len() + 2 + 2 * bytes.len())?;
         let start = put_name(&mut self.room, self.end, name);
-        self.end = put_digits(&mut self.room, start, bytes);
+        self.end = put_hex(&mut self.room, start, bytes);
         Ok(())
     }
 

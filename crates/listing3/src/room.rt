@@ -259,24 +259,8 @@ pub(crate) fn put_number(room: &mut [u8], at: usize, name: &'static str, n: u64)
     put_decimal(room, start, n)
 }
 
-/// Writes two lower-case hexadecimal digits for each byte. Many file handles have 28 or 32 bytes: in their
-/// arms the compiler knows the length, and makes no loop.
-#[inline(always)]
-pub(crate) fn put_digits(room: &mut [u8], at: usize, bytes: &[u8]) -> usize
-    requires { at + 2 * length bytes.now ≤ length room.old }
-    ensures end { result ≡ at + 2 * length bytes.now }
-    ensures written { take result room.new ≡ take at room.old ++ encode_lower bytes.now }
-    ensures len { length room.new ≡ length room.old }
-{
-    match bytes.len() {
-        28 => put_spelled(room, at, bytes),
-        32 => put_spelled(room, at, bytes),
-        _ => put_hex(room, at, bytes),
-    }
-}
-
 /// Writes two lower-case hexadecimal digits for each byte.
-fn put_hex(room: &mut [u8], at: usize, bytes: &[u8]) -> usize
+pub(crate) fn put_hex(room: &mut [u8], at: usize, bytes: &[u8]) -> usize
     requires { at + 2 * length bytes.now ≤ length room.old }
     ensures end { result ≡ at + 2 * length bytes.now }
     ensures written { take result room.new ≡ take at room.old ++ encode_lower bytes.now }
