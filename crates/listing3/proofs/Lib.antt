@@ -3,6 +3,7 @@ pub mod ListingLemmas
 pub mod LineLemmas
 pub mod NamedItems
 pub mod Rooms
+pub mod Plain
 pub mod Digits
 pub mod Texts
 pub mod LineTexts

@@ -344,6 +344,22 @@ pub(crate) fn put_quoted(room: &mut Vec<u8>, at: usize, bytes: &[u8]) -> Result<
     ensures kept { take at room.new.items ≡ take at room.old.items }
     ensures len { vec_len room.old ≤ vec_len room.new }
 {
+    if (PIECE..=2 * PIECE).contains(&bytes.len()) && are_all_plain(bytes) {
+        make_room(room, at, 2 * PIECE + 2)?;
+        return Ok(put_plain(room, at, bytes));
+    }
+    put_pieces(room, at, bytes)
+}
+
+/// Writes the text of the bytes between quotation marks, a piece after another.
+fn put_pieces(room: &mut Vec<u8>, at: usize, bytes: &[u8]) -> Result<usize, AllocError>
+    requires { at ≤ vec_len room.old }
+    ensures within { IfOk result (λ end. end ≤ vec_len room.new) }
+    ensures ok { IfOk result (λ end. take end room.new.items
+        ≡ take at room.old.items ++ quoted bytes.now) }
+    ensures kept { take at room.new.items ≡ take at room.old.items }
+    ensures len { vec_len room.old ≤ vec_len room.new }
+{
     make_room(room, at, 1)?;
     let mut end = put_bytes(room, at, b"\"");
     for piece in bytes.chunks(PIECE) {
@@ -352,6 +368,32 @@ pub(crate) fn put_quoted(room: &mut Vec<u8>, at: usize, bytes: &[u8]) -> Result<
     }
     make_room(room, end, 1)?;
     Ok(put_bytes(room, end, b"\""))
+}
+
+/// Writes quotation marks around bytes that stand for themselves. Most names are such, and are copied by
+/// two moves.
+#[inline(always)]
+fn put_plain(room: &mut [u8], at: usize, bytes: &[u8]) -> usize
+    requires plain { flat_map quoted_byte bytes.now ≡ bytes.now }
+    requires room { at + (length bytes.now + 2) ≤ length room.old }
+    ensures end { result ≡ at + (length bytes.now + 2) }
+    ensures written { take result room.new ≡ take at room.old ++ quoted bytes.now }
+    ensures kept { take at room.new ≡ take at room.old }
+    ensures len { length room.new ≡ length room.old }
+{
+    let start = put_bytes(room, at, b"\"");
+    let end = put_short(room, start, bytes);
+    put_bytes(room, end, b"\"")
+}
+
+/// Returns `true` only if all bytes of one or two pieces stand for themselves. The pieces may overlap.
+#[inline(always)]
+fn are_all_plain(bytes: &[u8]) -> bool
+    requires least { PIECE ≤ length bytes.now }
+    requires most { length bytes.now ≤ 2 * PIECE }
+    ensures { result ≡ true → flat_map quoted_byte bytes.now ≡ bytes.now }
+{
+    are_plain(&bytes[..PIECE]) && are_plain(&bytes[bytes.len() - PIECE..])
 }
 
 /// Writes the text of the bytes between quotation marks. Most pieces stand for themselves.

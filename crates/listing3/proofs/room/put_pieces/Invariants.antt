@@ -3,7 +3,7 @@ use Rattle.std.specs.List.{flat_map}
 use Rattle.std.specs.Prelude.{vec_len}
 use Rattle.std.specs.Slice.Iter.{chunks_rest, chunks_size}
 use Rattle.listing3.specs.Listing.{quoted_byte}
-use Rattle.listing3.proofs.room.put_quoted.Given as goal
+use Rattle.listing3.proofs.room.put_pieces.Given as goal
 
 abbrev pub invariant-loop-piece : goal.invariant-loop-piece
 invariant-loop-piece l = record {

@@ -4,7 +4,7 @@ use Rattle.std.specs.Slice.Iter.{chunks_rest}
 use Rattle.std.proofs.lemmas.Grind.{common_steps, flat_map-append}
 use Rattle.listing3.specs.Listing.{quoted_byte}
 use Rattle.listing3.proofs.Rooms.{kept_below}
-use Rattle.listing3.proofs.room.put_quoted.Goals as goal
+use Rattle.listing3.proofs.room.put_pieces.Goals as goal
 
 -- a piece was written, and the rest is left
 piece_written : (now new whole all piece rest : List ℕ) → all ≡ piece ++ rest → new ≡ now ++ flat_map quoted_byte piece → now ++ flat_map quoted_byte all ≡ whole → new ++ flat_map quoted_byte rest ≡ whole
