@@ -167,7 +167,8 @@ def compared_runs(words: argparse.Namespace, stack: ExitStack) -> int:
         leaves_out, order = frozenset() if words.extra == 'none' else ASKING, 'strict' if verdict == 'same' else words.order
         found = Orders(trial, *sides, Choices(order, masks, leaves_out, AROUND if words.html else None)).found()
     is_turned = found.same_under is not None
-    line = line_of(summing.IN_ANOTHER_ORDER if is_turned else verdict, summing.of_same(found, masks[0]) if is_turned else sizes[0], losses)
+    said = summing.IN_ANOTHER_ORDER if is_turned else 'differ in any order' if verdict != 'same' and words.order == 'any' else verdict
+    line = line_of(said, summing.of_same(found, masks[0]) if is_turned else sizes[0], losses)
     print(line, flush=True)
     report = Report(verdict, masks[0], (names[0], names[1]), (sizes[0], sizes[1]), (runs[0].missing, runs[1].missing), found.same_under)
     explain(words, inputs, line, report, found.compared, sides, [recorded_of(*one) for one in zip(runs, names) if words.html])
