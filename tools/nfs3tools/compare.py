@@ -118,7 +118,7 @@ def checked(program: str, taken: Taken, capture: str, name: str) -> Size:
 def run_of(trial: Trial, taken: Taken, capture: str, name: str) -> Run:
     def frames(message: Message) -> list[int]:
         place = Place(message.connection, 'client' if message.is_call else 'server', message.record)
-        return [frame.number for frame in taken.frames(place)]
+        return [frame.number for frame in taken.frames(place)] if taken.has_frames else []
     return Run(escaped(name), trial.listing(capture), frames)
 
 

@@ -43,7 +43,7 @@ class Orders:
         self.trial, self.choices = trial, choices
         leaves_out, masks = (frozenset[str](), choices.masks[:1]) if choices.order == 'strict' else (choices.leaves_out, choices.masks[-2:])
         self.pairing = trial.paired(masks, leaves_out)
-        self.is_in_place = self.pairing.is_in_place()
+        self.is_in_place = self.pairing.is_in_place
         self.captures = trial.captures if self.is_in_place else trial.in_one_order(self.pairing)
         self.explaining = Explaining(first, second, self.pairing, leaves_out)
 
@@ -64,7 +64,7 @@ class Orders:
     def explained(self, masked: Sequence[str], mask: Mask) -> Compared:
         """Finds what differs between the pairs, whose captures in one order are masked."""
         first, second = self.trial.canonical(masked)
-        listed = ListedInPlace(first, second, self.pairing.here) if self.is_in_place else Listed(first, second)
+        listed = ListedInPlace(first, second, mask, self.pairing.here) if self.is_in_place else Listed(first, second, mask)
         differing = listed.unequal()
-        return self.explaining.explained(differing, listed.turns_of_values(differing, mask), mask,
+        return self.explaining.explained(differing, listed.turns_of_values(differing), mask,
                                          self.choices.order == 'strict', self.choices.around)

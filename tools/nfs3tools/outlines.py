@@ -132,11 +132,12 @@ class Outlines:
         self.asked, self.said = array('q'), array('q')  # what a call asks, and what it and its replies say
         self.folders, self.found = array('I'), array('I')  # the first handle of a call and of its reply, or 0
         self.seconds: dict[int, int] = {}  # the second handle of a call
-        self.kinds, self.procedures = array('B'), list[str]()  # the procedure of a call, by its place in the list of them
+        self.kinds, self.procedures = array('B'), dict[str, int]()  # the procedure of a call, by its number among those that there are
         self.replies = array('I')  # the record of the first reply, or 0
         self.further: dict[int, list[int]] = {}  # the records of further replies
         self.objects, self.has_silly_names = Objects(), 'sillynames' in mask
         self.take(self.without_silly_names(lines), renamed_values(mask))
+        self.names = list(self.procedures)
         self.ask_of_objects(lambda at: when(*self.record_of(at)) if when else at)
 
     def __len__(self) -> int:
@@ -149,11 +150,11 @@ class Outlines:
         return (SILLY_NAME.sub('".nfs"', line) if '".nfs' in line else line for line in lines)
 
     def take(self, lines: Iterable[str], pattern: re.Pattern[str]) -> None:
-        waiting, named, start = Waiting(), array('q'), 0
+        waiting, named, start, connection = Waiting(), array('q'), 0, ''
         for line in lines:
             number, side, record, xid, rest = line.split(' ', 4)
-            if not self.connections or self.connections[-1] != int(number):
-                waiting, named, start = Waiting(), array('q'), len(self)
+            if number != connection:
+                waiting, named, start, connection = Waiting(), array('q'), len(self), number
                 self.connections.append(int(number))
                 self.starts.append(start)
             procedure, said = rest[:rest.find(' ')], hash(pattern.sub('', rest))
@@ -168,13 +169,11 @@ class Outlines:
                 self.learn(at, procedure, rest, named[at - start])
 
     def add_call(self, procedure: str, said: int, rest: str) -> None:
-        handles = [int(value, 16) for value in HANDLE.findall(rest)]
+        handles = HANDLE.findall(rest)
         if len(handles) > 1:
-            self.seconds[len(self)] = handles[1]
-        if procedure not in self.procedures:
-            self.procedures.append(procedure)
-        self.kinds.append(self.procedures.index(procedure))
-        self.folders.append(handles[0] if handles else 0)
+            self.seconds[len(self)] = int(handles[1], 16)
+        self.kinds.append(self.procedures.setdefault(procedure, len(self.procedures)))
+        self.folders.append(int(handles[0], 16) if handles else 0)
         self.found.append(0)
         self.replies.append(0)
         self.said.append(said)
@@ -216,7 +215,7 @@ class Outlines:
         self.identities = identities
 
     def procedure_of(self, at: int) -> str:
-        return self.procedures[self.kinds[at]]
+        return self.names[self.kinds[at]]
 
     def connection_of(self, at: int) -> int:
         """Returns the place of an exchange's connection among all."""

@@ -46,8 +46,9 @@ class Pairing:
     def pairs(self) -> Iterator[Pair]:
         return ((at, to) for at, to in enumerate(self.partners) if to != NOBODY)
 
+    @cached_property
     def is_in_place(self) -> bool:
-        """Returns whether each message stands in the same place in both runs."""
+        """Whether each message stands in the same place in both runs."""
         return self.partners == array('i', range(len(self.there))) and all(
             getattr(self.here, name) == getattr(self.there, name) for name in ('connections', 'starts', 'replies', 'further'))
 
@@ -75,6 +76,8 @@ class Pairing:
     @cached_property
     def elsewhere(self) -> list[Pair]:
         """The pairs whose connections do not belong together."""
+        if self.is_in_place:
+            return []
         places = ((self.here.exchanges_of(place), self.home_of(place)) for place in range(len(self.homes)))
         return [(at, self.partners[at]) for own, home in places for at in own
                 if self.partners[at] != NOBODY and self.partners[at] not in home]
@@ -82,6 +85,8 @@ class Pairing:
     @cached_property
     def moved(self) -> list[Pair]:
         """The pairs in connections that belong together whose calls come in another turn."""
+        if self.is_in_place:
+            return []
         out = list[Pair]()
         for place, own in enumerate(map(self.here.exchanges_of, range(len(self.homes)))):
             home = self.home_of(place)
@@ -92,6 +97,8 @@ class Pairing:
     @cached_property
     def late_replies(self) -> list[tuple[int, int, int]]:
         """The connections of the first run whose replies come in another order: how many of them, and of how many."""
+        if self.is_in_place:
+            return []
         turns = [(place, self.turns_of_replies(place)) for place in range(len(self.homes))]
         return [(self.here.connections[place], len(out_of_order(list(enumerate(some)))), len(some))
                 for place, some in turns if not is_in_order(some)]

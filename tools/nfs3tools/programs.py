@@ -1,5 +1,6 @@
 """Running the built programs, and tshark. Each is asked how it ended."""
 import contextlib
+import io
 import pathlib
 import shutil
 import signal
@@ -102,9 +103,10 @@ def lines_of_program(program: str, words: list[str]) -> typing.Iterator[str]:
     with tempfile.TemporaryFile() as error:
         with begun([program, *words], stdin=subprocess.DEVNULL, stdout=subprocess.PIPE, stderr=error) as process:
             assert process.stdout is not None
-            for line in process.stdout:
-                if line.endswith(b'\n'):
-                    yield line.decode('latin-1')
+            with io.TextIOWrapper(process.stdout, encoding='latin-1', newline='\n') as lines:
+                for line in lines:
+                    if line[-1] == '\n':
+                        yield line
         if process.returncode:
             raise died([program, *words], process.returncode, text_of(error))
 

@@ -16,8 +16,16 @@ class Listed:
     """Two captures in canonical form, in one order and one connection: call N of both has the xid N. A call may have any number of
     replies. The turns of exchanges are numbered from 0."""
 
-    def __init__(self, first: Listing, second: Listing) -> None:
+    def __init__(self, first: Listing, second: Listing, mask: Mask) -> None:
         self.first, self.second = first, second
+        self.classes, self.pattern = classes_of_items(mask), renamed_values(mask)
+        self.values, self.has_rest = set[tuple[str, str]](), False  # the renamed values of what differs in the first run, and raw bytes
+
+    def note(self, lines: Iterable[str]) -> None:
+        """Notes which renamed values lines have that differ."""
+        for line in lines:
+            self.has_rest |= ' rest=' in line
+            self.values.update((self.classes[name], value) for name, value in self.pattern.findall(line))
 
     def turn_of(self, line: str) -> int:
         begin = line.index(' xid=') + 5
@@ -38,28 +46,37 @@ class Listed:
         for one in ones:
             other = next(others, None)
             if one != other:
-                return of_messages(self.messages(chain([one], ones)), self.messages(chain([] if other is None else [other], others)))
-        return of_messages(iter(()), self.messages(others))
+                return self.of_messages(self.messages(chain([one], ones)), self.messages(chain([] if other is None else [other], others)))
+        return self.of_messages(iter(()), self.messages(others))
 
-    def turns_of_values(self, unequal: set[int], mask: Mask) -> set[int]:
+    def of_messages(self, ones: Iterator[Said], others: Iterator[Said]) -> set[int]:
+        """Returns the turns at which something else is said."""
+        out = set[int]()
+        (key, said), (other_key, other_said) = next(ones, END), next(others, END)
+        while (key, other_key) != (END[0], END[0]):
+            least = min(key, other_key)
+            if key != other_key or said != other_said:
+                out.add(least[1])
+                self.note(said if key == least else ())
+            if key == least:
+                key, said = next(ones, END)
+            if other_key == least:
+                other_key, other_said = next(others, END)
+        return out
+
+    def turns_of_values(self, unequal: set[int]) -> set[int]:
         """Returns the turns of exchanges that are equal, and are the first ones with what the unequal ones have: their handles, and
         other renamed values."""
-        classes, pattern = classes_of_items(mask), renamed_values(mask)
-        wanted, has_rest = set[tuple[str, str]](), False
-        for line in self.first() if unequal else ():
-            if self.turn_of(line) in unequal:
-                has_rest |= ' rest=' in line
-                wanted.update((classes[name], value) for name, value in pattern.findall(line))
         out, seen = set[int](), set[str]()
-        for line in self.first() if wanted or has_rest else ():
-            turn = self.turn_of(line)
-            for name, value in () if turn in unequal else pattern.findall(line):
-                # (raw bytes may have any handle)
-                if (classes[name], value) in wanted or has_rest and name == 'fh' and value not in seen:
-                    wanted.discard((classes[name], value))
-                    seen.add(value)
-                    out.add(turn)
-            if not wanted and not has_rest:
+        for line in self.first() if self.values or self.has_rest else ():
+            # (raw bytes may have any handle)
+            some = [(name, value) for name, value in self.pattern.findall(line)
+                    if (self.classes[name], value) in self.values or self.has_rest and name == 'fh' and value not in seen]
+            if some and self.turn_of(line) not in unequal:
+                out.add(self.turn_of(line))
+                self.values.difference_update((self.classes[name], value) for name, value in some)
+                seen.update(value for _, value in some)
+            if not self.values and not self.has_rest:
                 break
         return out
 
@@ -67,8 +84,8 @@ class Listed:
 class ListedInPlace(Listed):
     """Two captures in canonical form whose exchanges stand in the same places: the turns are the numbers of the exchanges."""
 
-    def __init__(self, first: Listing, second: Listing, outlines: Outlines) -> None:
-        super().__init__(first, second)
+    def __init__(self, first: Listing, second: Listing, mask: Mask, outlines: Outlines) -> None:
+        super().__init__(first, second, mask)
         self.outlines = outlines
         self.exchanges: dict[int, array[int]] = {}  # by connections: the exchange of each reply, by its record
 
@@ -82,20 +99,9 @@ class ListedInPlace(Listed):
         return self.exchanges[place][int(record)]
 
     def unequal(self) -> set[int]:
-        both = zip_longest(self.first(), self.second(), fillvalue='')
-        return {self.turn_of(one or other) for one, other in both if one != other}
-
-
-def of_messages(ones: Iterator[Said], others: Iterator[Said]) -> set[int]:
-    """Returns the turns at which something else is said."""
-    out = set[int]()
-    (key, said), (other_key, other_said) = next(ones, END), next(others, END)
-    while (key, other_key) != (END[0], END[0]):
-        least = min(key, other_key)
-        if key != other_key or said != other_said:
-            out.add(least[1])
-        if key == least:
-            key, said = next(ones, END)
-        if other_key == least:
-            other_key, other_said = next(others, END)
-    return out
+        out = set[int]()
+        for one, other in zip_longest(self.first(), self.second(), fillvalue=''):
+            if one != other:
+                out.add(self.turn_of(one or other))
+                self.note([one])
+        return out
