@@ -14,7 +14,6 @@ import sys
 import tempfile
 import time
 from array import array
-from collections import Counter
 from collections.abc import Callable
 
 from running import Runs, ended, try_all, words_of

@@ -9,10 +9,11 @@ how many calls were compared follows it. If bytes are missing from a recording, 
 is told.
 
 If the runs differ, calls are brought together over all connections and in any order. If nothing else than the order differs, they are
-`same in another order`: that is the word of `nfs3canon same` on both runs in the order of the first. File ids are zero then (and the class
-wcc, if that is not enough), and calls that only ask (GETATTR, LOOKUP ..) and that one run alone has are left out; all that is told. Otherwise each difference is printed as
-`diff` would: which call, which field and whose (`dir after.size`), both values, and the frames. Of values of over 60 characters it is
-the bytes round the first that differs. Messages of one procedure that differ in the same way are printed once, with their number.
+`same in another order`: that is the word of `nfs3canon same` on both runs in the order of the first. File ids are zero then (and the
+class wcc, if that is not enough), and calls that only ask (GETATTR, LOOKUP ..) and that one run alone has are left out; all that is
+told. Otherwise each difference is printed as `diff` would: which call, which field and whose (`dir after.size`), both values, and the
+frames. Of values of over 60 characters it is the bytes round the first that differs. Messages of one procedure that differ in the same
+way are printed once, with their number.
 
 --order strict tries no other order. With --order any the status of `same in another order` is 0. --extra none leaves out no calls.
 
@@ -30,7 +31,6 @@ import os
 import re
 import sys
 import tempfile
-from collections import Counter
 from contextlib import ExitStack
 from pathlib import Path
 
@@ -149,7 +149,7 @@ def compared_runs(words: argparse.Namespace, stack: ExitStack) -> int:
     program = program_path(words.program)
     names = [words.first, words.second]
     inputs = [file for name in names for file in files_of(name)]
-    for path in filter(None, (words.html, words.json)):
+    for path in [path for path in (words.html, words.json) if path]:
         check_output(path, inputs)
     with held():
         folder = Path(stack.enter_context(tempfile.TemporaryDirectory(prefix='nfs3canon')))
@@ -161,17 +161,17 @@ def compared_runs(words: argparse.Namespace, stack: ExitStack) -> int:
     masks = in_any_order(words.mask)
     print(f'masked: {told(masks[0])}', flush=True)
     verdict, losses = trial.same(trial.masked(trial.captures, masks[0])), losses_of(*runs)
-    sides = [run_of(trial, *one) for one in zip(runs, trial.captures, names)]
+    first, second = (run_of(trial, *one) for one in zip(runs, trial.captures, names))
     found = Found(Compared(exchanges=sizes[0].calls, calls=(sizes[0].calls, sizes[1].calls)))
     if verdict != 'same' or words.html:
         leaves_out, order = frozenset() if words.extra == 'none' else ASKING, 'strict' if verdict == 'same' else words.order
-        found = Orders(trial, *sides, Choices(order, masks, leaves_out, AROUND if words.html else None)).found()
+        found = Orders(trial, first, second, Choices(order, masks, leaves_out, AROUND if words.html else None)).found()
     is_turned = found.same_under is not None
     said = summing.IN_ANOTHER_ORDER if is_turned else 'differ in any order' if verdict != 'same' and words.order == 'any' else verdict
     line = line_of(said, summing.of_same(found, masks[0]) if is_turned else sizes[0], losses)
     print(line, flush=True)
     report = Report(verdict, masks[0], (names[0], names[1]), (sizes[0], sizes[1]), (runs[0].missing, runs[1].missing), found.same_under)
-    explain(words, inputs, line, report, found.compared, sides, [recorded_of(*one) for one in zip(runs, names) if words.html])
+    explain(words, inputs, line, report, found.compared, [first, second], [recorded_of(*one) for one in zip(runs, names) if words.html])
     is_same = verdict == 'same' or is_turned and words.order == 'any'
     return SAME if is_same and (words.allow_losses or not losses) else DIFFERENT
 

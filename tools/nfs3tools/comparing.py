@@ -59,7 +59,7 @@ class Compared:
     late: int = 0
     late_connections: int = 0
     lonely: tuple[int, int] = (0, 0)
-    left_out: tuple[Counter[str], Counter[str]] = field(default_factory=lambda: (Counter(), Counter()))
+    left_out: tuple[Counter[str], Counter[str]] = field(default_factory=lambda: (Counter[str](), Counter[str]()))
     beside: Beside = field(default_factory=Beside)
     mask: Mask = field(default_factory=dict)
 

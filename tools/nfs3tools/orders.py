@@ -5,7 +5,7 @@ from typing import Literal
 
 from .classes import Mask
 from .comparing import Compared, Explaining, Run
-from .pairing import ASKING, Pairing
+from .pairing import ASKING
 from .shown import Around
 from .trial import Trial
 from .unequal import Listed, ListedInPlace

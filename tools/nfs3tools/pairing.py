@@ -141,8 +141,9 @@ def together(here: Outlines, there: Outlines) -> list[int]:
         if homes[place] == NOBODY and other not in taken:
             homes[place] = other
             taken.add(other)
-    for begins in (Outlines.first_asked, Outlines.first_procedures):
-        waiting = defaultdict[tuple[int | str, ...], deque[int]](deque)
+    keys: tuple[Callable[[Outlines, int, int], Hashable], ...] = (Outlines.first_asked, Outlines.first_procedures)
+    for begins in keys:
+        waiting = defaultdict[Hashable, deque[int]](deque)
         for other in range(len(there.starts)):
             if other not in taken:
                 waiting[begins(there, other, FIRST_CALLS)].append(other)

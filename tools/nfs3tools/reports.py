@@ -72,7 +72,7 @@ def of_finding(finding: Finding, first: Framing, second: Framing) -> dict[str, A
 
 
 def of_message(message: Message | None, framing: Framing) -> dict[str, Any] | None:
-    return message and {'place': message.place, 'frames': list(framing(message))}
+    return None if message is None else {'place': message.place, 'frames': list(framing(message))}
 
 
 def of_difference(difference: Difference) -> dict[str, Any]:
