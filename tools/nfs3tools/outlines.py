@@ -17,8 +17,6 @@ HANDLE = re.compile(r' fh=([0-9a-f]{1,8})(?=\s)')
 NAME = re.compile(r' (?:name|dirpath)="([^"]*)"')
 NAME_OR_HANDLE = re.compile(r' name="([^"]*)"| fh=([0-9a-f]{1,8})(?=\s)')
 ALIKE = re.compile(r' (?:prog|vers|proc|name|dirpath|offset)=("[^"]*"|\S+)')
-# A name that Linux's client gives to a removed file that is open. In another order it has another number.
-SILLY_NAME = re.compile(r'"\.nfs[0-9a-f]{24}"')
 MOUNT, LISTING = 'MOUNTPROC3_MNT', 'NFSPROC3_READDIRPLUS'
 DOTS = hash('.'), hash('..')  # the folder itself, and the one above it
 UNKNOWN, SEEN, MADE = range(3)  # how well it is known where an object is
@@ -135,19 +133,13 @@ class Outlines:
         self.kinds, self.procedures = array('B'), dict[str, int]()  # the procedure of a call, by its number among those that there are
         self.replies = array('I')  # the record of the first reply, or 0
         self.further: dict[int, list[int]] = {}  # the records of further replies
-        self.objects, self.has_silly_names = Objects(), 'sillynames' in mask
-        self.take(self.without_silly_names(lines), renamed_values(mask))
+        self.objects = Objects()
+        self.take(lines, renamed_values(mask))
         self.names = list(self.procedures)
         self.ask_of_objects(lambda at: when(*self.record_of(at)) if when else at)
 
     def __len__(self) -> int:
         return len(self.asked)
-
-    def without_silly_names(self, lines: Iterable[str]) -> Iterable[str]:
-        """Returns lines in which all names of removed files are the same, if they are masked."""
-        if not self.has_silly_names:
-            return lines
-        return (SILLY_NAME.sub('".nfs"', line) if '".nfs' in line else line for line in lines)
 
     def take(self, lines: Iterable[str], pattern: re.Pattern[str]) -> None:
         waiting, named, start, connection = Waiting(), array('q'), 0, ''
@@ -266,7 +258,7 @@ class Outlines:
         """Returns of some exchanges what alike calls have in common: procedure, objects, names and offset. The lines are those of
         the listing."""
         return {at: (self.procedure_of(at), tuple(ALIKE.findall(line)), *map(self.identities.__getitem__, self.objects_of(at)))
-                for at, line in self.calls_of(self.without_silly_names(lines)) if at in wanted}
+                for at, line in self.calls_of(lines) if at in wanted}
 
     def calls_of(self, lines: Iterable[str]) -> Iterator[tuple[int, str]]:
         """Returns the exchanges with the lines of their calls."""
@@ -276,7 +268,7 @@ class Outlines:
         """Returns what is said in some exchanges, by the listing under another mask."""
         out, pattern = {at: [self.asked[at], self.identities[self.found[at]]] for at in wanted}, renamed_values(mask)
         place, replies = -1, array('I')
-        for line in self.without_silly_names(lines):
+        for line in lines:
             number, side, record, _, rest = line.split(' ', 4)
             if place < 0 or self.connections[place] != int(number):
                 place = self.place_of(int(number))
