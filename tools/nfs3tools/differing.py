@@ -71,12 +71,6 @@ class Comparison:
         owner = self.class_of(side.items[at].name, side.is_call)
         return owner if owner is not None and is_of(owner, side, at) else None
 
-    def key_of(self, item: Item, is_call: bool) -> tuple[str, str]:
-        """Returns what two runs have in common of an item of a call."""
-        owner = self.class_of(item.name, is_call)
-        is_masked = owner is not None and owner.has_value(item.value) or self.is_length_of_a_machine(item)
-        return item.name, '' if is_masked or item.name in RENAMED else item.value
-
     def is_length_of_a_machine(self, item: Item) -> bool:
         """A machine's name has a length, which is left out with it."""
         return item.name == 'cred_length' and 'machines' in self.mask
