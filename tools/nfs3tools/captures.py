@@ -25,6 +25,7 @@ class Streamed(typing.Protocol):
 
 
 Pair = tuple[Streamed, Streamed]
+Streams = tuple[Stored | None, Stored | None]  # of the client and of the server; None is not stored
 
 
 def word(number: int) -> bytes:
@@ -44,11 +45,10 @@ class Container:
 
         Raises `BadCapture`, after the connections that are whole.
         """
-        sides = self.sides()
+        take = self.pair_of_version()
         while (mark := self.word()) == 1:
             streams = Stored(self.spool), Stored(self.spool)
-            for side in sides():
-                self.chunk(streams[side])
+            take(streams)
             yield streams
         if mark or self.source.peek(1):
             raise BadCapture
@@ -58,34 +58,32 @@ class Container:
         are not stored."""
         streams, begun = (Stored(self.spool), Stored(self.spool)), 0
         with contextlib.suppress(BadCapture, Damaged):
-            sides = self.sides()
+            take = self.pair_of_version()
             while begun < number and self.word() == 1:
                 begun += 1
-                for side in sides():
-                    self.chunk(streams[side] if begun == number else None)
+                take(streams if begun == number else (None, None))
         return streams if 0 < begun == number else None
 
-    def sides(self) -> typing.Callable[[], typing.Iterator[int]]:
-        return self.sides_of_version_1 if self.source.take(8) == MAGICS[0] else self.sides_of_version_2
+    def pair_of_version(self) -> typing.Callable[[Streams], None]:
+        """Returns what takes both streams of a connection in the version of this capture."""
+        return self.pair_of_version_1 if self.source.take(8) == MAGICS[0] else self.pair_of_version_2
 
-    def sides_of_version_1(self) -> typing.Iterator[int]:
-        """Iterates over the side of each chunk, which is to be taken before the next step."""
-        for side in range(2):
-            while self.source.peek(4) != word(0):
-                yield side
-            self.source.take(4)
+    def pair_of_version_1(self, streams: Streams) -> None:
+        for stored in streams:
+            while size := self.word():
+                self.payload(size, stored)
 
-    def sides_of_version_2(self) -> typing.Iterator[int]:
+    def pair_of_version_2(self, streams: Streams) -> None:
         while side := self.word():
             if side > 2:
                 raise BadCapture
-            yield side - 1
+            size = self.word()
+            if not size:
+                raise BadCapture
+            self.payload(size, streams[side - 1])
 
-    def chunk(self, stored: Stored | None) -> None:
-        """Takes a chunk, and appends it if it is to be stored."""
-        left = self.word()
-        if not left:
-            raise BadCapture
+    def payload(self, left: int, stored: Stored | None) -> None:
+        """Takes the bytes of a chunk, and appends them if they are to be stored."""
         while left:
             piece = self.source.take(min(left, READ_AT_ONCE))
             if not piece:

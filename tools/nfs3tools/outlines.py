@@ -142,28 +142,28 @@ class Outlines:
         return len(self.asked)
 
     def take(self, lines: Iterable[str], pattern: re.Pattern[str]) -> None:
-        waiting, named, start, connection = Waiting(), array('q'), 0, ''
+        waiting, named, start, connection, at = Waiting(), array('q'), 0, '', 0
         for line in lines:
             number, side, record, xid, rest = line.split(' ', 4)
             if number != connection:
-                waiting, named, start, connection = Waiting(), array('q'), len(self), number
+                waiting, named, start, connection = Waiting(), array('q'), at, number
                 self.connections.append(int(number))
                 self.starts.append(start)
             procedure, said = rest[:rest.find(' ')], hash(pattern.sub('', rest))
             if side == 'client':
-                waiting.add(int(xid[4:]), len(self))
+                waiting.add(int(xid[4:]), at)
                 name = NAME.search(rest) if procedure in MAKING or procedure == MOUNT else None
                 named.append(hash(name[1]) if name else 0)
-                self.add_call(procedure, said, rest)
+                self.add_call(at, procedure, said, HANDLE.findall(rest))
+                at += 1
             else:
-                at = waiting.answered(int(xid[4:]))
-                self.add_reply(at, int(record), said)
-                self.learn(at, procedure, rest, named[at - start])
+                call = waiting.answered(int(xid[4:]))
+                self.add_reply(call, int(record), said)
+                self.learn(call, procedure, rest, named[call - start])
 
-    def add_call(self, procedure: str, said: int, rest: str) -> None:
-        handles = HANDLE.findall(rest)
+    def add_call(self, at: int, procedure: str, said: int, handles: list[str]) -> None:
         if len(handles) > 1:
-            self.seconds[len(self)] = int(handles[1], 16)
+            self.seconds[at] = int(handles[1], 16)
         self.kinds.append(self.procedures.setdefault(procedure, len(self.procedures)))
         self.folders.append(int(handles[0], 16) if handles else 0)
         self.found.append(0)
@@ -197,13 +197,12 @@ class Outlines:
     def ask_of_objects(self, when: Callable[[int], int]) -> None:
         """Handles have another number in each run. So what a call asks has the objects in their place."""
         identities = self.objects.identities(when)
-        of = identities.__getitem__
         identities.extend([0] * (1 + max(max(self.folders, default=0), max(self.seconds.values(), default=0),
                                          max(self.found, default=0)) - len(identities)))
         for at, (asked, said, folder, found) in enumerate(zip(self.asked, self.said, self.folders, self.found)):
-            second = self.seconds.get(at, 0)
-            self.asked[at] = asked = hash((asked, of(folder), of(second) if second else 0))
-            self.said[at] = hash((said, asked, of(found)))
+            second = identities[self.seconds[at]] if at in self.seconds else 0
+            self.asked[at] = asked = hash((asked, identities[folder], second))
+            self.said[at] = hash((said, asked, identities[found]))
         self.identities = identities
 
     def procedure_of(self, at: int) -> str:

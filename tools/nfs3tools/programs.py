@@ -104,9 +104,10 @@ def lines_of_program(program: str, words: list[str]) -> typing.Iterator[str]:
         with begun([program, *words], stdin=subprocess.DEVNULL, stdout=subprocess.PIPE, stderr=error) as process:
             assert process.stdout is not None
             with io.TextIOWrapper(process.stdout, encoding='latin-1', newline='\n') as lines:
-                for line in lines:
-                    if line[-1] == '\n':
-                        yield line
+                while some := lines.readlines(PIPE_SIZE):
+                    if some[-1][-1] != '\n':
+                        some.pop()
+                    yield from some
         if process.returncode:
             raise died([program, *words], process.returncode, text_of(error))
 
