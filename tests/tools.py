@@ -16,6 +16,7 @@ import sys
 from collections.abc import Iterator, Sequence
 from typing import NamedTuple
 
+import call_trees
 import crate_pages
 import pages
 from captures import SMALL, capture_in, rows_of
@@ -299,6 +300,19 @@ def tables_are_whole(tools: Tools) -> None:
     tools.want('tables', pages.broken_tables(), [])
 
 
+def trees_are_of_the_code(tools: Tools) -> None:
+    """Each function in a call tree of docs/ARCHITECTURE.md is in its file, and calls those below it."""
+    page = (TOP / 'docs/ARCHITECTURE.md').read_text()
+    tools.want('trees', len(list(call_trees.trees(page))), 2)
+    tools.want('calls', call_trees.calls_not_there(page), [])
+    planted = (('Entries::finish', 'Entries::failure', ['Entries::turn does not call Entries::failure',
+                                                        'Entries::failure does not call EntryParser::end']),
+               ('Position::take_mark                      capture3/src/container/position.rt', 'Position::take_mark',
+                ['Position::take_mark is not in capture3/src/container.rt']))
+    for old, new, wrong in planted:
+        tools.want(f'{new} for {old}', call_trees.calls_not_there(page.replace(old, new, 1)), wrong)
+
+
 def what_is_not_proved(tools: Tools) -> None:
     """Each row that a table of docs/PROOFS.md marks N is in its list of what is not proved."""
     crates, _, rest = (TOP / 'docs/PROOFS.md').read_text().partition('## Not proved and not tested')
@@ -339,8 +353,8 @@ def pages_of_the_crates(tools: Tools) -> None:
 STRINGS = ('name', 'path', 'machinename', 'dirpath', 'hostname', 'directory')
 TESTS = [explained, explained_as_documented, layouts_agree_with_the_listing, commands_of_the_readme,
          lines_for_many_captures, examples_are_used, answers_of_the_examples, examples_are_made_alike, pages_agree, pages_of_the_tools,
-         what_is_believed, rooms_stand_apart, pages_are_plain, tables_are_whole, what_is_not_proved, bugs_are_counted, clauses_of_each_function,
-         pages_of_the_crates]
+         what_is_believed, rooms_stand_apart, pages_are_plain, tables_are_whole, trees_are_of_the_code, what_is_not_proved, bugs_are_counted,
+         clauses_of_each_function, pages_of_the_crates]
 
 
 def main() -> None:
