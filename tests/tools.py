@@ -153,7 +153,7 @@ def is_printed(wanted: list[str], printed: list[str]) -> bool:
 def commands_of_the_readme(tools: Tools) -> None:
     """Each is run, in order, and prints what stands below it. The status is told by what is printed."""
     commands = console_of(README)
-    tools.want('commands', len(commands), 16)
+    tools.want('commands', len(commands), 12)
     for command, wanted in commands:
         here = {'/tmp/': tools.folder + '/', './nfs3canon': tools.program, './nfs3mask': program_named('nfs3mask', tools.program)}
         words = command
