@@ -6,17 +6,15 @@
 PROGRAM is crates/nfs3canon/out/nfs3canon if none is named. The last line is 'N passed, M failed', and the status is 1 if any
 failed.
 """
-import os
 import pathlib
 import random
 import re
 import sys
-import tempfile
 import time
 from array import array
 from collections.abc import Callable
 
-from running import Runs, ended, try_all, words_of
+from running import Runs, ended, try_tests
 from traffic import Names, Traffic
 
 TOP = pathlib.Path(__file__).resolve().parent.parent
@@ -512,16 +510,5 @@ TESTS: list[Callable[[Comparisons], None]] = [
     raw_messages, connections_of_one_run, random_traffic, one_bit_of_many_calls, example_recordings, same_in_part, refused_runs]
 
 
-def tried(program: str, test: Callable[[Comparisons], None]) -> list[str]:
-    with tempfile.TemporaryDirectory(prefix='nfs3canon') as folder:
-        place = Comparisons(program, folder)
-        test(place)
-        return place.wrong
-
-
-def main() -> None:
-    try_all(words_of(__doc__), [(test.__name__, tried, test) for test in TESTS], os.cpu_count())
-
-
 if __name__ == '__main__':
-    main()
+    try_tests(__doc__, Comparisons, TESTS)

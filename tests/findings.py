@@ -8,15 +8,13 @@ PROGRAM is crates/nfs3canon/out/nfs3canon if none is named. What is expected is 
 is 'N passed, M failed', and the status is 1 if any failed.
 """
 import json
-import os
 import random
 import re
-import tempfile
 from collections.abc import Callable, Sequence
 from typing import Any
 
 from compare import CHANGED, FIRST, Comparisons
-from running import try_all, words_of
+from running import try_tests
 from traffic import Names, Traffic
 import messages
 from messages import (
@@ -601,16 +599,5 @@ TESTS: list[Callable[[Findings], None]] = [
     json_is_an_output]
 
 
-def tried(program: str, test: Callable[[Findings], None]) -> list[str]:
-    with tempfile.TemporaryDirectory(prefix='nfs3canon') as folder:
-        place = Findings(program, folder)
-        test(place)
-        return place.wrong
-
-
-def main() -> None:
-    try_all(words_of(__doc__), [(test.__name__, tried, test) for test in TESTS], os.cpu_count())
-
-
 if __name__ == '__main__':
-    main()
+    try_tests(__doc__, Findings, TESTS)

@@ -12,10 +12,9 @@ import pathlib
 import re
 import shutil
 import tarfile
-import tempfile
 from collections.abc import Callable
 
-from running import Answer, Runs, ended, try_all, words_of
+from running import Answer, Runs, ended, try_tests
 
 TOP = pathlib.Path(__file__).resolve().parent.parent
 TOOLS = ('from-pcap', 'where', 'verdicts', 'compare', 'explain')
@@ -182,17 +181,5 @@ TESTS: list[Callable[[Place], None]] = [under_a_prefix, where_nothing_can_be_wri
                                         removed_from_elsewhere, as_a_release, version_of_the_launcher]
 
 
-def tried(program: str, test: Callable[[Place], None]) -> list[str]:
-    """What is wrong in a test, which has a folder of its own."""
-    with tempfile.TemporaryDirectory(prefix='nfs3canon') as folder:
-        place = Place(program, folder)
-        test(place)
-        return place.wrong
-
-
-def main() -> None:
-    try_all(words_of(__doc__), [(test.__name__, tried, test) for test in TESTS], os.cpu_count())
-
-
 if __name__ == '__main__':
-    main()
+    try_tests(__doc__, Place, TESTS)

@@ -6,18 +6,16 @@
 PROGRAM is crates/nfs3canon/out/nfs3canon if none is named. The last line is 'N passed, M failed', and the status is 1 if any
 failed.
 """
-import os
 import pathlib
 import random
 import sys
-import tempfile
 from array import array
 from collections import Counter
 from collections.abc import Callable, Iterator, Sequence
 from dataclasses import dataclass, field
 
 from compare import MEASURED, TOP, Comparisons, Conversation
-from running import ended, try_all, words_of
+from running import ended, try_tests
 from traffic import Names, Traffic
 
 sys.path[:0] = [str(TOP / 'tools'), str(TOP / 'examples')]
@@ -473,16 +471,5 @@ TESTS: list[Callable[[Comparisons], None]] = [
     many_in_another_order]
 
 
-def tried(program: str, test: Callable[[Comparisons], None]) -> list[str]:
-    with tempfile.TemporaryDirectory(prefix='nfs3canon') as folder:
-        place = Comparisons(program, folder)
-        test(place)
-        return place.wrong
-
-
-def main() -> None:
-    try_all(words_of(__doc__), [(test.__name__, tried, test) for test in TESTS], os.cpu_count())
-
-
 if __name__ == '__main__':
-    main()
+    try_tests(__doc__, Comparisons, TESTS)

@@ -6,7 +6,6 @@
 PROGRAM is crates/nfs3canon/out/nfs3canon if none is named. What needs Chromium is skipped, with a word, if it is not installed. The last
 line is 'N passed, M failed', and the status is 1 if any failed.
 """
-import json
 import os
 import re
 import struct

@@ -9,8 +9,9 @@ import os
 import pathlib
 import subprocess
 import sys
+import tempfile
 from collections.abc import Callable, Iterable, Mapping, Sequence
-from typing import IO, NamedTuple, TypedDict, Unpack
+from typing import IO, NamedTuple, TypedDict, TypeVar, Unpack
 
 BUILT = pathlib.Path(__file__).resolve().parent.parent / 'crates/nfs3canon/out/nfs3canon'
 LIMIT = 60  # the seconds that a run may take if nothing else is said
@@ -165,6 +166,23 @@ def words_of(text: str | None, built: str | pathlib.Path = BUILT) -> Words:
 
 
 # --- Tries ---
+
+R = TypeVar('R', bound=Runs)
+
+
+def tried(program: str, make: Callable[[str, str], R], test: Callable[[R], object]) -> list[str]:
+    """What is wrong in a test, which has a folder of its own."""
+    with tempfile.TemporaryDirectory(prefix='nfs3canon') as folder:
+        place = make(program, folder)
+        test(place)
+        return place.wrong
+
+
+def try_tests(doc: str | None, make: Callable[[str, str], R], tests: Iterable[Callable[[R], object]],
+              make_pool: Callable[[int | None], concurrent.futures.Executor] = concurrent.futures.ThreadPoolExecutor) -> None:
+    """Tries tests, each with runs in a folder of its own, as many at once as there are processors."""
+    try_all(words_of(doc), [(test.__name__, tried, make, test) for test in tests], os.cpu_count(), make_pool)
+
 
 def one(program: str, it: Try) -> list[str]:
     """What is wrong with one try."""

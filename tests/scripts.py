@@ -3,11 +3,10 @@ import io
 import os
 import pathlib
 import sys
-import tempfile
 import typing
 
 from containers import in_one
-from running import Answer, RunOptions, Runs, ended
+from running import Answer, RunOptions, Runs, ended, tried as tried_in
 
 TOP = pathlib.Path(__file__).resolve().parent.parent
 sys.path[:0] = [str(TOP / 'tools'), str(TOP / 'examples')]
@@ -104,7 +103,4 @@ class Tools(Runs):
 
 def tried(program: str, test: typing.Callable[[Tools], None]) -> list[str]:
     """What is wrong in a test, which has a folder of its own."""
-    with tempfile.TemporaryDirectory(prefix='nfs3canon') as folder:
-        tools = Tools(program, folder)
-        test(tools)
-        return tools.wrong
+    return tried_in(program, Tools, test)
