@@ -443,6 +443,19 @@ def folders_that_no_path_names(place: Place) -> None:
         place.want('files', sorted(os.listdir(folder)), ['a', 'link', 'out'])
 
 
+def chains_of_links(place: Place) -> None:
+    """Linux follows 40 links: the file behind so many is replaced, and each link stays. A longer chain is no output."""
+    place.write('a', GOOD)
+    place.write('l41', b'before')
+    for number in range(41):
+        os.symlink(f'l{number + 1}', place.path(f'l{number}'))
+    place.want('41 links', place.run('canon', 'a', 'l0'), (3, '', 'open failed: l0\n'))
+    place.want('what is left', place.read('l41'), b'before')
+    place.want('40 links', place.run('canon', 'a', 'l1'), (0, GOOD_LINE, ''))
+    place.want('what is there', place.read('l41'), GOOD)
+    place.want('links', [number for number in range(41) if not os.path.islink(place.path(f'l{number}'))], [])
+
+
 def as_nobody(place: Place) -> Callable[..., Answer] | None:
     """How somebody whom modes bind runs a copy of the program; nothing if the tests do not run as root."""
     if os.geteuid() != 0:
@@ -750,15 +763,17 @@ def handles_before(end: bytes) -> Callable[[int], Streams]:
     return make
 
 
-def handles_chosen_against_a_known_word(place: Place) -> None:
-    """Under a word that is known, as the one of the hasher that an `IndexMap` has if none is named, all of these handles have the
-    hash 0: the second factor of the product is 0. The program's words are random, so they cost what others do."""
-    place.write('whole', version_1(handles_before(KNOWN_WORD.to_bytes(8, 'little'))(1_000_000)))
+def handles_chosen_against_known_words(place: Place) -> None:
+    """Under a word that is known, all of these handles have one hash: the second factor of the product is 0. That is so of the word of the
+    hasher that an `IndexMap` has if none is named, and of 0, which a system that gives no random bytes would leave. The program's words
+    are random, so these handles cost what others do."""
     place.write('half', version_1(handles_before(hyper(0x0123456789abcdef))(1_000_000)))
-    for command, *more in (('check',), ('canon', '/dev/null'), ('show',)):
-        found = ratio(place, command, *more)
-        if found > MOST_RATIO:
-            place.wrong.append('%s takes %.1f times as long for chosen handles' % (command, found))
+    for word_of_hasher in (KNOWN_WORD, 0):
+        place.write('whole', version_1(handles_before(word_of_hasher.to_bytes(8, 'little'))(1_000_000)))
+        for command, *more in (('check',), ('canon', '/dev/null'), ('show',)):
+            found = ratio(place, command, *more)
+            if found > MOST_RATIO:
+                place.wrong.append(f'{command} takes {found:.1f} times as long for handles chosen against {word_of_hasher:x}')
 
 
 def empty_fragments(count: int) -> Streams:
@@ -899,7 +914,7 @@ TESTS: list[Test] = [
     after_a_large_connection(1_000_000, 0), after_a_large_connection(1_000_000, 1),
     after_a_large_connection(1_000_000, 1, connection_2, MAGIC_2), after_a_large_connection(2_000_000, 0, commands=('canon',)),
     after_a_large_connection(1_000_000, 5, connection_in_no_order),
-    handles_chosen_against_a_known_word,
+    handles_chosen_against_known_words,
     linear(xids, 1_000_000), linear(handles, 1_000_000), linear(empty_fragments, 2_000_000), linear(single_bytes, 2_000_000),
     linear_in_version_2(in_turns, 500_000), linear_in_version_2(bytes_in_turns, 2_000_000),
     memory_that_is_refused, memory_that_is_refused_to_version_2, memory_of_one_connection, streams_without_an_end,
@@ -907,7 +922,7 @@ TESTS: list[Test] = [
     standard_error_that_nobody_reads, standard_files_that_are_closed, signals_in_the_middle,
     names_that_are_taken_in_the_middle, files_that_get_the_name_in_the_middle, runs_at_once, pipes_that_do_not_wait,
     names_of_the_most_bytes, folders_that_no_path_names,
-    outputs_that_are_refused_before_the_work, rights_on_an_output, rights_that_cannot_be_given_back,
+    chains_of_links, outputs_that_are_refused_before_the_work, rights_on_an_output, rights_that_cannot_be_given_back,
     standard_output_without_its_name, removed_files_by_their_numbers, files_of_two_devices_with_one_number,
     outputs_on_which_something_is_mounted, many_streams_and_few_open_files, inputs_that_never_end, fifos,
     reads_cut_at_each_length,
