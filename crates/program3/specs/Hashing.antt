@@ -1,5 +1,5 @@
 -- What a `SecretHasher` computes.
-use Rattle.std.specs.Prelude.{ℕ, zero, suc, ◌+◌, ◌-◌, ◌*◌, ◌/◌, ◌%◌, ◌^◌, List, length, if◌then◌else◌, nat_le, nat_lt, slice_index, bit_and, bit_or, bit_xor}
+use Rattle.std.specs.Prelude.{ℕ, zero, suc, ◌==◌, ◌+◌, ◌-◌, ◌*◌, ◌/◌, ◌%◌, ◌^◌, List, length, if◌then◌else◌, nat_le, nat_lt, slice_index, bit_and, bit_or, bit_xor}
 use Rattle.program3.specs.declared.hashing.SecretHasher.{SecretHasher}
 
 -- the two halves of the 128 bits of a * b, joined by xor
@@ -23,9 +23,10 @@ read_u64 bs i = bit_or (read_u32 bs i) (shl (read_u32 bs (i + 4)) 32)
 unfoldable pub read_short : List ℕ → ℕ
 read_short bs =
     let n = length bs in
-    if nat_le 4 n then bit_or (read_u32 bs 0) (shl (read_u32 bs (n - 4)) 32)
+    if nat_lt 4 n then bit_or (read_u32 bs 0) (shl (read_u32 bs (n - 4)) 32)
+    else (if n == 4 then read_u32 bs 0
     else (if nat_lt 0 n then bit_or (bit_or (slice_index bs 0) (shl (slice_index bs (n / 2)) 8))
-    (shl (slice_index bs (n - 1)) 16) else 0)
+    (shl (slice_index bs (n - 1)) 16) else 0))
 
 -- the state after the words at i and at j
 abbrev pub mix : List ℕ → ℕ → ℕ → ℕ → ℕ → ℕ
@@ -46,3 +47,7 @@ write h bs =
     let long = mix bs h.secret (mix_blocks bs h.secret ((h.state + n) % 2 ^ 64) ((n - 1) / 16))
     (n - 16) (n - 8) in
     record { state = if nat_le n 8 then short else long; secret = h.secret }
+
+-- the hash of what was written: the state, multiplied once more by a known word
+unfoldable pub finish : SecretHasher → ℕ
+finish h = folded_multiply h.state 0x9E3779B97F4A7C15

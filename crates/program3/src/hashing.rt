@@ -8,9 +8,15 @@ use std::hash::{BuildHasher, Hasher};
 use std::io;
 use std::random::RandomSource;
 
+/// 2^64 by the golden ratio, to the next odd number.
+const SPREAD: u64 = 0x9E37_79B9_7F4A_7C15;
+
 /// A hasher, and the builder of itself. It multiplies 16 bytes at a time to 128 bits, and joins the halves
 /// by xor. Each factor contains a secret word, so who writes a capture cannot choose keys that collide.
 /// It is no cryptographic hash: who learns the words can.
+///
+/// The result is multiplied once more, by a known word. Without that, keys that count up meet in the bits
+/// that a table uses if a secret word has a bad form, as one with many low bits of 0.
 #[derive(Clone, Copy)]
 pub struct SecretHasher {
     state: u64,
@@ -90,8 +96,10 @@ fn read_short(bytes: &[u8]) -> u64
     ensures { result ≡ hashing.read_short bytes.now }
 {
     let len = bytes.len();
-    if len >= 4 {
+    if len > 4 {
         read_u32(bytes, 0) | read_u32(bytes, len - 4) << 32
+    } else if len == 4 {
+        read_u32(bytes, 0)
     } else if len > 0 {
         bytes[0] as u64 | (bytes[len / 2] as u64) << 8 | (bytes[len - 1] as u64) << 16
     } else {
@@ -102,11 +110,11 @@ fn read_short(bytes: &[u8]) -> u64
 impl Hasher for SecretHasher {
     ghost write = { hashing.write };
 
-    ghost finish = { λ s. s.state };
+    ghost finish = { hashing.finish };
 
     #[inline(always)]
     fn finish(&self) -> u64 {
-        self.state
+        folded_multiply(self.state, SPREAD)
     }
 
     #[inline(always)]

@@ -1,6 +1,7 @@
 //! Which file a name or an open file leads to.
 
-ghost use Rattle.std.specs.Prelude.{◌≡◌, ◌≢◌, IfErr, IfOk, None, Ok, Err, Some};
+ghost use Rattle.std.specs.Prelude.{◌≡◌, ◌≢◌, IfErr, IfOk, IsTrue, None, Ok, Err, Some};
+ghost use Rattle.std.specs.Fs.{file_type, IsFile};
 ghost use Rattle.std.specs.IoError.{error_kind};
 
 use std::fs::Metadata;
@@ -44,7 +45,9 @@ impl FileId {
     }
 
     /// Whether this is the regular file of which the system says `data`.
-    pub fn is_regular(self, data: &Metadata) -> bool {
+    pub fn is_regular(self, data: &Metadata) -> bool
+        ensures { IsTrue result → IsFile (file_type data.now) }
+    {
         data.is_file() && self == FileId::of(data)
     }
 }

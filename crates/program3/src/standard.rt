@@ -2,7 +2,7 @@
 
 ghost use Rattle.std.specs.Prelude.{◌≡◌, ◌≢◌, IfErr, IfOk, None, Ok, Err, Some, pos};
 ghost use Rattle.std.specs.IoError.{raw_os_error};
-ghost use Rattle.program3.specs.Standard.{bad_number, is_known_as, may_be};
+ghost use Rattle.program3.specs.Standard.{bad_number, is_known_as, known_id, may_be};
 
 use crate::identity::{FileId, if_there};
 use std::io::ErrorKind;
@@ -58,7 +58,9 @@ impl StandardOutput {
     }
 
     /// Which file it is, if that is known.
-    pub fn id(self) -> Option<FileId> {
+    pub fn id(self) -> Option<FileId>
+        ensures { result ≡ known_id self }
+    {
         match self {
             StandardOutput::Open(id) => Some(id),
             StandardOutput::Closed | StandardOutput::Unknown => None,

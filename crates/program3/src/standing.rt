@@ -1,8 +1,9 @@
 //! The regular file that has the name of an output.
 
-ghost use Rattle.std.specs.Prelude.{◌≡◌, ◌≢◌, ◌↔◌, IfOk, IfSome, IsTrue, bit_and};
+ghost use Rattle.std.specs.Prelude.{◌≡◌, ◌≢◌, ◌↔◌, IfOk, IfSome, IsTrue, bit_and, false};
 ghost use Rattle.std.specs.Fs.{file_type, metadata_mode, IsFile};
 ghost use Rattle.capture3.specs.Capture.{magic_front};
+ghost use Rattle.program3.specs.Standard.{is_among_files};
 
 use crate::identity::FileId;
 use crate::opening::OpenError;
@@ -38,7 +39,9 @@ impl Standing {
         rt: &HostRuntime,
         name: &str,
         spared: &[FileId],
-    ) -> Result<(String, Standing), OpenError> {
+    ) -> Result<(String, Standing), OpenError>
+        ensures spared { IfOk result (λ found. is_among_files spared.now found.1.id ≡ false) }
+    {
         for _ in 0..MOST_LOOKS {
             let data = fs::metadata(rt, name)?;
             let id = FileId::of(&data);
@@ -71,7 +74,9 @@ impl Standing {
     /// # Errors
     ///
     /// That of the system, or `AlreadyExists` if it is anything else.
-    pub fn again(rt: &HostRuntime, path: &str, spared: &[FileId]) -> io::Result<Standing> {
+    pub fn again(rt: &HostRuntime, path: &str, spared: &[FileId]) -> io::Result<Standing>
+        ensures spared { IfOk result (λ standing. is_among_files spared.now standing.id ≡ false) }
+    {
         if !may_be_replaced(&fs::symlink_metadata(rt, path)?) {
             return Err(io::Error::from(ErrorKind::AlreadyExists));
         }

@@ -1,7 +1,9 @@
-//! Tests of the command line, and of what is printed.
+//! Tests of the command line, of what is printed, and of how hashes spread.
 #![tactic(auto)]
 
 #[cfg(test)]
 mod lines;
 #[cfg(test)]
 mod reports;
+#[cfg(test)]
+mod spread;
