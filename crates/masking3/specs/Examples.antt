@@ -163,6 +163,63 @@ MasksWcc =
     masked numbered_wcc (lookup_reply 7 1 5 3 4096 ∷ setattr_reply 8 9 1 5 ∷ [])
     ≡ lookup_reply 7 1 5 1 2 ∷ setattr_reply 8 3 4 5 ∷ []
 
+-- RENAME (RFC 1813, section 3.3.14) within one directory
+abbrev pub rename : (xid : ℕ) → (from to : List ℕ) → Entry
+rename xid from to =
+    call_of 100003 14 xid (Opaque Handle (codes "fh") (1 ∷ []) ∷ Opaque Text (codes "name") from
+    ∷ Opaque Handle (codes "fh") (1 ∷ []) ∷ Opaque Text (codes "name") to ∷ [])
+
+-- REMOVE (RFC 1813, section 3.3.12)
+abbrev pub remove : (xid : ℕ) → (name : List ℕ) → Entry
+remove xid name =
+    call_of 100003 12 xid (Opaque Handle (codes "fh") (1 ∷ []) ∷ Opaque Text (codes "name") name
+    ∷ [])
+
+-- SYMLINK (RFC 1813, section 3.3.10) with no attributes set
+abbrev pub symlink : (xid : ℕ) → (name path : List ℕ) → Entry
+symlink xid name path =
+    call_of 100003 10 xid (Opaque Handle (codes "fh") (1 ∷ []) ∷ Opaque Text (codes "name") name
+    ∷ Word (codes "set_mode") 0 ∷ Word (codes "set_uid") 0 ∷ Word (codes "set_gid") 0
+    ∷ Word (codes "set_size") 0 ∷ Word (codes "set_atime") 0 ∷ Word (codes "set_mtime") 0
+    ∷ Opaque Text (codes "path") path ∷ [])
+
+-- of the file id 0xa4f2e, and the 28th one
+abbrev pub silly_name : List ℕ
+silly_name = codes ".nfs00000000000a4f2e0000001c"
+
+abbrev pub zero_digits : List ℕ
+zero_digits = codes ".nfs000000000000000000000000"
+
+-- In the name of a file that is removed while it is open each digit is 0. The path of a symbolic
+-- link stays.
+abbrev pub MasksSillyNames : Type 0
+MasksSillyNames = AreMaskedAs
+    (rename 7 (codes "a") silly_name ∷ symlink 8 silly_name silly_name ∷ remove 9 silly_name ∷ [])
+    (rename 7 (codes "a") zero_digits ∷ symlink 8 zero_digits silly_name ∷ remove 9 zero_digits
+    ∷ [])
+
+-- removing a file of this name changes nothing in its call
+abbrev pub KeepsName : List ℕ → Type 0
+KeepsName name = AreMaskedAs (remove 7 name ∷ []) (remove 7 name ∷ [])
+
+-- a digit in upper case, one digit less, one more, and another prefix
+abbrev pub KeepsOtherNames : Type 0
+KeepsOtherNames =
+    KeepsName (codes ".nfs00000000000A4F2E0000001c")
+    × KeepsName (codes ".nfs00000000000a4f2e0000001")
+    × KeepsName (codes ".nfs00000000000a4f2e0000001c0")
+    × KeepsName (codes ".nfx00000000000a4f2e0000001c")
+
+-- DUMP's reply (RFC 1813, section 5.2.2): one directory, mounted by one host
+abbrev pub dumped : (xid : ℕ) → (host : List ℕ) → Entry
+dumped xid host =
+    success_reply 100005 2 xid (Word (codes "entry") 1 ∷ Opaque Text (codes "hostname") host
+    ∷ Opaque Text (codes "directory") (codes "/a") ∷ Word (codes "entry") 0 ∷ [])
+
+-- the name of the host is empty, and the directory stays
+abbrev pub MasksHosts : Type 0
+MasksHosts = AreMaskedAs (dumped 7 (codes "box") ∷ []) (dumped 7 [] ∷ [])
+
 -- GETATTRs of two files: their ids, and the seconds of their times
 abbrev pub getattrs_of_two : (first second sec : ℕ) → List Entry
 getattrs_of_two first second sec =

@@ -2,6 +2,7 @@
 pub mod Spots
 pub mod Classes
 pub mod Ways
+pub mod Texts
 pub mod Unnamed
 pub mod Masked
 pub mod SameBut

@@ -94,9 +94,9 @@ masked_entry ways seen entry = entry
 abbrev pub masked_values : Ways → List Entry → List Entry
 masked_values ways entries = map (masked_entry ways (values entries)) entries
 
--- values are masked, and names of machines
+-- values are masked, and names
 abbrev pub masked : Ways → List Entry → List Entry
-masked ways entries = names_by ways.machines (masked_values ways entries)
+masked ways entries = names_by ways (masked_values ways entries)
 
 -- the bytes of the masked form: one chunk and one fragment for each record, and residual bytes
 -- of zero

@@ -81,7 +81,6 @@ pub record SameButValues (ways : Ways) (a b : List Entry) : Type 0 where
   pub changes : Pairwise (ChangesEntry ways value_pairs) a changed
   pub same : Same changed b
 
--- so are the captures without the names of machines; where these are kept, the captures as they are
+-- so are the captures with masked names; where these are kept, the captures as they are
 abbrev pub SameBut : Ways → List Entry → List Entry → Type 0
-SameBut ways a b =
-    SameButValues ways (names_by ways.machines a) (names_by ways.machines b)
+SameBut ways a b = SameButValues ways (names_by ways a) (names_by ways b)

@@ -1,10 +1,12 @@
--- Calls without the names of machines.
+-- Messages without the names of machines, and with masked texts.
 use Rattle.std.specs.Prelude.{ℕ, zero, suc, ◌+◌, ◌-◌, bytes_eq, if◌then◌else◌, List, [], ◌∷◌, length, map}
 use Rattle.xdr3.specs.Item.{Item, Word, Opaque, Text, residue}
 use Rattle.rpc_head.specs.Names.{head_names}
-use Rattle.capture3.specs.Entry.{Entry, Call}
+use Rattle.capture3.specs.Entry.{Entry, Call, Reply}
 use Rattle.masking3.specs.declared.ways.Way.{Way}
 use Rattle.masking3.specs.declared.ways.Way.TheVariants.{Keep, Zero, Number}
+use Rattle.masking3.specs.declared.ways.Ways.{Ways}
+use Rattle.masking3.specs.Texts.{with_text}
 
 -- how many bytes follow the length of a text, with its residual bytes (RFC 4506, section 4.11)
 abbrev pub text_size : Item → ℕ
@@ -41,16 +43,21 @@ after_first (suc n) change (item ∷ items) = item ∷ after_first n change item
 abbrev pub unnamed_items : List Item → List Item
 unnamed_items items = after_first 7 unnamed_credential items
 
--- names stay, or become empty; they have no numbers
+-- names in credentials stay, or become empty; they have no numbers
 abbrev pub named_by : Way → List Item → List Item
 named_by Keep items = items
 named_by Zero items = unnamed_items items
 named_by Number items = unnamed_items items
 
-abbrev pub named_entry : Way → Entry → Entry
-named_entry way (Call items) = Call (named_by way items)
-named_entry way entry = entry
+-- each text, and then the name in the credential
+abbrev pub named_call : Ways → List Item → List Item
+named_call ways items = named_by ways.machines (map (with_text ways) items)
 
--- the names of machines in these entries stay, or become empty
-abbrev pub names_by : Way → List Entry → List Entry
-names_by way entries = map (named_entry way) entries
+abbrev pub named_entry : Ways → Entry → Entry
+named_entry ways (Call items) = Call (named_call ways items)
+named_entry ways (Reply id items) = Reply id (map (with_text ways) items)
+named_entry ways entry = entry
+
+-- what becomes of the names in these entries
+abbrev pub names_by : Ways → List Entry → List Entry
+names_by ways entries = map (named_entry ways) entries

@@ -31,4 +31,5 @@ usual = record {
   create_verifiers = Number;
   owners = Keep;
   wcc = Keep;
+  silly_names = Zero;
 }

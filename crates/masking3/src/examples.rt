@@ -1,7 +1,7 @@
 //! Small captures worked by hand. Each function ensures what the definitions say of some entries, and its
 //! proof computes it.
 
-ghost use Rattle.masking3.specs.Examples.{ComparesRuns, MasksCredentials, MasksGetattrs, MasksOwners, MasksReaddirPlus, MasksReaddirs, MasksWcc};
+ghost use Rattle.masking3.specs.Examples.{ComparesRuns, KeepsOtherNames, MasksCredentials, MasksGetattrs, MasksHosts, MasksOwners, MasksReaddirPlus, MasksReaddirs, MasksSillyNames, MasksWcc};
 
 /// Three GETATTR replies: times and space are 0, and ids of files and of file systems are numbered apart.
 pub fn getattr_replies()
@@ -34,6 +34,18 @@ pub fn credential_groups()
 /// up stays, and what is told of its directory and in wcc_data has numbers.
 pub fn weak_cache_consistency()
     ensures { MasksWcc }
+{}
+
+/// Calls with the name of a file that was removed while it was open: in each the digits are 0. Names of other
+/// forms stay, and a path of this form.
+pub fn silly_names()
+    ensures masked { MasksSillyNames }
+    ensures kept { KeepsOtherNames }
+{}
+
+/// A DUMP reply: the name of the host is empty.
+pub fn dumped_hosts()
+    ensures { MasksHosts }
 {}
 
 /// Two runs that differ in times and in ids, one to one, are the same but for what is masked. Runs in which

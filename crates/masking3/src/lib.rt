@@ -9,6 +9,7 @@ pub mod laws;
 mod masked_form;
 mod masking_writer;
 mod spot;
+mod texts;
 mod unnamed_body;
 mod ways;
 

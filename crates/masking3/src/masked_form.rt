@@ -23,8 +23,11 @@ use std::marker::Brand;
 /// Reads a capture to its end, writes its masked form as it comes, and flushes the sink. Values of
 /// each class stay, become 0, or become their numbers by first appearance in the capture. The name
 /// of the machine in each AUTH_SYS credential (RFC 5531, appendix A) stays, or becomes empty. The
-/// length of the credential is then less by the bytes of the name. All else is as it was, but each
-/// record is one chunk and one fragment, and residual bytes are 0.
+/// length of the credential is then less by the bytes of the name. The name of a host in a reply to
+/// DUMP (RFC 1813, section 5.2.2) stays or becomes empty likewise. The name of a file of the form
+/// that a Linux client gives to one which is removed while it is open stays, or each of its digits
+/// becomes 0. All else is as it was, but each record is one chunk and one fragment, and residual
+/// bytes are 0.
 ///
 /// It keeps one block of the source's bytes, one record, one call without its name, the calls of
 /// the open connection, the distinct file handles, and the values that have numbers.

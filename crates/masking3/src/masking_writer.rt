@@ -17,6 +17,7 @@ use crate::class::{fixed_class, hyper_class, word_class};
 use crate::class_tables::ClassTables;
 use crate::hashers::ClassHashers;
 use crate::spot::{Spot, spot_after};
+use crate::texts::masked_text;
 use crate::unnamed_body::without_name;
 use crate::ways::{Way, Ways};
 use byteorder::{BigEndian, ByteOrder};
@@ -238,7 +239,8 @@ impl<P: Plan, S: BuildHasher + Drop> Visit for MaskingWriter<P, S> {
     }
 
     fn text(&mut self, name: &'static str, bytes: &[u8]) -> Result<(), AllocError> {
-        self.writer.text(name, bytes)
+        self.writer
+            .text(name, masked_text(&self.classes.ways, name, bytes))
     }
 
     fn handle(&mut self, name: &'static str, bytes: &[u8]) -> Result<(), AllocError> {

@@ -5,23 +5,25 @@ ghost use Rattle.masking3.specs.Ways.{usual, way_of};
 
 use crate::class::Class;
 
-/// What becomes of the values of a class, or of the names of machines.
+/// What becomes of the values of a class, or of names.
 #[derive(Clone, Copy, Debug, PartialEq, Eq)]
 pub enum Way {
     /// They stay as they are.
     Keep,
-    /// They become 0. A name becomes empty.
+    /// They become 0. The name of a machine becomes empty, and each digit of a silly name 0.
     Zero,
     /// Each becomes its number by first appearance among those of its class, from 1. A 0 that has a meaning
-    /// of its own stays. A name becomes empty, since it has no number.
+    /// of its own stays. Names have no numbers: they become what they are under `Zero`.
     Number,
 }
 
-/// A way for each class, and for the names of machines in AUTH_SYS credentials (RFC 5531, appendix A).
+/// A way for each class, and for two kinds of names.
 #[derive(Clone, Copy, Debug, PartialEq, Eq)]
 pub struct Ways {
     pub times: Way,
     pub stamps: Way,
+    /// The names of machines in AUTH_SYS credentials (RFC 5531, appendix A), and of hosts in DUMP's results
+    /// (RFC 1813, section 5.2.2).
     pub machines: Way,
     pub space: Way,
     pub ids: Way,
@@ -31,6 +33,9 @@ pub struct Ways {
     pub create_verifiers: Way,
     pub owners: Way,
     pub wcc: Way,
+    /// The names of files that a Linux client removed while they were open: `.nfs` and 24 lower-case
+    /// hexadecimal digits, where a file has its name (RFC 1813, sections 3.3.3 to 3.3.17).
+    pub silly_names: Way,
 }
 
 impl Ways {
@@ -38,6 +43,7 @@ impl Ways {
     pub fn none() -> Ways
         ensures values { (class : Class) → way_of result class ≡ Way.Keep }
         ensures machines { result.machines ≡ Way.Keep }
+        ensures silly_names { result.silly_names ≡ Way.Keep }
     {
         Ways {
             times: Way::Keep,
@@ -51,11 +57,13 @@ impl Ways {
             create_verifiers: Way::Keep,
             owners: Way::Keep,
             wcc: Way::Keep,
+            silly_names: Way::Keep,
         }
     }
 
-    /// Returns the ways for what two ordinary runs of one script never share: times, stamps and space become
-    /// 0, and names empty. Owners and `wcc` stay, and all else is numbered.
+    /// Returns the ways for what two ordinary runs of one script never share: times, stamps, space and the
+    /// digits of silly names become 0, and names of machines empty. Owners and `wcc` stay, and all else is
+    /// numbered.
     pub fn usual() -> Ways
         ensures { result ≡ usual }
     {
@@ -71,6 +79,7 @@ impl Ways {
             create_verifiers: Way::Number,
             owners: Way::Keep,
             wcc: Way::Keep,
+            silly_names: Way::Zero,
         }
     }
 

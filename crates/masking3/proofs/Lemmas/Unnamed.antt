@@ -1,4 +1,6 @@
--- Calls without the names of machines.
+-- Messages without the names of machines, and with masked texts.
+pub mod TextsLemmas
+pub mod TextShapes
 pub mod UnnamedLemmas
 pub mod UnnamedRenamings
 pub mod UnnamedBodyLemmas

@@ -1,5 +1,5 @@
 -- A writer of messages with masked values.
-use Rattle.std.specs.Prelude.{◌≡◌, ℕ, ◌==◌, ◌&&◌, false, not, if◌then◌else◌, List, [], ◌∷◌, ◌++◌, length, Option, None, Some}
+use Rattle.std.specs.Prelude.{◌≡◌, ℕ, ◌==◌, ◌&&◌, false, not, if◌then◌else◌, List, [], ◌∷◌, ◌++◌, length, map, Option, None, Some}
 use Rattle.std.specs.List.{flat_map}
 use Rattle.xdr3.specs.Item.{Item, Word, Hyper, word_bytes, zero_spelling}
 use Rattle.capture3.specs.declared.fault.Side.{Side}
@@ -17,6 +17,7 @@ use Rattle.masking3.specs.declared.ways.Ways.{Ways}
 use Rattle.masking3.specs.Classes.{class_of, class_value, position}
 use Rattle.masking3.specs.Masked.{is_zero_that_stays, masked_items, values_in}
 use Rattle.masking3.specs.Spots.{next_spot}
+use Rattle.masking3.specs.Texts.{with_text}
 use Rattle.masking3.specs.machinery.ClassTables.{HoldsValues, tables_in}
 use Rattle.masking3.specs.machinery.MessageSpot.{BeginsOn, first_spot, found_after}
 use Rattle.masking3.specs.machinery.UnnamedBody.{body_by}
@@ -66,7 +67,8 @@ pub record HasMaskedUnderWay {P S H : Type 0} (ways : Ways) (w : MaskingWriter P
   pub handles : Gathers w.handles (front ++ items)
   pub spot_is : w.spot ≡ found_after items
   pub written : w.writer
-      ≡ zero_spelling (masked_items ways (values_so_far front side items) (first_spot side) items)
+      ≡ zero_spelling (map (with_text ways)
+      (masked_items ways (values_so_far front side items) (first_spot side) items))
 
 -- memory did not run out
 abbrev pub HasMemory : {P S H : Type 0} → MaskingWriter P S H → Type 0

@@ -1,5 +1,5 @@
 -- The first entries of a well-formed file have xids of no class, and room for the numbers of their values.
-use Rattle.std.proofs.Common.{◌<◌, ◌^◌, List, [], ◌∷◌, ◌++◌, length, sym, subst, arith, ap, ◌∙◌}
+use Rattle.std.proofs.Common.{◌<◌, ◌^◌, List, [], ◌∷◌, ◌++◌, length, map, sym, subst, arith, ap, ◌∙◌}
 use Rattle.std.specs.List.{AllByRecursion}
 use Rattle.xdr3.specs.Item.{Item, Word, Hyper, Fixed, WriteVerf, Opaque, Rest}
 use Rattle.capture3.specs.Bodies.{ReplyItems}
@@ -20,6 +20,7 @@ use Rattle.masking3.specs.declared.ways.Ways.{Ways}
 use Rattle.masking3.specs.Laws.{MaskedBytesDecide, MaskedFormsDecide}
 use Rattle.masking3.specs.Masked.{masked, masked_values, values}
 use Rattle.masking3.specs.SameBut.{SameBut}
+use Rattle.masking3.specs.Texts.{with_text}
 use Rattle.masking3.specs.Unnamed.{named_by, names_by, unnamed_items}
 use Rattle.masking3.proofs.Lemmas.Classes.FewValues.{few_of_first}
 use Rattle.masking3.proofs.Lemmas.Classes.SpotLemmas.{xid_free}
@@ -48,7 +49,7 @@ xids_free a first =
 pub room_of : (a : List Entry) → AreFirst a → (d : Class) → length (values a d) < 2 ^ 64
 room_of a first d = omega (arith, few_of_first d a first)
 
--- ---- without the names of machines
+-- ---- with masked names
 
 first_free : (m : List Item) → StartsFree m → StartsFree (unnamed_items m)
 first_free [] f = absurd f
@@ -64,31 +65,41 @@ named_xid_free Keep m f = f
 named_xid_free Zero m f = first_free m f
 named_xid_free Number m f = first_free m f
 
-free_names : (way : Way) (a : List Entry) → AllByRecursion HasFreeXid a → AllByRecursion HasFreeXid (names_by way a)
-free_names way [] h = tt
-free_names way (Begin ∷ a) h = (tt, free_names way a h.1)
-free_names way (Call m ∷ a) h = (named_xid_free way m h.0, free_names way a h.1)
-free_names way (Turn ∷ a) h = (tt, free_names way a h.1)
-free_names way (Reply id m ∷ a) h = (h.0, free_names way a h.1)
-free_names way (Close ∷ a) h = (tt, free_names way a h.1)
-free_names way (End ∷ a) h = (tt, free_names way a h.1)
+module _ (by : Ways) where
+  texts_free : (m : List Item) → StartsFree m → StartsFree (map (with_text by) m)
+  texts_free [] f = absurd f
+  texts_free (Word name n ∷ m) f = f
+  texts_free (Hyper name n ∷ m) f = absurd f
+  texts_free (Fixed name b ∷ m) f = absurd f
+  texts_free (WriteVerf name b ∷ m) f = absurd f
+  texts_free (Opaque kind name b ∷ m) f = absurd f
+  texts_free (Rest name b ∷ m) f = absurd f
+
+  free_names : (a : List Entry) → AllByRecursion HasFreeXid a → AllByRecursion HasFreeXid (names_by by a)
+  free_names [] h = tt
+  free_names (Begin ∷ a) h = (tt, free_names a h.1)
+  free_names (Call m ∷ a) h = (named_xid_free by.machines (map (with_text by) m) (texts_free m h.0), free_names a h.1)
+  free_names (Turn ∷ a) h = (tt, free_names a h.1)
+  free_names (Reply id m ∷ a) h = (texts_free m h.0, free_names a h.1)
+  free_names (Close ∷ a) h = (tt, free_names a h.1)
+  free_names (End ∷ a) h = (tt, free_names a h.1)
 
 module _ (ways : Ways) (a : List Entry) (first : AreFirst a) where
   abbrev without : List Entry
-  without = names_by ways.machines a
+  without = names_by ways a
 
   room_without : (d : Class) → length (values without d) < 2 ^ 64
-  room_without d = subst (λ l. length l < 2 ^ 64) (sym (all_values d ways.machines a)) (room_of a first d)
+  room_without d = subst (λ l. length l < 2 ^ 64) (sym (all_values d ways a)) (room_of a first d)
 
   free_without : AllByRecursion HasFreeXid without
-  free_without = free_names ways.machines a (xids_free a first)
+  free_without = free_names ways a (xids_free a first)
 
 pub decided : (ways : Ways) (a b : List Entry) → AreFirst a → AreFirst b → MaskedFormsDecide ways a b
 decided ways a b first second =
     let c = without ways a first in
     let d = without ways b second in
-    let there = values_of_named ways ways.machines a in
-    let back = values_of_named ways ways.machines b in (
+    let there = values_of_named ways ways a in
+    let back = values_of_named ways ways b in (
       (λ s. same_but_from_same ways c d (room_without ways a first) (room_without ways b second) (free_without ways a first) (subst (λ l. Same l (masked_values ways d)) (sym there) (subst (Same (masked ways a)) (sym back) s))),
       (λ s. subst (λ l. Same l (masked ways b)) there (subst (Same (masked_values ways c)) back (same_from_same_but ways c d (free_without ways a first) s))),
     )
@@ -113,7 +124,7 @@ bytes_decide ways a b first second = (
 -- ---- up to less
 
 pub same_but_from_all : (ways : Ways) (a b : List Entry) → AreFirst a → AreFirst b → Same a b → SameBut ways a b
-same_but_from_all ways a b first second s = (decided ways a b first second).0 (same_named ways.machines (same_masked ways a b (xids_free a first) s))
+same_but_from_all ways a b first second s = (decided ways a b first second).0 (same_named ways (same_masked ways a b (xids_free a first) s))
 
 pub same_but_reflexive : (ways : Ways) (a : List Entry) → AreFirst a → SameBut ways a a
 same_but_reflexive ways a first = same_but_from_all ways a a first first (same_reflexive a (first_in_order a first))

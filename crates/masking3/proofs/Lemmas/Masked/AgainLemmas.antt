@@ -232,9 +232,9 @@ values_again ways entries room =
 
 pub again : (ways : Ways) (entries : List Entry) → HasRoomForNumbers entries → StaysMasked ways entries
 again ways entries room =
-    ap (names_by ways.machines) (values_of_named ways ways.machines (masked_values ways entries))
-    ∙ names_again ways.machines (masked_values ways (masked_values ways entries))
-    ∙ ap (names_by ways.machines) (values_again ways entries room)
+    ap (names_by ways) (values_of_named ways ways (masked_values ways entries))
+    ∙ names_again ways (masked_values ways (masked_values ways entries))
+    ∙ ap (names_by ways) (values_again ways entries room)
 
 pub all_kept : (ways : Ways) → KeepsAll ways → (entries : List Entry) → masked ways entries ≡ entries
-all_kept ways keeps entries = ap (λ way. names_by way (masked_values ways entries)) keeps.1 ∙ names_kept (masked_values ways entries) ∙ values_kept ways keeps.0 entries
+all_kept ways keeps entries = names_kept ways keeps.1 keeps.2 (masked_values ways entries) ∙ values_kept ways keeps.0 entries

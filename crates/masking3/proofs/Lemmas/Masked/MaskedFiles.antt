@@ -20,24 +20,28 @@ use Rattle.masking3.specs.declared.spot.Spot.{Spot}
 use Rattle.masking3.specs.declared.spot.Spot.TheVariants.{InCall, InReply}
 use Rattle.masking3.specs.declared.ways.Ways.{Ways}
 use Rattle.masking3.specs.Masked.{masked, masked_entry, values}
-use Rattle.masking3.specs.Unnamed.{named_by, named_entry}
+use Rattle.masking3.specs.Unnamed.{named_call, named_entry}
 use Rattle.masking3.proofs.Lemmas.Classes.FewValues.{few_of_file}
 use Rattle.masking3.proofs.Lemmas.Masked.MaskedMessages.{call_under, call_xid_under, message_length, message_spelled, procedure_under, reply_under, reply_xid_under, under}
+use Rattle.masking3.proofs.Lemmas.Unnamed.TextShapes.{length_with_texts, reply_with_texts, spelled_with_texts, with_texts, xid_with_texts}
 use Rattle.masking3.proofs.Lemmas.Unnamed.UnnamedCalls.{call_named, named_length, named_procedure, named_spelled, named_xid}
 
 module _ (ways : Ways) (seen : Class → List ℕ) where
   abbrev masks : Spot → List Item → List Item
   masks spot items = under ways seen spot items
 
-  -- a call without the name of its machine, where these are masked
+  -- a call with masked names
   abbrev calls_masked : List Item → List Item
-  calls_masked items = named_by ways.machines (masks InCall items)
+  calls_masked items = named_call ways (masks InCall items)
+
+  abbrev replies_masked : List Item → List Item
+  replies_masked items = with_texts ways (masks InReply items)
 
   abbrev masked_one : Entry → Entry
-  masked_one entry = named_entry ways.machines (masked_entry ways seen entry)
+  masked_one entry = named_entry ways (masked_entry ways seen entry)
 
   abbrev masked_reply : ReplyItems → ReplyItems
-  masked_reply reply = record { id = reply.id; items = masks InReply reply.items }
+  masked_reply reply = record { id = reply.id; items = replies_masked reply.items }
 
   abbrev masked_conversation : Conversation → Conversation
   masked_conversation c = record { calls = map calls_masked c.calls; replies = map masked_reply c.replies }
@@ -50,7 +54,7 @@ module _ (ways : Ways) (seen : Class → List ℕ) where
 
   masked_replies : (replies : List ReplyItems) → map masked_one (map reply_entry replies) ≡ map reply_entry (map masked_reply replies)
   masked_replies [] = refl
-  masked_replies (r ∷ replies) = ap (λ (l : List Entry). Reply r.id (masks InReply r.items) ∷ l) (masked_replies replies)
+  masked_replies (r ∷ replies) = ap (λ (l : List Entry). Reply r.id (replies_masked r.items) ∷ l) (masked_replies replies)
 
   masked_connection : (c : Conversation) → map masked_one (connection_entries c.calls c.replies) ≡ connection_entries (map calls_masked c.calls) (map masked_reply c.replies)
   masked_connection c =
@@ -73,18 +77,19 @@ module _ (ways : Ways) (seen : Class → List ℕ) where
   module _ (few : (d : Class) → length (seen d) ≤ max_bytes) where
     call_spelled : (m : List Item) → IsSpelledCall m → IsSpelledCall (calls_masked m)
     call_spelled m s =
-        ((call_named ways.machines (masks InCall m) (call_under ways seen m s.0.0), named_spelled ways.machines (masks InCall m) (zero_spelling (masks InCall m)) (message_spelled ways seen few InCall m (zero_spelling m) s.0.1)), omega (arith, named_length ways.machines (masks InCall m), message_length ways seen InCall m (zero_spelling m) s.0.1, s.1))
+        ((call_named ways (masks InCall m) (call_under ways seen m s.0.0), named_spelled ways (masks InCall m) (zero_spelling (masks InCall m)) (message_spelled ways seen few InCall m (zero_spelling m) s.0.1)), omega (arith, named_length ways (masks InCall m), message_length ways seen InCall m (zero_spelling m) s.0.1, s.1))
 
     reply_spelled : (r : ReplyItems) → IsSpelledReply r → IsSpelledReply (masked_reply r)
     reply_spelled r s =
-        ((reply_under ways seen r.id r.items s.0.0, message_spelled ways seen few InReply r.items (zero_spelling r.items) s.0.1), omega (arith, message_length ways seen InReply r.items (zero_spelling r.items) s.0.1, s.1))
+        let m = masks InReply r.items in
+        ((reply_with_texts ways r.id m (reply_under ways seen r.id r.items s.0.0), spelled_with_texts ways m (zero_spelling m) (message_spelled ways seen few InReply r.items (zero_spelling r.items) s.0.1)), omega (arith, length_with_texts ways m, message_length ways seen InReply r.items (zero_spelling r.items) s.0.1, s.1))
 
     module _ (c : Conversation) (h : AreConversing c) where
       call_xid : (m : List Item) → IsIn m c.calls → xid_in (calls_masked m) ≡ xid_in m
-      call_xid m i = named_xid ways.machines (masks InCall m) ∙ call_xid_under ways seen InCall m (of_all IsSpelledCall c.calls m h.calls_are i).0.0
+      call_xid m i = named_xid ways (masks InCall m) ∙ call_xid_under ways seen InCall m (of_all IsSpelledCall c.calls m h.calls_are i).0.0
 
       call_procedure : (m : List Item) → IsIn m c.calls → procedure_in (calls_masked m) ≡ procedure_in m
-      call_procedure m i = named_procedure ways.machines (masks InCall m) ∙ procedure_under ways seen InCall m (of_all IsSpelledCall c.calls m h.calls_are i).0.0
+      call_procedure m i = named_procedure ways (masks InCall m) ∙ procedure_under ways seen InCall m (of_all IsSpelledCall c.calls m h.calls_are i).0.0
 
       one_procedure : HaveOneProcedure (map calls_masked c.calls)
       one_procedure a b i j e =
@@ -100,7 +105,8 @@ module _ (ways : Ways) (seen : Class → List ℕ) where
           let a = h.answers r p.1 in
           let s = of_all IsSpelledReply c.replies r h.replies_are p.1 in
           let xid : xid_in (calls_masked a.0) ≡ xid_in reply.items =
-          call_xid a.0 a.1 ∙ (a.2 ∙ (sym (reply_xid_under ways seen InReply r.id r.items s.0.0) ∙ sym (ap (λ (k : ReplyItems). xid_in k.items) p.2))) in
+          call_xid a.0 a.1
+          ∙ (a.2 ∙ (sym (xid_with_texts ways (masks InReply r.items) ∙ reply_xid_under ways seen InReply r.id r.items s.0.0) ∙ sym (ap (λ (k : ReplyItems). xid_in k.items) p.2))) in
           (calls_masked a.0, map_in calls_masked c.calls a.0 a.1, xid, call_procedure a.0 a.1 ∙ (a.3 ∙ sym (ap (λ (k : ReplyItems). k.id) p.2)))
 
       converses : AreConversing (masked_conversation c)
@@ -129,22 +135,22 @@ module _ (ways : Ways) (seen : Class → List ℕ) where
           length_of_record (zero_spelling (f m)),
         )
 
-    items_under : (l : List ReplyItems) → reply_items (map masked_reply l) ≡ map (masks InReply) (reply_items l)
+    items_under : (l : List ReplyItems) → reply_items (map masked_reply l) ≡ map replies_masked (reply_items l)
     items_under [] = refl
-    items_under (r ∷ l) = ap (λ k. masks InReply r.items ∷ k) (items_under l)
+    items_under (r ∷ l) = ap (λ k. replies_masked r.items ∷ k) (items_under l)
 
     call_no_longer : (m : List Item) → IsSpelledCall m → IsNoLonger m (calls_masked m)
-    call_no_longer m s = omega (arith, named_length ways.machines (masks InCall m), message_length ways seen InCall m (zero_spelling m) s.0.1)
+    call_no_longer m s = omega (arith, named_length ways (masks InCall m), message_length ways seen InCall m (zero_spelling m) s.0.1)
 
-    reply_no_longer : (r : ReplyItems) → IsSpelledReply r → IsNoLonger r.items (masks InReply r.items)
-    reply_no_longer r s = omega (arith, message_length ways seen InReply r.items (zero_spelling r.items) s.0.1)
+    reply_no_longer : (r : ReplyItems) → IsSpelledReply r → IsNoLonger r.items (replies_masked r.items)
+    reply_no_longer r s = omega (arith, length_with_texts ways (masks InReply r.items), message_length ways seen InReply r.items (zero_spelling r.items) s.0.1)
 
     no_heavier : (c : Conversation) → AreConversing c → weight (masked_conversation c) ≤ weight c
     no_heavier c h =
         omega (
           arith,
           stream_length calls_masked c.calls (all_weaker IsSpelledCall (λ m. IsNoLonger m (calls_masked m)) call_no_longer c.calls h.calls_are),
-          stream_length (masks InReply) (reply_items c.replies) (all_mapped IsSpelledReply (λ m. IsNoLonger m (masks InReply m)) items_of_reply reply_no_longer c.replies h.replies_are),
+          stream_length replies_masked (reply_items c.replies) (all_mapped IsSpelledReply (λ m. IsNoLonger m (replies_masked m)) items_of_reply reply_no_longer c.replies h.replies_are),
           ap (λ l. length (stream_of l)) (items_under c.replies),
         )
 
@@ -167,6 +173,6 @@ masked_is_file ways file all typed =
     let few : (d : Class) → length (seen d) ≤ max_bytes = λ d. few_of_file d file all typed in
     let ds = map (masked_conversation ways seen) h.cs in
     let are = capture_masked ways seen few h.cs h.are in
-    let once : masked ways all ≡ map (masked_one ways seen) all = map-map (named_entry ways.machines) (masked_entry ways seen) all in
+    let once : masked ways all ≡ map (masked_one ways seen) all = map-map (named_entry ways) (masked_entry ways seen) all in
     let e : masked ways all ≡ all_of ds = once ∙ ap (map (masked_one ways seen)) h.is ∙ masked_all ways seen h.cs in
     subst (λ l. AreOfTheirBytes l (total_size typed.connections)) (sym e) (typed_anew ds are, omega (arith, total_of_anew ds are, total_no_heavier ways seen few h.cs h.are.converse, h.light))

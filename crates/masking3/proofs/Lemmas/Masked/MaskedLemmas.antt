@@ -132,7 +132,7 @@ module _ (ways : Ways) where
   values_after a b = map (masked_entry ways (values (a ++ b))) b
 
   abbrev pub after : (a b : List Entry) → List Entry
-  after a b = names_by ways.machines (values_after a b)
+  after a b = names_by ways (values_after a b)
 
   values-append : (a b : List Entry) → masked_values ways (a ++ b) ≡ masked_values ways a ++ values_after a b
   values-append a b =
@@ -141,7 +141,7 @@ module _ (ways : Ways) where
       (ap (λ (seen : Class → List ℕ). map (masked_entry ways seen) a) (values_split a b) ∙ entries_stay ways (values a) (values b) a (among_own a))
 
   pub masked-append : (a b : List Entry) → masked ways (a ++ b) ≡ masked ways a ++ after a b
-  masked-append a b = ap (names_by ways.machines) (values-append a b) ∙ map-append (named_entry ways.machines) (masked_values ways a) (values_after a b)
+  masked-append a b = ap (names_by ways) (values-append a b) ∙ map-append (named_entry ways) (masked_values ways a) (values_after a b)
 
   bytes_with : (l m : List Entry) → are_some l ≡ true → bytes_of (l ++ m) ≡ bytes_of l ++ flat_map entry_bytes m
   bytes_with [] m some = absurd cc
@@ -158,7 +158,7 @@ module _ (ways : Ways) where
 
   -- one entry more
   abbrev pub last_bytes : (a : List Entry) (one : Entry) → List ℕ
-  last_bytes a one = entry_bytes (named_entry ways.machines (masked_entry ways (values (a ++ one ∷ [])) one))
+  last_bytes a one = entry_bytes (named_entry ways (masked_entry ways (values (a ++ one ∷ [])) one))
 
   pub form_grows : (a : List Entry) (one : Entry) → masked_bytes ways (a ++ one ∷ []) ≡ (masked_bytes ways a ++ magic_unless (are_some a)) ++ last_bytes a one
   form_grows [] one = ap (λ (l : List ℕ). magic One ++ l) (append-nil (last_bytes [] one))

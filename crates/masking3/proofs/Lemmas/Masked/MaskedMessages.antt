@@ -35,7 +35,7 @@ use Rattle.masking3.specs.Spots.{next_spot}
 use Rattle.masking3.specs.Ways.{way_of}
 use Rattle.masking3.proofs.Lemmas.Classes.SpotLemmas.{IsOn, masked_items-append, on_after, on_next, spot_after, xid_free}
 use Rattle.masking3.proofs.Lemmas.Masked.MaskedLemmas.{unmasked}
-use Rattle.masking3.proofs.Lemmas.Masked.MaskedShapes.{IsNotEight, RowTakesOn, TakesOn, TakesWord, arguments_take, call_head_takes, mtype_takes, reply_head_takes, reply_takes}
+use Rattle.masking3.proofs.Lemmas.Masked.MaskedShapes.{KeepsSize, RowTakesOn, TakesOn, TakesWord, arguments_take, call_head_takes, mtype_takes, reply_head_takes, reply_takes}
 
 -- ---- numbers are small
 
@@ -88,7 +88,7 @@ module _ (ways : Ways) (seen : Class → List ℕ) where
       let w = hyper_with name n (substitute ways seen (class_of_hyper spot name) n) in
       ap (λ i. length (zero_spelling_of i)) w.1 ∙ (length-bytes_high_first 8 w.0 ∙ sym (length-bytes_high_first 8 n))
 
-  each_length : (part : Part) → IsNotEight part → IsEach KeepsLength part
+  each_length : (part : Part) → KeepsSize part → IsEach KeepsLength part
   each_length (word_part name reason) h = λ n. word_length name n
   each_length (hyper_part name) h = λ n. hyper_length name n
   each_length (fixed_part name) h = absurd h
@@ -103,9 +103,9 @@ module _ (ways : Ways) (seen : Class → List ℕ) where
       let rest : List Item = under (next_spot spot i) items in
       omega (arith, h.0 spot, all_lengths (next_spot spot i) items h.1, length-append (zero_spelling_of i) (zero_spelling items), length-append (zero_spelling_of (masked_item ways seen spot i)) (zero_spelling rest))
 
-  fitting_lengths : (spot : Spot) (s : Shape) (items : List Item) → HasParts IsNotEight s → Fits s items → length (zero_spelling (under spot items)) ≡ length (zero_spelling items)
+  fitting_lengths : (spot : Spot) (s : Shape) (items : List Item) → HasParts KeepsSize s → Fits s items → length (zero_spelling (under spot items)) ≡ length (zero_spelling items)
   fitting_lengths spot s items h p =
-      all_lengths spot items (all_in_message KeepsLength s (λ front. exactly nothing) items (parts_weaker IsNotEight (IsEach KeepsLength) each_length s h) (λ front. tt) (items, [], p, refl, sym (append-nil items)))
+      all_lengths spot items (all_in_message KeepsLength s (λ front. exactly nothing) items (parts_weaker KeepsSize (IsEach KeepsLength) each_length s h) (λ front. tt) (items, [], p, refl, sym (append-nil items)))
 
   -- ---- parts one after another, each from the spot that the move leads to
 

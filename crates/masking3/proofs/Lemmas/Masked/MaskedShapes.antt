@@ -1,10 +1,10 @@
 -- Each shape of the protocol takes masked values: a word of a class takes any value, and chooses nothing.
 use Rattle.std.proofs.Common.{◌≡◌, ℕ, Bool, true, false, List, refl}
-use Rattle.std.specs.Prelude.{⊤, ◌||◌, IsTrue, nat_eq, if◌then◌else◌, Option, None, Some}
-use Rattle.xdr3.specs.Item.{Item, Var}
+use Rattle.std.specs.Prelude.{⊤, ◌||◌, IsTrue, bytes_eq, nat_eq, if◌then◌else◌, Option, None, Some}
+use Rattle.xdr3.specs.Item.{Item, Text, Var}
 use Rattle.xdr3.specs.Shape.{Shape, ◌then◌, choose, counted, fixed, hyper, linked, listed, nothing, opaque, both, optional, sized, word}
 use Rattle.xdr3.specs.Layout.{Layout, exactly, rest, after}
-use Rattle.xdr3.proofs.Lemmas.Shapes.ShapeParts.{HasParts, Part, fixed_part}
+use Rattle.xdr3.proofs.Lemmas.Shapes.ShapeParts.{HasParts, Part, fixed_part, opaque_part}
 use Rattle.rpc_head.specs.declared.values.call.ProcId.{ProcId}
 use Rattle.rpc_head.specs.Messages.{has_results}
 use Rattle.rpc_head.specs.Names.{head_names}
@@ -28,17 +28,18 @@ abbrev pub TakesWord : Option Class → (ℕ → Bool) → (ℕ → Shape) → T
 TakesWord None accepted next = ⊤
 TakesWord (Some class) accepted next = ((n : ℕ) → IsTrue (accepted n)) × ((n : ℕ) → next n ≡ nothing)
 
--- eight bytes may have another length than masked ones, where they are not spelled
-abbrev pub IsNotEight : Part → Type 0
-IsNotEight (fixed_part name) = ⊥
-IsNotEight _ = ⊤
+-- Eight bytes may have another length than masked ones, where they are not spelled, and so may a text that is masked.
+abbrev pub KeepsSize : Part → Type 0
+KeepsSize (fixed_part name) = ⊥
+KeepsSize (opaque_part Text name max) = (bytes_eq name names.name ≡ false) × (bytes_eq name names.hostname ≡ false)
+KeepsSize _ = ⊤
 
 abbrev pub TakesMasks : Spot → Shape → Type 0
 TakesMasks spot (choose name accepted reason next) = TakesWord (class_of_word spot name) accepted next × ((n : ℕ) → TakesMasks spot (next n))
 TakesMasks spot (both a b) = TakesMasks spot a × TakesMasks spot b
 TakesMasks spot (linked name s) = (class_of_word spot name ≡ None) × TakesMasks spot s
 TakesMasks spot (counted name max s) = (class_of_word spot name ≡ None) × TakesMasks spot s
-TakesMasks spot (sized name s) = (class_of_word spot name ≡ None) × HasParts IsNotEight s × TakesMasks spot s
+TakesMasks spot (sized name s) = (class_of_word spot name ≡ None) × HasParts KeepsSize s × TakesMasks spot s
 TakesMasks spot _ = ⊤
 
 abbrev pub RowTakesMasks : Spot → Layout → Type 0

@@ -23,7 +23,7 @@ use Rattle.masking3.specs.Unnamed.{names_by}
 use Rattle.masking3.specs.Ways.{way_of}
 use Rattle.masking3.proofs.Lemmas.Masked.MaskedLemmas.{AreAmong, EntryIsAmong, IsAmong, ItemsAreAmong, among_own}
 use Rattle.masking3.proofs.Lemmas.Masked.SameButLemmas.{AreAgreeing, Changes, agree_of, alike_linked, alike_put, alike_turned, from_agreeing, kept_of_same, same_of_kept, values_numbered}
-use Rattle.masking3.proofs.Lemmas.Unnamed.UnnamedLemmas.{names_kept}
+use Rattle.masking3.proofs.Lemmas.Unnamed.UnnamedLemmas.{names_absorbed, names_kept}
 use Rattle.masking3.proofs.Lemmas.Unnamed.UnnamedRenamings.{changes_named, same_named}
 
 module _ (ways others : Ways) (much : MasksValuesAsMuch ways others) (all : List Entry) (pairs : Class → Pairs ℕ) (agree : AreAgreeing ways pairs) where
@@ -87,41 +87,30 @@ values_more ways others a b much s =
 
 -- ---- and names
 
-module _ (ways : Ways) (a b : List Entry) where
-  -- without the names
-  values_without : SameButValues ways a b → SameButValues ways (names_by Zero a) (names_by Zero b)
-  values_without s = record {
-    value_pairs = s.value_pairs;
-    values_one_to_one = s.values_one_to_one;
-    changed = names_by Zero s.changed;
-    changes = changes_named ways s.value_pairs Zero s.changes;
-    same = same_named Zero s.same;
-  }
-
-  as_they_are : SameButValues ways (names_by Keep a) (names_by Keep b) → SameButValues ways a b
-  as_they_are s = subst (λ l. SameButValues ways l b) (names_kept a) (subst (SameButValues ways (names_by Keep a)) (names_kept b) s)
-
-  names_more : (w v : Way) → TellsNoMore w v → SameButValues ways (names_by w a) (names_by w b) → SameButValues ways (names_by v a) (names_by v b)
-  names_more Keep Keep t s = s
-  names_more Keep Zero t s = values_without (as_they_are s)
-  names_more Keep Number t s = values_without (as_they_are s)
-  names_more Number Keep t s = absurd t
-  names_more Number Zero t s = s
-  names_more Number Number t s = s
-  names_more Zero Keep t s = absurd t
-  names_more Zero Zero t s = s
-  names_more Zero Number t s = absurd t
+-- with masked names
+values_with_names : (ways by : Ways) (a b : List Entry) → SameButValues ways a b → SameButValues ways (names_by by a) (names_by by b)
+values_with_names ways by a b s = record {
+  value_pairs = s.value_pairs;
+  values_one_to_one = s.values_one_to_one;
+  changed = names_by by s.changed;
+  changes = changes_named ways s.value_pairs by s.changes;
+  same = same_named by s.same;
+}
 
 pub same_but_more : (ways others : Ways) (a b : List Entry) → MasksAsMuch ways others → SameBut ways a b → SameBut others a b
 same_but_more ways others a b much s =
-    values_more ways others (names_by others.machines a) (names_by others.machines b) much.0 (names_more ways a b ways.machines others.machines much.1 s)
+    let absorbed = names_absorbed ways others much.1 much.2 in
+    values_more ways others (names_by others a) (names_by others b) much.0
+    (subst (λ l. SameButValues ways l (names_by others b)) (absorbed a) (subst (SameButValues ways (names_by others (names_by ways a))) (absorbed b) (values_with_names ways others (names_by ways a) (names_by ways b) s)))
 
 -- ---- where nothing is masked
 
 pub same_of_all_kept : (ways : Ways) → KeepsAll ways → (a b : List Entry) → SameBut ways a b → Same a b
-same_of_all_kept ways keeps a b s = same_of_kept ways keeps.0 a b (as_they_are ways a b (subst (λ w. SameButValues ways (names_by w a) (names_by w b)) keeps.1 s))
+same_of_all_kept ways keeps a b s =
+    let kept = names_kept ways keeps.1 keeps.2 in
+    same_of_kept ways keeps.0 a b (subst (λ l. SameButValues ways l b) (kept a) (subst (SameButValues ways (names_by ways a)) (kept b) s))
 
 pub all_kept_of_same : (ways : Ways) → KeepsAll ways → (a b : List Entry) → Same a b → SameBut ways a b
 all_kept_of_same ways keeps a b s =
-    subst (λ w. SameButValues ways (names_by w a) (names_by w b)) (sym keeps.1)
-    (subst (λ l. SameButValues ways l (names_by Keep b)) (sym (names_kept a)) (subst (SameButValues ways a) (sym (names_kept b)) (kept_of_same ways keeps.0 a b s)))
+    let kept = names_kept ways keeps.1 keeps.2 in
+    subst (λ l. SameButValues ways l (names_by ways b)) (sym (kept a)) (subst (SameButValues ways a) (sym (kept b)) (kept_of_same ways keeps.0 a b s))

@@ -1,4 +1,4 @@
--- Calls without the names of machines are calls of the same procedures, and no longer.
+-- Calls with masked names are calls of the same procedures, and no longer.
 use Rattle.std.proofs.Common.{◌≡◌, ◌⊎◌, inl, inr, ℕ, zero, suc, ◌+◌, ◌-◌, ◌<◌, ◌≤◌, Bool, true, false, List, [], ◌∷◌, ◌++◌, length, replicate, refl, sym, ap, ap₂, ◌∙◌, subst, arith, append-nil, length-append, ⊎_elim}
 use Rattle.std.specs.Prelude.{◌==◌, ◌||◌, IsTrue, bytes_eq, nat_eq, if◌then◌else◌}
 use Rattle.std.proofs.lemmas.Bool.Decides.{Decides-eqb}
@@ -19,9 +19,11 @@ use Rattle.canon3.proofs.Lemmas.WellFormed.Messages.{FitsCall, headed_call_fits,
 use Rattle.canon3.proofs.Lemmas.Numbers.RankLemmas.{by_test}
 use Rattle.masking3.specs.declared.ways.Way.{Way}
 use Rattle.masking3.specs.declared.ways.Way.TheVariants.{Keep, Zero, Number}
-use Rattle.masking3.specs.Unnamed.{after_first, emptied, less_by, named_by, text_size, unnamed_credential, unnamed_items}
+use Rattle.masking3.specs.declared.ways.Ways.{Ways}
+use Rattle.masking3.specs.Unnamed.{after_first, emptied, less_by, named_by, named_call, text_size, unnamed_credential, unnamed_items}
 use Rattle.masking3.specs.machinery.UnnamedBody.{body_by, unnamed_body}
 use Rattle.masking3.proofs.Lemmas.Masked.MaskedMessages.{first_word, mtype_is}
+use Rattle.masking3.proofs.Lemmas.Unnamed.TextShapes.{call_with_texts, length_with_texts, procedure_with_texts, spelled_with_texts, with_texts, xid_with_texts}
 use Rattle.masking3.proofs.Lemmas.Unnamed.UnnamedBodyLemmas.{not_spliced, spliced}
 
 -- ---- words stay up to the flavor
@@ -448,32 +450,56 @@ call_bytes m p =
 
 -- ---- names that stay, or become empty
 
-pub call_named : (way : Way) (m : List Item) → FitsCall m → FitsCall (named_by way m)
-call_named Keep m p = p
-call_named Zero m p = call_unnamed m p
-call_named Number m p = call_unnamed m p
+by_way_fits : (way : Way) (m : List Item) → FitsCall m → FitsCall (named_by way m)
+by_way_fits Keep m p = p
+by_way_fits Zero m p = call_unnamed m p
+by_way_fits Number m p = call_unnamed m p
 
-pub named_xid : (way : Way) (m : List Item) → xid_in (named_by way m) ≡ xid_in m
-named_xid Keep m = refl
-named_xid Zero m = unnamed_xid m
-named_xid Number m = unnamed_xid m
+by_way_xid : (way : Way) (m : List Item) → xid_in (named_by way m) ≡ xid_in m
+by_way_xid Keep m = refl
+by_way_xid Zero m = unnamed_xid m
+by_way_xid Number m = unnamed_xid m
 
-pub named_procedure : (way : Way) (m : List Item) → procedure_in (named_by way m) ≡ procedure_in m
-named_procedure Keep m = refl
-named_procedure Zero m = unnamed_procedure m
-named_procedure Number m = unnamed_procedure m
+by_way_procedure : (way : Way) (m : List Item) → procedure_in (named_by way m) ≡ procedure_in m
+by_way_procedure Keep m = refl
+by_way_procedure Zero m = unnamed_procedure m
+by_way_procedure Number m = unnamed_procedure m
 
-pub named_spelled : (way : Way) (m : List Item) (bytes : List ℕ) → Spells m bytes → Spells (named_by way m) (zero_spelling (named_by way m))
-named_spelled Keep m bytes p = all_spelled m bytes p
-named_spelled Zero m bytes p = after_spelled 7 m bytes p
-named_spelled Number m bytes p = after_spelled 7 m bytes p
+by_way_spelled : (way : Way) (m : List Item) (bytes : List ℕ) → Spells m bytes → Spells (named_by way m) (zero_spelling (named_by way m))
+by_way_spelled Keep m bytes p = all_spelled m bytes p
+by_way_spelled Zero m bytes p = after_spelled 7 m bytes p
+by_way_spelled Number m bytes p = after_spelled 7 m bytes p
 
-pub named_length : (way : Way) (m : List Item) → length (zero_spelling (named_by way m)) ≤ length (zero_spelling m)
-named_length Keep m = omega arith
-named_length Zero m = after_length 7 m
-named_length Number m = after_length 7 m
+by_way_length : (way : Way) (m : List Item) → length (zero_spelling (named_by way m)) ≤ length (zero_spelling m)
+by_way_length Keep m = omega arith
+by_way_length Zero m = after_length 7 m
+by_way_length Number m = after_length 7 m
 
-pub named_bytes_of : (way : Way) (m : List Item) → FitsCall m → body_by way (zero_spelling m) ≡ zero_spelling (named_by way m)
-named_bytes_of Keep m p = refl
-named_bytes_of Zero m p = call_bytes m p
-named_bytes_of Number m p = call_bytes m p
+by_way_bytes : (way : Way) (m : List Item) → FitsCall m → body_by way (zero_spelling m) ≡ zero_spelling (named_by way m)
+by_way_bytes Keep m p = refl
+by_way_bytes Zero m p = call_bytes m p
+by_way_bytes Number m p = call_bytes m p
+
+-- ---- and with masked texts
+
+module _ (ways : Ways) (m : List Item) where
+  abbrev texts : List Item
+  texts = with_texts ways m
+
+  pub call_named : FitsCall m → FitsCall (named_call ways m)
+  call_named p = by_way_fits ways.machines texts (call_with_texts ways m p)
+
+  pub named_xid : xid_in (named_call ways m) ≡ xid_in m
+  named_xid = by_way_xid ways.machines texts ∙ xid_with_texts ways m
+
+  pub named_procedure : procedure_in (named_call ways m) ≡ procedure_in m
+  named_procedure = by_way_procedure ways.machines texts ∙ procedure_with_texts ways m
+
+  pub named_spelled : (bytes : List ℕ) → Spells m bytes → Spells (named_call ways m) (zero_spelling (named_call ways m))
+  named_spelled bytes p = by_way_spelled ways.machines texts (zero_spelling texts) (spelled_with_texts ways m bytes p)
+
+  pub named_length : length (zero_spelling (named_call ways m)) ≤ length (zero_spelling m)
+  named_length = omega (arith, by_way_length ways.machines texts, length_with_texts ways m)
+
+  pub named_bytes_of : FitsCall m → body_by ways.machines (zero_spelling texts) ≡ zero_spelling (named_call ways m)
+  named_bytes_of p = by_way_bytes ways.machines texts (call_with_texts ways m p)

@@ -1,4 +1,4 @@
--- Names of machines, apart from the values that are masked.
+-- Names of machines and masked texts, apart from the values that are masked.
 use Rattle.std.proofs.Common.{◌≡◌, ℕ, zero, suc, ◌-◌, true, false, List, [], ◌∷◌, ◌++◌, map, refl, sym, ap, ap₂, ◌∙◌, subst, arith}
 use Rattle.std.specs.Prelude.{bytes_eq, if◌then◌else◌, Option, None, Some}
 use Rattle.std.proofs.lemmas.Slice.Eq.{bytes_eq-Decides}
@@ -9,15 +9,18 @@ use Rattle.capture3.specs.Entry.{Entry, Begin, Call, Turn, Reply, Close, End}
 use Rattle.canon3.proofs.Lemmas.Numbers.RankLemmas.{by_test}
 use Rattle.masking3.specs.declared.class.Class.{Class}
 use Rattle.masking3.specs.declared.spot.Spot.{Spot}
-use Rattle.masking3.specs.declared.spot.Spot.TheVariants.{InCall}
+use Rattle.masking3.specs.declared.spot.Spot.TheVariants.{InCall, InReply}
 use Rattle.masking3.specs.declared.ways.Way.{Way}
 use Rattle.masking3.specs.declared.ways.Way.TheVariants.{Keep, Zero, Number}
 use Rattle.masking3.specs.declared.ways.Ways.{Ways}
 use Rattle.masking3.specs.Classes.{class_of, class_of_fixed, class_of_hyper, class_of_word, class_value}
 use Rattle.masking3.specs.Masked.{masked_entry, masked_item, masked_items, masked_values, substitute, value_in, value_where, values, values_in, values_in_entry, with_value}
+use Rattle.masking3.specs.Laws.{TellsNoMore}
+use Rattle.masking3.specs.Texts.{with_text}
 use Rattle.masking3.specs.Unnamed.{after_first, emptied, less_by, named_by, named_entry, names_by, text_size, unnamed_credential}
 use Rattle.masking3.proofs.Lemmas.Classes.ClassLemmas.{seen_alike}
 use Rattle.masking3.proofs.Lemmas.Masked.MaskedLemmas.{unmasked}
+use Rattle.masking3.proofs.Lemmas.Unnamed.TextsLemmas.{Empties, same_size, text_absorbed, text_emptied, text_less, texts_absorbed, texts_kept, texts_masked, texts_values}
 
 -- ---- the length of a credential is of no class
 
@@ -74,17 +77,17 @@ module _ (d : Class) where
   named_values Zero l = after_values 7 l
   named_values Number l = after_values 7 l
 
-  entry_values : (way : Way) (e : Entry) → values_in_entry d (named_entry way e) ≡ values_in_entry d e
-  entry_values way Begin = refl
-  entry_values way (Call items) = named_values way items
-  entry_values way Turn = refl
-  entry_values way (Reply id items) = refl
-  entry_values way Close = refl
-  entry_values way End = refl
+  entry_values : (by : Ways) (e : Entry) → values_in_entry d (named_entry by e) ≡ values_in_entry d e
+  entry_values by Begin = refl
+  entry_values by (Call items) = named_values by.machines (map (with_text by) items) ∙ texts_values by d InCall items
+  entry_values by Turn = refl
+  entry_values by (Reply id items) = texts_values by d InReply items
+  entry_values by Close = refl
+  entry_values by End = refl
 
-  pub all_values : (way : Way) (entries : List Entry) → values (names_by way entries) d ≡ values entries d
-  all_values way [] = refl
-  all_values way (e ∷ entries) = ap₂ (λ (a b : List ℕ). a ++ b) (entry_values way e) (all_values way entries)
+  pub all_values : (by : Ways) (entries : List Entry) → values (names_by by entries) d ≡ values entries d
+  all_values by [] = refl
+  all_values by (e ∷ entries) = ap₂ (λ (a b : List ℕ). a ++ b) (entry_values by e) (all_values by entries)
 
 -- ---- values may be masked first
 
@@ -165,22 +168,22 @@ module _ (ways : Ways) (seen : Class → List ℕ) where
   named_masked Zero l = after_masked 7 l
   named_masked Number l = after_masked 7 l
 
-  entry_masked : (way : Way) (e : Entry) → masked_entry ways seen (named_entry way e) ≡ named_entry way (masked_entry ways seen e)
-  entry_masked way Begin = refl
-  entry_masked way (Call items) = ap Call (named_masked way items)
-  entry_masked way Turn = refl
-  entry_masked way (Reply id items) = refl
-  entry_masked way Close = refl
-  entry_masked way End = refl
+  entry_masked : (by : Ways) (e : Entry) → masked_entry ways seen (named_entry by e) ≡ named_entry by (masked_entry ways seen e)
+  entry_masked by Begin = refl
+  entry_masked by (Call items) = ap Call (named_masked by.machines (map (with_text by) items) ∙ ap (named_by by.machines) (texts_masked by ways seen InCall items))
+  entry_masked by Turn = refl
+  entry_masked by (Reply id items) = ap (Reply id) (texts_masked by ways seen InReply items)
+  entry_masked by Close = refl
+  entry_masked by End = refl
 
-  entries_masked : (way : Way) (entries : List Entry) → map (masked_entry ways seen) (names_by way entries) ≡ names_by way (map (masked_entry ways seen) entries)
-  entries_masked way [] = refl
-  entries_masked way (e ∷ entries) = ap₂ (λ (f : Entry) (l : List Entry). f ∷ l) (entry_masked way e) (entries_masked way entries)
+  entries_masked : (by : Ways) (entries : List Entry) → map (masked_entry ways seen) (names_by by entries) ≡ names_by by (map (masked_entry ways seen) entries)
+  entries_masked by [] = refl
+  entries_masked by (e ∷ entries) = ap₂ (λ (f : Entry) (l : List Entry). f ∷ l) (entry_masked by e) (entries_masked by entries)
 
-pub values_of_named : (ways : Ways) (way : Way) (entries : List Entry) → masked_values ways (names_by way entries) ≡ names_by way (masked_values ways entries)
-values_of_named ways way entries =
-    ap (λ (seen : Class → List ℕ). map (masked_entry ways seen) (names_by way entries)) (seen_alike (values (names_by way entries)) (values entries) (λ d. all_values d way entries))
-    ∙ entries_masked ways (values entries) way entries
+pub values_of_named : (ways by : Ways) (entries : List Entry) → masked_values ways (names_by by entries) ≡ names_by by (masked_values ways entries)
+values_of_named ways by entries =
+    ap (λ (seen : Class → List ℕ). map (masked_entry ways seen) (names_by by entries)) (seen_alike (values (names_by by entries)) (values entries) (λ d. all_values d by entries))
+    ∙ entries_masked ways (values entries) by entries
 
 -- ---- once is enough
 
@@ -224,33 +227,84 @@ after_again zero l = credential_again l
 after_again (suc n) [] = refl
 after_again (suc n) (i ∷ l) = ap (λ (a : List Item). i ∷ a) (after_again n l)
 
-named_again : (way : Way) (l : List Item) → named_by way (named_by way l) ≡ named_by way l
-named_again Keep l = refl
-named_again Zero l = after_again 7 l
-named_again Number l = after_again 7 l
+-- ---- masking as much or more leaves nothing of masking before
 
-entry_again : (way : Way) (e : Entry) → named_entry way (named_entry way e) ≡ named_entry way e
-entry_again way Begin = refl
-entry_again way (Call items) = ap Call (named_again way items)
-entry_again way Turn = refl
-entry_again way (Reply id items) = refl
-entry_again way Close = refl
-entry_again way End = refl
+module _ (ways others : Ways) (machines : TellsNoMore ways.machines others.machines) (silly : TellsNoMore ways.silly_names others.silly_names) where
+  abbrev before : Item → Item
+  before = with_text ways
 
-pub names_again : (way : Way) (entries : List Entry) → names_by way (names_by way entries) ≡ names_by way entries
-names_again way [] = refl
-names_again way (e ∷ entries) = ap₂ (λ (f : Entry) (l : List Entry). f ∷ l) (entry_again way e) (names_again way entries)
+  abbrev later : Item → Item
+  later = with_text others
+
+  text_later : (i : Item) → later (before i) ≡ later i
+  text_later = text_absorbed ways others machines silly
+
+  texts_later : (l : List Item) → map later (map before l) ≡ map later l
+  texts_later = texts_absorbed ways others machines silly
+
+  module _ (first : Empties ways.machines) (second : Empties others.machines) where
+    less_later : (i k : Item) → later (less_by (text_size (before k)) (before i)) ≡ less_by (text_size (later k)) (later i)
+    less_later i k = text_less others (text_size (before k)) (before i) ∙ ap₂ less_by (same_size ways others first second k) (text_later i)
+
+    emptied_later : (k : Item) → later (emptied (before k)) ≡ emptied (later k)
+    emptied_later k = text_emptied others (before k) ∙ ap emptied (text_later k)
+
+    credential_later : (l : List Item) → map later (unnamed_credential (map before l)) ≡ unnamed_credential (map later l)
+    credential_later [] = refl
+    credential_later (i ∷ []) = texts_later (i ∷ [])
+    credential_later (i ∷ j ∷ []) = texts_later (i ∷ j ∷ [])
+    credential_later (i ∷ j ∷ k ∷ l) =
+        ap₂ (λ (a : Item) (m : List Item). a ∷ m) (less_later i k)
+        (ap₂ (λ (a : Item) (m : List Item). a ∷ m) (text_later j) (ap₂ (λ (a : Item) (m : List Item). a ∷ m) (emptied_later k) (texts_later l)))
+
+    after_later : (n : ℕ) (l : List Item) → map later (after_first n unnamed_credential (map before l)) ≡ after_first n unnamed_credential (map later l)
+    after_later zero l = credential_later l
+    after_later (suc n) [] = refl
+    after_later (suc n) (i ∷ l) = ap₂ (λ (a : Item) (m : List Item). a ∷ m) (text_later i) (after_later n l)
+
+    unnamed_later : (l : List Item) → after_first 7 unnamed_credential (map later (after_first 7 unnamed_credential (map before l))) ≡ after_first 7 unnamed_credential (map later l)
+    unnamed_later l = ap (after_first 7 unnamed_credential) (after_later 7 l) ∙ after_again 7 (map later l)
+
+  call_later : (w v : Way) → ways.machines ≡ w → others.machines ≡ v → TellsNoMore w v → (l : List Item) → named_by v (map later (named_by w (map before l))) ≡ named_by v (map later l)
+  call_later Keep v e f t l = ap (named_by v) (texts_later l)
+  call_later Number Keep e f t l = absurd t
+  call_later Number Number e f t l = unnamed_later (subst Empties (sym e) tt) (subst Empties (sym f) tt) l
+  call_later Number Zero e f t l = unnamed_later (subst Empties (sym e) tt) (subst Empties (sym f) tt) l
+  call_later Zero Keep e f t l = absurd t
+  call_later Zero Number e f t l = absurd t
+  call_later Zero Zero e f t l = unnamed_later (subst Empties (sym e) tt) (subst Empties (sym f) tt) l
+
+  entry_later : (e : Entry) → named_entry others (named_entry ways e) ≡ named_entry others e
+  entry_later Begin = refl
+  entry_later (Call items) = ap Call (call_later ways.machines others.machines refl refl machines items)
+  entry_later Turn = refl
+  entry_later (Reply id items) = ap (Reply id) (texts_later items)
+  entry_later Close = refl
+  entry_later End = refl
+
+  pub names_absorbed : (entries : List Entry) → names_by others (names_by ways entries) ≡ names_by others entries
+  names_absorbed [] = refl
+  names_absorbed (e ∷ entries) = ap₂ (λ (f : Entry) (l : List Entry). f ∷ l) (entry_later e) (names_absorbed entries)
+
+as_much : (way : Way) → TellsNoMore way way
+as_much Keep = tt
+as_much Number = tt
+as_much Zero = tt
+
+pub names_again : (ways : Ways) (entries : List Entry) → names_by ways (names_by ways entries) ≡ names_by ways entries
+names_again ways entries = names_absorbed ways ways (as_much ways.machines) (as_much ways.silly_names) entries
 
 -- ---- names that stay
 
-entry_kept : (e : Entry) → named_entry Keep e ≡ e
-entry_kept Begin = refl
-entry_kept (Call items) = refl
-entry_kept Turn = refl
-entry_kept (Reply id items) = refl
-entry_kept Close = refl
-entry_kept End = refl
+module _ (ways : Ways) (machines : ways.machines ≡ Keep) (silly : ways.silly_names ≡ Keep) where
+  entry_kept : (e : Entry) → named_entry ways e ≡ e
+  entry_kept Begin = refl
+  entry_kept (Call items) = ap Call (ap (λ way. named_by way (map (with_text ways) items)) machines ∙ texts_kept ways machines silly items)
+  entry_kept Turn = refl
+  entry_kept (Reply id items) = ap (Reply id) (texts_kept ways machines silly items)
+  entry_kept Close = refl
+  entry_kept End = refl
 
-pub names_kept : (entries : List Entry) → names_by Keep entries ≡ entries
-names_kept [] = refl
-names_kept (e ∷ entries) = ap₂ (λ (f : Entry) (l : List Entry). f ∷ l) (entry_kept e) (names_kept entries)
+  pub names_kept : (entries : List Entry) → names_by ways entries ≡ entries
+  names_kept [] = refl
+  names_kept (e ∷ entries) = ap₂ (λ (f : Entry) (l : List Entry). f ∷ l) (entry_kept e) (names_kept entries)

@@ -1,5 +1,5 @@
--- Captures that are renamed, or whose values change, do so without the names of machines as well.
-use Rattle.std.proofs.Common.{◌≡◌, ℕ, zero, suc, false, List, refl, sym, ap, subst}
+-- Captures that are renamed, or whose values change, do so with masked names as well.
+use Rattle.std.proofs.Common.{◌≡◌, ℕ, zero, suc, false, List, map, refl, sym, ap, subst}
 use Rattle.std.specs.Prelude.{bytes_eq, Option, None, Some}
 use Rattle.xdr3.specs.Item.{Item, Word, Hyper, Fixed, WriteVerf, Opaque, Rest, Var, Text, Handle}
 use Rattle.rpc_head.specs.Names.{head_names}
@@ -8,14 +8,18 @@ use Rattle.canon3.specs.Pairing.{Pairs}
 use Rattle.canon3.specs.Renaming.{IsPlain, RenamesItem, handle, verifier, plain, Pairwise, none, more, RenamesMessage, message, Renames, ended, begins, calls, turns, replies, closes, ends, Same}
 use Rattle.canon3.proofs.Lemmas.Numbers.RankLemmas.{by_test}
 use Rattle.masking3.specs.declared.class.Class.{Class}
-use Rattle.masking3.specs.declared.spot.Spot.TheVariants.{InCall}
+use Rattle.masking3.specs.declared.spot.Spot.{Spot}
+use Rattle.masking3.specs.declared.spot.Spot.TheVariants.{InCall, InReply}
 use Rattle.masking3.specs.declared.ways.Way.{Way}
 use Rattle.masking3.specs.declared.ways.Way.TheVariants.{Keep, Zero, Number}
 use Rattle.masking3.specs.declared.ways.Ways.{Ways}
 use Rattle.masking3.specs.Classes.{class_of}
 use Rattle.masking3.specs.SameBut.{AreAlike, words, hypers, eights, ChangesBy, ChangesOf, ChangesItem, ChangesItems, over, along, ChangesEntry, begin, call, turn, reply, close, end}
+use Rattle.masking3.specs.Spots.{next_spot}
+use Rattle.masking3.specs.Texts.{with_text}
 use Rattle.masking3.specs.Unnamed.{after_first, emptied, less_by, named_by, names_by, text_size, unnamed_credential}
 use Rattle.masking3.specs.Ways.{way_of}
+use Rattle.masking3.proofs.Lemmas.Unnamed.TextsLemmas.{by_text, text_spot}
 use Rattle.masking3.proofs.Lemmas.Unnamed.UnnamedLemmas.{free_length, other_word}
 
 -- ---- item by item
@@ -77,24 +81,37 @@ module _ {ps vs : Pairs (List ℕ)} where
   message_renamed Zero (message b p) = message b (after_renamed 6 p)
   message_renamed Number (message b p) = message b (after_renamed 6 p)
 
-  entries_renamed : {xs : Pairs ℕ} {xss : List (Pairs ℕ)} (way : Way) {a b : List Entry} → Renames ps vs xs xss a b → Renames ps vs xs xss (names_by way a) (names_by way b)
-  entries_renamed way ended = ended
-  entries_renamed way (begins r) = begins (entries_renamed way r)
-  entries_renamed way (calls m r) = calls (message_renamed way m) (entries_renamed way r)
-  entries_renamed way (turns r) = turns (entries_renamed way r)
-  entries_renamed way (replies m r) = replies m (entries_renamed way r)
-  entries_renamed way (closes r) = closes (entries_renamed way r)
-  entries_renamed way (ends r) = ends (entries_renamed way r)
+  module _ (by : Ways) where
+    text_renamed : (i j : Item) → RenamesItem ps vs i j → RenamesItem ps vs (with_text by i) (with_text by j)
+    text_renamed i j (handle m) = handle m
+    text_renamed i j (verifier m) = verifier m
+    text_renamed i j (plain item p) = plain (with_text by item) (by_text by (λ i j. IsPlain i → IsPlain j) (λ i p. p) (λ name b p. tt) item p)
 
-pub same_named : (way : Way) {a b : List Entry} → Same a b → Same (names_by way a) (names_by way b)
-same_named way s = record {
+    texts_renamed : {l m : List Item} → Pairwise (RenamesItem ps vs) l m → Pairwise (RenamesItem ps vs) (map (with_text by) l) (map (with_text by) m)
+    texts_renamed none = none
+    texts_renamed (more {x = i} {y = j} a p) = more (text_renamed i j a) (texts_renamed p)
+
+    texts_of_message : {xs : Pairs ℕ} {l m : List Item} → RenamesMessage ps vs xs l m → RenamesMessage ps vs xs (map (with_text by) l) (map (with_text by) m)
+    texts_of_message (message b p) = message b (texts_renamed p)
+
+    entries_renamed : {xs : Pairs ℕ} {xss : List (Pairs ℕ)} {a b : List Entry} → Renames ps vs xs xss a b → Renames ps vs xs xss (names_by by a) (names_by by b)
+    entries_renamed ended = ended
+    entries_renamed (begins r) = begins (entries_renamed r)
+    entries_renamed (calls m r) = calls (message_renamed by.machines (texts_of_message m)) (entries_renamed r)
+    entries_renamed (turns r) = turns (entries_renamed r)
+    entries_renamed (replies m r) = replies (texts_of_message m) (entries_renamed r)
+    entries_renamed (closes r) = closes (entries_renamed r)
+    entries_renamed (ends r) = ends (entries_renamed r)
+
+pub same_named : (by : Ways) {a b : List Entry} → Same a b → Same (names_by by a) (names_by by b)
+same_named by s = record {
   handle_pairs = s.handle_pairs;
   verifier_pairs = s.verifier_pairs;
   xid_pairs = s.xid_pairs;
   handles_one_to_one = s.handles_one_to_one;
   verifiers_one_to_one = s.verifiers_one_to_one;
   xids_one_to_one = s.xids_one_to_one;
-  renames = entries_renamed way s.renames;
+  renames = entries_renamed by s.renames;
 }
 
 -- ---- changes
@@ -124,6 +141,11 @@ emptied_alike i j words e = refl
 emptied_alike i j hypers e = refl
 emptied_alike i j eights e = refl
 
+text_alike : (by : Ways) (i j : Item) → AreAlike i j → StayTogether (with_text by) i j
+text_alike by i j words e = refl
+text_alike by i j hypers e = refl
+text_alike by i j eights e = refl
+
 -- a name that is no length's
 abbrev IsNoLength : Item → Type 0
 IsNoLength (Word name n) = bytes_eq name head_names.cred_length ≡ false
@@ -150,15 +172,15 @@ module _ (ways : Ways) (pairs : Class → Pairs ℕ) where
   size_changed i j h = changed_is (λ i j. text_size i ≡ text_size j) (λ i. refl) size_alike ways pairs (class_of InCall i) i j h
 
   -- an item that stays
-  emptied_stays : (i j : Item) → emptied i ≡ i → ChangesItem ways pairs InCall i j → ChangesItem ways pairs InCall (emptied i) (emptied j)
-  emptied_stays i j e h =
-      subst (λ k. ChangesItem ways pairs InCall k (emptied j)) (sym e)
-      (subst (ChangesItem ways pairs InCall i) (sym (changed_is (StayTogether emptied) (λ k s. s) emptied_alike ways pairs (class_of InCall i) i j h e)) h)
+  stays_changed : (f : Item → Item) → ((i j : Item) → AreAlike i j → StayTogether f i j) → (spot : Spot) (i j : Item) → f i ≡ i → ChangesItem ways pairs spot i j → ChangesItem ways pairs spot (f i) (f j)
+  stays_changed f alike spot i j e h =
+      subst (λ k. ChangesItem ways pairs spot k (f j)) (sym e)
+      (subst (ChangesItem ways pairs spot i) (sym (changed_is (StayTogether f) (λ k s. s) alike ways pairs (class_of spot i) i j h e)) h)
 
   emptied_changed : (i j : Item) → ChangesItem ways pairs InCall i j → ChangesItem ways pairs InCall (emptied i) (emptied j)
-  emptied_changed (Word name n) j h = emptied_stays (Word name n) j refl h
-  emptied_changed (Hyper name n) j h = emptied_stays (Hyper name n) j refl h
-  emptied_changed (Fixed name b) j h = emptied_stays (Fixed name b) j refl h
+  emptied_changed (Word name n) j h = stays_changed emptied emptied_alike InCall (Word name n) j refl h
+  emptied_changed (Hyper name n) j h = stays_changed emptied emptied_alike InCall (Hyper name n) j refl h
+  emptied_changed (Fixed name b) j h = stays_changed emptied emptied_alike InCall (Fixed name b) j refl h
   emptied_changed (WriteVerf name b) j h = ap emptied h
   emptied_changed (Opaque Var name b) j h = ap emptied h
   emptied_changed (Opaque Text name b) j h = ap emptied h
@@ -199,11 +221,31 @@ module _ (ways : Ways) (pairs : Class → Pairs ℕ) where
   message_changed Zero p = after_changed p
   message_changed Number p = after_changed p
 
-  pub changes_named : (way : Way) {a b : List Entry} → Pairwise (ChangesEntry ways pairs) a b → Pairwise (ChangesEntry ways pairs) (names_by way a) (names_by way b)
-  changes_named way none = none
-  changes_named way (more begin p) = more begin (changes_named way p)
-  changes_named way (more (call c) p) = more (call (message_changed way c)) (changes_named way p)
-  changes_named way (more turn p) = more turn (changes_named way p)
-  changes_named way (more (reply c) p) = more (reply c) (changes_named way p)
-  changes_named way (more close p) = more close (changes_named way p)
-  changes_named way (more end p) = more end (changes_named way p)
+  module _ (by : Ways) where
+    text_stays : (spot : Spot) (i j : Item) → with_text by i ≡ i → ChangesItem ways pairs spot i j → ChangesItem ways pairs spot (with_text by i) (with_text by j)
+    text_stays spot i j e h = stays_changed (with_text by) (text_alike by) spot i j e h
+
+    text_changed : (spot : Spot) (i j : Item) → ChangesItem ways pairs spot i j → ChangesItem ways pairs spot (with_text by i) (with_text by j)
+    text_changed spot (Word name n) j h = text_stays spot (Word name n) j refl h
+    text_changed spot (Hyper name n) j h = text_stays spot (Hyper name n) j refl h
+    text_changed spot (Fixed name b) j h = text_stays spot (Fixed name b) j refl h
+    text_changed spot (WriteVerf name b) j h = ap (with_text by) h
+    text_changed spot (Opaque Var name b) j h = ap (with_text by) h
+    text_changed spot (Opaque Text name b) j h = ap (with_text by) h
+    text_changed spot (Opaque Handle name b) j h = ap (with_text by) h
+    text_changed spot (Rest name b) j h = ap (with_text by) h
+
+    texts_changed : (spot : Spot) {l m : List Item} → ChangesItems ways pairs spot l m → ChangesItems ways pairs spot (map (with_text by) l) (map (with_text by) m)
+    texts_changed spot over = over
+    texts_changed spot (along {i = i} {j = j} {a = a} {b = b} c p) =
+        along (text_changed spot i j c)
+        (subst (λ (s : Spot). ChangesItems ways pairs s (map (with_text by) a) (map (with_text by) b)) (sym (text_spot by spot i)) (texts_changed (next_spot spot i) p))
+
+    pub changes_named : {a b : List Entry} → Pairwise (ChangesEntry ways pairs) a b → Pairwise (ChangesEntry ways pairs) (names_by by a) (names_by by b)
+    changes_named none = none
+    changes_named (more begin p) = more begin (changes_named p)
+    changes_named (more (call c) p) = more (call (message_changed by.machines (texts_changed InCall c))) (changes_named p)
+    changes_named (more turn p) = more turn (changes_named p)
+    changes_named (more (reply c) p) = more (reply (texts_changed InReply c)) (changes_named p)
+    changes_named (more close p) = more close (changes_named p)
+    changes_named (more end p) = more end (changes_named p)

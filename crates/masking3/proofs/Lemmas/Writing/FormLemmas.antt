@@ -32,6 +32,7 @@ use Rattle.masking3.proofs.Lemmas.Masked.MaskedLemmas.{form_grows, last_bytes}
 use Rattle.masking3.proofs.Lemmas.Masked.MaskedMessages.{call_under}
 use Rattle.masking3.proofs.Lemmas.Classes.MessageSpotLemmas.{begins_call, begins_none, begins_reply, entry_side}
 use Rattle.masking3.proofs.Lemmas.Writing.ToldItems.{values_with_last}
+use Rattle.masking3.proofs.Lemmas.Unnamed.TextShapes.{with_texts}
 use Rattle.masking3.proofs.Lemmas.Unnamed.UnnamedCalls.{named_bytes_of}
 
 -- ---- the bytes of an entry
@@ -68,22 +69,22 @@ last_begins entries one first = fitting_begins one (last_fitting entries one fir
 
 module _ (ways : Ways) (seen : Class → List ℕ) (body : List ℕ) where
   abbrev IsWrittenAs : Kind → Entry → Type 0
-  IsWrittenAs kind one = IsFitting one → body ≡ zero_spelling (masked_items ways seen (first_spot (entry_side one)) (items_of one)) → written_as ways.machines kind body ≡ entry_bytes (named_entry ways.machines (masked_entry ways seen one))
+  IsWrittenAs kind one = IsFitting one → body ≡ zero_spelling (with_texts ways (masked_items ways seen (first_spot (entry_side one)) (items_of one))) → written_as ways.machines kind body ≡ entry_bytes (named_entry ways (masked_entry ways seen one))
 
   of_kind : (kind : Kind) (one : Entry) → IsOfKind kind one → IsWrittenAs kind one
   of_kind kinds.Begin one is = subst (IsWrittenAs kinds.Begin) (sym is) (λ f b. refl)
   of_kind (kinds.Call id) one (items, asks, is) =
-      subst (IsWrittenAs (kinds.Call id)) (sym is) (λ f b. ap (λ (l : List ℕ). chunk_bytes (record_bytes l)) (ap (body_by ways.machines) b ∙ named_bytes_of ways.machines (masked_items ways seen InCall items) (call_under ways seen items f)))
+      subst (IsWrittenAs (kinds.Call id)) (sym is) (λ f b. ap (λ (l : List ℕ). chunk_bytes (record_bytes l)) (ap (body_by ways.machines) b ∙ named_bytes_of ways (masked_items ways seen InCall items) (call_under ways seen items f)))
   of_kind kinds.Turn one is = subst (IsWrittenAs kinds.Turn) (sym is) (λ f b. refl)
   of_kind (kinds.Reply id) one (items, is) = subst (IsWrittenAs (kinds.Reply id)) (sym is) (λ f b. ap (λ (l : List ℕ). chunk_bytes (record_bytes l)) b)
   of_kind kinds.Close one is = subst (IsWrittenAs kinds.Close) (sym is) (λ f b. refl)
   of_kind kinds.End one is = subst (IsWrittenAs kinds.End) (sym is) (λ f b. refl)
 
 pub entry_is : (ways : Ways) (body : List ℕ) (kind : Kind) (entries : List Entry) (one : Entry) → IsOfKind kind one → AreFirst (entries ++ one ∷ [])
-    → body ≡ zero_spelling (masked_items ways (values_so_far (flat_map told_entry entries) (entry_side one) (items_of one)) (first_spot (entry_side one)) (items_of one)) → written_as ways.machines kind body ≡ last_bytes ways entries one
+    → body ≡ zero_spelling (with_texts ways (masked_items ways (values_so_far (flat_map told_entry entries) (entry_side one) (items_of one)) (first_spot (entry_side one)) (items_of one))) → written_as ways.machines kind body ≡ last_bytes ways entries one
 entry_is ways body kind entries one of first is =
     of_kind ways (values_so_far (flat_map told_entry entries) (entry_side one) (items_of one)) body kind one of (last_fitting entries one first) is
-    ∙ ap (λ (seen : Class → List ℕ). entry_bytes (named_entry ways.machines (masked_entry ways seen one))) (values_with_last entries one)
+    ∙ ap (λ (seen : Class → List ℕ). entry_bytes (named_entry ways (masked_entry ways seen one))) (values_with_last entries one)
 
 -- ---- one entry more, where the sink had the old bytes first, and then these in turn
 

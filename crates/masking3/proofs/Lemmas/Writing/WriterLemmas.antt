@@ -1,8 +1,9 @@
 -- A message is masked item by item.
-use Rattle.std.proofs.Common.{◌≡◌, ℕ, List, [], ◌∷◌, ◌++◌, length, refl, sym, ap, ap₂, ◌∙◌, subst, append_assoc, append-nil, arith}
+use Rattle.std.proofs.Common.{◌≡◌, ℕ, List, [], ◌∷◌, ◌++◌, length, map, refl, sym, ap, ap₂, ◌∙◌, subst, append_assoc, append-nil, arith}
 use Rattle.std.specs.Prelude.{Option, None, Some}
 use Rattle.std.specs.List.{flat_map}
 use Rattle.std.proofs.lemmas.Grind.{flat_map-append}
+use Rattle.std.proofs.lemmas.List.{map-append}
 use Rattle.xdr3.specs.Item.{Item, Word, Hyper, Fixed, WriteVerf, Opaque, Rest, zero_spelling}
 use Rattle.xdr3.specs.Visit.{Adds, Keeps}
 use Rattle.nfs3_types.specs.declared.values.handle.Handle as handles
@@ -18,6 +19,7 @@ use Rattle.masking3.specs.declared.ways.Ways.{Ways}
 use Rattle.masking3.specs.declared.class.Class.{Class}
 use Rattle.masking3.specs.Classes.{class_of, class_value}
 use Rattle.masking3.specs.Masked.{masked_item, masked_items, substitute, value_in, value_where, values_in, with_value}
+use Rattle.masking3.specs.Texts.{with_text}
 use Rattle.masking3.specs.machinery.ClassTables.{HoldsValues, tables_in, with_one}
 use Rattle.masking3.specs.machinery.MaskingWriter.{after_messages, HasMaskedUnderWay, HasMemory, MaskStands, told_items, told_value, values_so_far}
 use Rattle.masking3.specs.machinery.MessageSpot.{BeginsOn, class_found, first_spot, found_next}
@@ -121,7 +123,7 @@ module _ {P S H : Type 0} (ways : Ways) (w : MaskingWriter P S H) where
         are,
         (λ side begins.
             let h = is side begins in
-            record { ways_are = h.ways_are; tables = h.tables; handles = h.handles; spot_is = h.spot_is; written = keeps (masked_items ways (values_so_far front side items) (first_spot side) items) h.written }),
+            record { ways_are = h.ways_are; tables = h.tables; handles = h.handles; spot_is = h.spot_is; written = keeps (map (with_text ways) (masked_items ways (values_so_far front side items) (first_spot side) items)) h.written }),
       )
 
   -- ---- one item more
@@ -133,7 +135,7 @@ module _ {P S H : Type 0} (ways : Ways) (w : MaskingWriter P S H) where
 
     -- what is written for it
     abbrev put : Ways → (Class → List ℕ) → Item
-    put by seen = with_value i (substitute by (more_values seen) own (class_value i))
+    put by seen = with_text by (with_value i (substitute by (more_values seen) own (class_value i)))
 
     one_more : (front : List Item) (side : Side) (items : List Item) → HasMaskedUnderWay ways w front side items → own ≡ class_of (spot_of_next side items) i → spot ≡ found_next w.spot i → classes.ways ≡ ways
         → HoldsValues ways (tables_in classes) (more_values (values_so_far front side items)) → Gathers gathered (front ++ (items ++ i ∷ [])) → Adds Spells w.writer bytes (put ways (values_so_far front side items) ∷ [])
@@ -146,16 +148,19 @@ module _ {P S H : Type 0} (ways : Ways) (w : MaskingWriter P S H) where
         let now : more_values so_far ≡ values_so_far front side (items ++ i ∷ []) = ap (λ o. with_one so_far o (class_value i)) found ∙ so_far_more side front items i in
         let before : List Item = masked_items ways so_far first items in
         let stay : masked_items ways (more_values so_far) first items ≡ before = items_stay ways so_far (λ d. value_where d own (class_value i)) first items (among_so_far side front items) in
-        let item : put ways so_far ≡ masked_item ways (more_values so_far) later i = ap (λ o. with_value i (substitute ways (more_values so_far) o (class_value i))) found in
-        let added : bytes ≡ zero_spelling (before ++ put ways so_far ∷ []) = write before is.written in
-        let whole : before ++ put ways so_far ∷ [] ≡ masked_items ways (more_values so_far) first (items ++ i ∷ []) =
+        let item : with_value i (substitute ways (more_values so_far) own (class_value i)) ≡ masked_item ways (more_values so_far) later i = ap (λ o. with_value i (substitute ways (more_values so_far) o (class_value i))) found in
+        let texts : List Item → List Item = map (with_text ways) in
+        let added : bytes ≡ zero_spelling (texts before ++ put ways so_far ∷ []) = write (texts before) is.written in
+        let masked : before ++ with_value i (substitute ways (more_values so_far) own (class_value i)) ∷ [] ≡ masked_items ways (more_values so_far) first (items ++ i ∷ []) =
         ap₂ (λ (l : List Item) (j : Item). l ++ j ∷ []) (sym stay) item ∙ sym (masked_items-append ways (more_values so_far) first items (i ∷ [])) in
+        let whole : texts before ++ put ways so_far ∷ [] ≡ texts (masked_items ways (more_values so_far) first (items ++ i ∷ [])) =
+        sym (map-append (with_text ways) before (with_value i (substitute ways (more_values so_far) own (class_value i)) ∷ [])) ∙ ap texts masked in
         record {
           ways_are = are;
           tables = subst (HoldsValues ways (tables_in classes)) now tables;
           handles = gathers;
           spot_is = moved ∙ ap (λ (o : Option Spot). found_next o i) is.spot_is ∙ sym (found_more items i);
-          written = subst (λ (seen : Class → List ℕ). bytes ≡ zero_spelling (masked_items ways seen first (items ++ i ∷ []))) now (added ∙ ap zero_spelling whole);
+          written = subst (λ (seen : Class → List ℕ). bytes ≡ zero_spelling (texts (masked_items ways seen first (items ++ i ∷ [])))) now (added ∙ ap zero_spelling whole);
         }
 
     -- the class is that at the writer's spot, and what follows is at the next one
@@ -191,11 +196,11 @@ module _ {P S H : Type 0} (ways : Ways) (w : MaskingWriter P S H) where
       → IsFound own w.handles classes bytes spot i
       → ((seen : Class → List ℕ) → HoldsValues w.classes.ways (tables_in w.classes) seen → HoldsValues classes.ways (tables_in classes) (with_one seen own n))
       → ((seen : Class → List ℕ) → HoldsValues w.classes.ways (tables_in w.classes) seen → o ≡ substitute w.classes.ways (with_one seen own n) own n)
-      → with_value i o ≡ j → Adds Spells w.writer bytes (j ∷ []) → Adds (MaskStands ways) w (with_parts w.handles classes bytes spot) (i ∷ [])
+      → with_text w.classes.ways (with_value i o) ≡ j → Adds Spells w.writer bytes (j ∷ []) → Adds (MaskStands ways) w (with_parts w.handles classes bytes spot) (i ∷ [])
   adds_of_class own n classes bytes spot i j o value none same found tables is with_it write =
       adds own w.handles classes bytes spot i same found (λ seen h. subst (λ m. HoldsValues classes.ways (tables_in classes) (with_one seen own m)) value (tables seen h)) (λ items g. gathers_none w.handles items (i ∷ []) none g)
       (λ seen h. let put_is : o ≡ substitute w.classes.ways (with_one seen own (class_value i)) own (class_value i) = is seen h ∙ ap (λ m. substitute w.classes.ways (with_one seen own m) own m) value in
-      subst (λ k. Adds Spells w.writer bytes (k ∷ [])) (sym with_it ∙ ap (with_value i) put_is) write)
+      subst (λ k. Adds Spells w.writer bytes (k ∷ [])) (sym with_it ∙ ap (λ p. with_text w.classes.ways (with_value i p)) put_is) write)
 
   -- ---- an item that is no word moves nowhere
 
@@ -219,14 +224,14 @@ module _ {P S H : Type 0} (ways : Ways) (w : MaskingWriter P S H) where
   finds_none i none None = refl
   finds_none i none (Some spot) = sym (none spot)
 
-  adds_classless : (gathered : List handles.Handle) (bytes : List ℕ) (i : Item) → IsNoWord i → IsClassless i → ((items : List Item) → Gathers w.handles items → Gathers gathered (items ++ i ∷ [])) → Adds Spells w.writer bytes (i ∷ [])
+  adds_classless : (gathered : List handles.Handle) (bytes : List ℕ) (i : Item) → IsNoWord i → IsClassless i → ((items : List Item) → Gathers w.handles items → Gathers gathered (items ++ i ∷ [])) → Adds Spells w.writer bytes (with_text w.classes.ways i ∷ [])
       → Adds (MaskStands ways) w (with_parts gathered w.classes bytes w.spot) (i ∷ [])
   adds_classless gathered bytes i other none gathers write =
       adds None gathered w.classes bytes w.spot i refl (finds_none i none w.spot, stays_found i other) (λ seen h. holds_without w.classes.ways (tables_in w.classes) seen None (class_value i) refl h) gathers (λ seen h. write)
 
-  pub adds_plain : (bytes : List ℕ) (i : Item) → IsNoWord i → IsClassless i → handles_in (i ∷ []) ≡ [] → Adds Spells w.writer bytes (i ∷ []) → Adds (MaskStands ways) w (with_parts w.handles w.classes bytes w.spot) (i ∷ [])
+  pub adds_plain : (bytes : List ℕ) (i : Item) → IsNoWord i → IsClassless i → handles_in (i ∷ []) ≡ [] → Adds Spells w.writer bytes (with_text w.classes.ways i ∷ []) → Adds (MaskStands ways) w (with_parts w.handles w.classes bytes w.spot) (i ∷ [])
   adds_plain bytes i other none empty write = adds_classless w.handles bytes i other none (λ items g. gathers_none w.handles items (i ∷ []) empty g) write
 
-  pub adds_handle : (gathered : List handles.Handle) (bytes : List ℕ) (i : Item) → IsNoWord i → IsClassless i → Adds Gathers w.handles gathered (i ∷ []) → Adds Spells w.writer bytes (i ∷ []) → Adds (MaskStands ways) w (with_parts gathered w.classes bytes w.spot) (i ∷ [])
+  pub adds_handle : (gathered : List handles.Handle) (bytes : List ℕ) (i : Item) → IsNoWord i → IsClassless i → Adds Gathers w.handles gathered (i ∷ []) → Adds Spells w.writer bytes (with_text w.classes.ways i ∷ []) → Adds (MaskStands ways) w (with_parts gathered w.classes bytes w.spot) (i ∷ [])
   unfolding Adds
   adds_handle gathered bytes i other none gathers write = adds_classless gathered bytes i other none gathers write

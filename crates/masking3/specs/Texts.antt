@@ -1,0 +1,58 @@
+-- Texts that are masked: names that the Linux client makes up, and names of hosts.
+use Rattle.std.specs.Prelude.{ℕ, ◌==◌, ◌&&◌, ◌||◌, nat_le, bytes_eq, codes, Bool, if◌then◌else◌, List, [], length, take, drop}
+use Rattle.std.specs.List.{list_all}
+use Rattle.xdr3.specs.Item.{Item, Opaque, Text}
+use Rattle.nfs3_types.specs.Names.{names}
+use Rattle.masking3.specs.declared.ways.Way.{Way}
+use Rattle.masking3.specs.declared.ways.Way.TheVariants.{Keep, Zero, Number}
+use Rattle.masking3.specs.declared.ways.Ways.{Ways}
+
+-- ---- names of files that were removed while they were open
+
+-- the code of a digit 0 to 9 or a to f
+abbrev pub is_silly_digit : ℕ → Bool
+is_silly_digit code = (nat_le 48 code && nat_le code 57) || (nat_le 97 code && nat_le code 102)
+
+-- The Linux client renames a file that is removed while it is open: to `.nfs`, sixteen hexadecimal
+-- digits of the file id and eight of a counter.
+abbrev pub is_silly_name : List ℕ → Bool
+is_silly_name bytes =
+    (length bytes == 28)
+    && (bytes_eq (take 4 bytes) (codes ".nfs") && list_all is_silly_digit (drop 4 bytes))
+
+abbrev pub silly_zero : List ℕ
+silly_zero = codes ".nfs000000000000000000000000"
+
+-- all digits become 0; other names stay
+abbrev pub zero_name : List ℕ → List ℕ
+zero_name bytes = if is_silly_name bytes then silly_zero else bytes
+
+-- a name has no number
+abbrev pub silly_by : Way → List ℕ → List ℕ
+silly_by Keep bytes = bytes
+silly_by Zero bytes = zero_name bytes
+silly_by Number bytes = zero_name bytes
+
+-- ---- names of hosts
+
+-- what becomes of the name of a machine that is a text of its own
+abbrev pub host_by : Way → List ℕ → List ℕ
+host_by Keep bytes = bytes
+host_by Zero bytes = []
+host_by Number bytes = []
+
+-- ---- any text
+
+-- Names of files in arguments and in directories have the item name `name` (RFC 1813, section 3.3);
+-- so have the groups of exports (section 5.2.5). The name `hostname` is that of a host in DUMP's
+-- results alone (section 5.2.2).
+abbrev pub text_by : Ways → (name bytes : List ℕ) → List ℕ
+text_by ways name bytes =
+    (if bytes_eq name names.name then silly_by ways.silly_names bytes else
+    (if bytes_eq name names.hostname then host_by ways.machines bytes else
+    bytes))
+
+-- a text with what becomes of its bytes; any other item stays
+abbrev pub with_text : Ways → Item → Item
+with_text ways (Opaque Text name bytes) = Opaque Text name (text_by ways name bytes)
+with_text ways item = item
