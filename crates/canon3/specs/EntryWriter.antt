@@ -37,31 +37,44 @@ module _ (form : List Entry → List ℕ) where
   IsStoppedBy errors.Memory told given old new = (entries : List Entry) × Reached given entries
       × AppendsFront old new (form entries)
 
-  -- all bytes were a capture's, this is its summary, and the form of its entries was written; or an
-  -- error came
-  abbrev pub Writes : (told : Told) (given : List ℕ) (old new : Option (List ℕ))
-      → Result Summary Error → Type 0
-  Writes told given old new (Ok summary) = (entries : List Entry) × IsSpent told
-      × Typed given entries × IsSummary given summary × Appends old new (form entries)
-  Writes told given old new (Err error) = IsStoppedBy error told given old new
+-- what is counted of a capture's bytes, and the form of its entries
+module _ {C : Type 0} (AreCountsOf : List ℕ → C → Type 0) (form : List Entry → List ℕ) where
+  -- all bytes were a capture's, these are its counts, and the form of its entries was written; or
+  -- an error came
+  abbrev pub WritesCounted : (told : Told) (given : List ℕ) (old new : Option (List ℕ))
+      → Result C Error → Type 0
+  WritesCounted told given old new (Ok counts) = (entries : List Entry) × IsSpent told
+      × Typed given entries × AreCountsOf given counts × Appends old new (form entries)
+  WritesCounted told given old new (Err error) = IsStoppedBy form error told given old new
 
   -- the source gave some bytes, and the form of their entries was written
-  abbrev pub WritesGiven : (before told : Told) (old new : Option (List ℕ)) → Result Summary Error
-      → Type 0
-  WritesGiven before told old new result = (given : List ℕ) × Gave before told given
-      × Writes told given old new result
+  abbrev pub WritesGivenCounted : (before told : Told) (old new : Option (List ℕ))
+      → Result C Error → Type 0
+  WritesGivenCounted before told old new result = (given : List ℕ) × Gave before told given
+      × WritesCounted told given old new result
 
   -- What is written of all bytes of a capture, of which the source gave a prefix. They are well
-  -- formed, this is their summary, and the form of their entries was written; or this is their
+  -- formed, these are their counts, and the form of their entries was written; or this is their
   -- first fault, and the form of the entries that they reach was written. What was written before
-  -- another error, `Writes` says of the bytes given.
+  -- another error, `WritesCounted` says of the bytes given.
+  abbrev pub WritesAllCounted : (bytes : List ℕ) (old new : Option (List ℕ)) → Result C Error
+      → Type 0
+  WritesAllCounted bytes old new (Ok counts) = (entries : List Entry) × Typed bytes entries
+      × AreCountsOf bytes counts × Appends old new (form entries)
+  WritesAllCounted bytes old new (Err (errors.Refused fault)) = (entries : List Entry)
+      × FirstFault bytes fault × Reached bytes entries × Appends old new (form entries)
+  WritesAllCounted bytes old new (Err _) = Unit {0}
+
+-- the same with the summary of a capture
+module _ (form : List Entry → List ℕ) where
+  abbrev pub WritesGiven : (before told : Told) (old new : Option (List ℕ)) → Result Summary Error
+      → Type 0
+  WritesGiven before told old new result =
+      WritesGivenCounted IsSummary form before told old new result
+
   abbrev pub WritesAll : (bytes : List ℕ) (old new : Option (List ℕ)) → Result Summary Error
       → Type 0
-  WritesAll bytes old new (Ok summary) = (entries : List Entry) × Typed bytes entries
-      × IsSummary bytes summary × Appends old new (form entries)
-  WritesAll bytes old new (Err (errors.Refused fault)) = (entries : List Entry)
-      × FirstFault bytes fault × Reached bytes entries × Appends old new (form entries)
-  WritesAll bytes old new (Err _) = Unit {0}
+  WritesAll bytes old new result = WritesAllCounted IsSummary form bytes old new result
 
 -- the form of the first entries is a prefix of the form of all
 abbrev pub KeepsPrefixes : (List Entry → List ℕ) → Type 0

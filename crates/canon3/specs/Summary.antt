@@ -6,6 +6,7 @@ use Rattle.capture3.specs.Entries.{IsMetBy, OnRefused}
 use Rattle.capture3.specs.Entry.{Entry, Begin, Call, Reply}
 use Rattle.capture3.specs.FirstFault.{FirstFault}
 use Rattle.capture3.specs.Typed.{Typed}
+use Rattle.canon3.specs.declared.summary.MessageCounts.{MessageCounts}
 use Rattle.canon3.specs.declared.summary.Summary.{Summary}
 use Rattle.canon3.specs.Rank.{distinct}
 use Rattle.canon3.specs.Values.{handles}
@@ -21,6 +22,14 @@ is_call _ = false
 abbrev pub is_reply : Entry → Bool
 is_reply (Reply id items) = true
 is_reply _ = false
+
+-- the bytes are a well-formed capture, and have so many connections, calls and replies
+pub record AreMessageCounts (bytes : List ℕ) (counts : MessageCounts) : Type 0 where
+  pub entries : List Entry
+  pub typed : Typed bytes entries
+  pub connections : counts.connections ≡ count_by is_begin entries
+  pub calls : counts.calls ≡ count_by is_call entries
+  pub replies : counts.replies ≡ count_by is_reply entries
 
 -- The bytes are a well-formed capture, and have so many connections, calls, replies and distinct
 -- handles that are not empty.

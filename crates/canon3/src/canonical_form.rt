@@ -18,7 +18,7 @@ ghost use Rattle.canon3.specs.SinkWrites.{AppendsFront, IsFlushed};
 
 use crate::container_writer::write_spelling;
 use crate::entry_counts::EntryCounts;
-use crate::entry_writer::{EntryWriter, write_entries};
+use crate::entry_writer::{CountingWriter, EntryWriter, write_entries};
 use crate::message_writer::MessageWriter;
 use crate::sink::Sink;
 use crate::spelling::spelling_of_entry;
@@ -132,7 +132,9 @@ impl<S: BuildHasher + Drop> EntryWriter for MessageWriter<S> {
         open(counts, sink)?;
         write_after_magic(self, sink, entry)
     }
+}
 
+impl<S: BuildHasher + Drop> CountingWriter for MessageWriter<S> {
     fn handles(&self) -> u32 {
         self.handles.len()
     }

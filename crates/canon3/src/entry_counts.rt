@@ -5,12 +5,12 @@ ghost use Rattle.capture3.specs.Entry as spec;
 ghost use Rattle.canon3.specs.EntryCounts.{AreCounted, connections_in, counted_steps, records_in};
 ghost use Rattle.canon3.specs.machinery.CountedKinds.{calls, replies};
 ghost use Rattle.canon3.specs.Rank.{distinct, number_limit};
-ghost use Rattle.canon3.specs.machinery.Sums.{Sums};
+ghost use Rattle.canon3.specs.machinery.Sums.{Sums, SumsMessages};
 ghost use Rattle.capture3.specs.Kept.{IsOfKind};
 ghost use Rattle.canon3.specs.Values as values;
 
 use crate::progress::Progress;
-use crate::summary::Summary;
+use crate::summary::{MessageCounts, Summary};
 use capture3::Kind;
 
 /// How many entries of each kind came, and the position of the next one.
@@ -73,16 +73,33 @@ impl EntryCounts {
         }
     }
 
+    /// Returns the counts so far.
+    pub(crate) fn message_counts(&self) -> MessageCounts
+        ensures { (entries : List spec.Entry) → AreCounted self.now entries
+            → SumsMessages result entries }
+    {
+        MessageCounts {
+            connections: self.progress.connections(),
+            calls: self.calls,
+            replies: self.replies,
+        }
+    }
+
     /// Returns the counts so far, with the given number of distinct handles.
     pub(crate) fn summary(&self, handles: u32) -> Summary
         ensures { (entries : List spec.Entry) → AreCounted self.now entries
             → handles ≡ min (length (distinct bytes_eq (values.handles entries))) number_limit
             → Sums result entries }
     {
+        let MessageCounts {
+            connections,
+            calls,
+            replies,
+        } = self.message_counts();
         Summary {
-            connections: self.progress.connections(),
-            calls: self.calls,
-            replies: self.replies,
+            connections,
+            calls,
+            replies,
             handles,
         }
     }

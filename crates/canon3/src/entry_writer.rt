@@ -7,8 +7,9 @@ ghost use Rattle.capture3.specs.Entries.{CountsReading, CountsReads, failure_of,
 ghost use Rattle.capture3.specs.machinery.EntriesHistory.{entries_left, StandsFor};
 ghost use Rattle.capture3.specs.Entry as spec;
 ghost use Rattle.capture3.specs.Laws.{most_entries};
-ghost use Rattle.canon3.specs.EntryWriter.{KeepsPrefixes, WritesAll, WritesGiven, WritesOne};
-ghost use Rattle.canon3.specs.machinery.WritingSteps.{WritesOn, HasWritten, IsEnded, WritesToTheEnd, IsWriting, WritesMore};
+ghost use Rattle.canon3.specs.EntryWriter.{KeepsPrefixes, WritesAll, WritesAllCounted, WritesGiven, WritesGivenCounted, WritesOne};
+ghost use Rattle.canon3.specs.Summary.{AreMessageCounts};
+ghost use Rattle.canon3.specs.machinery.WritingSteps.{WritesOn, EndsWriting, WritesToTheEnd, IsWriting, WritesMore};
 ghost use Rattle.canon3.specs.EntryCounts.{AreCounted, counted_steps};
 ghost use Rattle.canon3.specs.Rank.{distinct, number_limit};
 ghost use Rattle.canon3.specs.Values as values;
@@ -18,7 +19,7 @@ ghost use Rattle.canon3.specs.SinkWrites.{IsFlushed};
 use crate::entry_counts::EntryCounts;
 use crate::entry_kind::kind_of;
 use crate::sink::Sink;
-use crate::summary::Summary;
+use crate::summary::{MessageCounts, Summary};
 use capture3::{Entries, EntryRef, Error, Source, new_block};
 use std::alloc::Global;
 use std::hash::BuildHasher;
@@ -55,17 +56,20 @@ pub trait EntryWriter: Visit {
             entry.entry (W.written sink.old) (W.written sink.new) result }
         ensures count { CountsWriting (W.failures sink.old) (W.failures sink.new) result }
         ensures error { IfErr result IsOfWriting };
+}
 
+/// A writer of a capture's entries that also counts the file handles in them.
+pub trait CountingWriter: EntryWriter {
     /// Returns how many distinct file handles that are not empty there were, at most 4,294,967,295.
     fn handles(&self) -> u32
-        ensures { (entries : List spec.Entry) → going self.now
-            → Self.stands self.now (before entries)
+        ensures { (entries : List spec.Entry) → Self.going self.now
+            → Self.stands self.now (Self.before entries)
             → result ≡ min (length (distinct bytes_eq (values.handles entries))) number_limit };
 }
 
 /// Reads a capture to its end, writes the form of its entries as they come, and flushes the sink.
 /// It keeps one block of the source's bytes, one record, the calls of the open connection, and what
-/// the writer keeps.
+/// the writer keeps. `write_form` does the same without a count of file handles.
 ///
 /// # Errors
 ///
@@ -76,7 +80,7 @@ pub trait EntryWriter: Visit {
 ///   form is written.
 ///
 /// After an error nothing is flushed.
-pub fn write_entries<R: Source, W: Sink, E: EntryWriter, S: BuildHasher + Drop>(
+pub fn write_entries<R: Source, W: Sink, E: CountingWriter, S: BuildHasher + Drop>(
     alloc: Global,
     hasher: S,
     source: &mut R,
@@ -95,6 +99,64 @@ pub fn write_entries<R: Source, W: Sink, E: EntryWriter, S: BuildHasher + Drop>(
     ensures read { CountsReading (R.failures source.old) (R.failures source.new) result }
     ensures write { CountsWriting (W.failures sink.old) (W.failures sink.new) result }
 {
+    let counts = write_whole(alloc, hasher, source, sink, writer)?;
+    Ok(counts.summary(writer.handles()))
+}
+
+/// Reads a capture to its end, writes the form of its entries as they come, and flushes the sink.
+/// It does what `write_entries` does for a writer that counts no file handles.
+///
+/// # Errors
+///
+/// - `Refused` with the first fault if the capture is not well formed. The form of the entries
+///   before it is written whole.
+/// - `Read` if a read failed. The form of the entries before it is written whole.
+/// - `Write` if a write or the flush failed, and `Memory` if an allocation failed. A prefix of the
+///   form is written.
+///
+/// After an error nothing is flushed.
+pub fn write_form<R: Source, W: Sink, E: EntryWriter, S: BuildHasher + Drop>(
+    alloc: Global,
+    hasher: S,
+    source: &mut R,
+    sink: &mut W,
+    writer: &mut E,
+) -> Result<MessageCounts, Error>
+    requires new { E.stands writer.old (E.before []) }
+    requires well { E.going writer.old }
+    requires empty { E.form [] ≡ [] }
+    requires prefixes { KeepsPrefixes E.form }
+    ensures writes { WritesGivenCounted AreMessageCounts E.form (R.told source.old)
+        (R.told source.new) (W.written sink.old) (W.written sink.new) result }
+    ensures whole { (bytes : List ℕ) → GavePrefix (R.told source.old) (R.told source.new) bytes
+        → WritesAllCounted AreMessageCounts E.form bytes (W.written sink.old) (W.written sink.new)
+        result }
+    ensures flushes { OnOk result (IsFlushed (W.written sink.new) (W.flushed sink.new)) }
+    ensures read { CountsReading (R.failures source.old) (R.failures source.new) result }
+    ensures write { CountsWriting (W.failures sink.old) (W.failures sink.new) result }
+{
+    let counts = write_whole(alloc, hasher, source, sink, writer)?;
+    Ok(counts.message_counts())
+}
+
+/// Writes the form of a capture's entries, and returns what was counted.
+fn write_whole<R: Source, W: Sink, E: EntryWriter, S: BuildHasher + Drop>(
+    alloc: Global,
+    hasher: S,
+    source: &mut R,
+    sink: &mut W,
+    writer: &mut E,
+) -> Result<EntryCounts, Error>
+    requires new { E.stands writer.old (E.before []) }
+    requires well { E.going writer.old }
+    requires empty { E.form [] ≡ [] }
+    requires prefixes { KeepsPrefixes E.form }
+    ensures ends { EndsWriting E.form E.before E.stands E.going (R.told source.old)
+        (W.written sink.old) (R.told source.new) writer.new (W.written sink.new) result }
+    ensures flushes { OnOk result (IsFlushed (W.written sink.new) (W.flushed sink.new)) }
+    ensures read { CountsReading (R.failures source.old) (R.failures source.new) result }
+    ensures write { CountsWriting (W.failures sink.old) (W.failures sink.new) result }
+{
     let block = match new_block(alloc) {
         Ok(block) => block,
         Err(_) => return Err(Error::Memory),
@@ -105,20 +167,21 @@ pub fn write_entries<R: Source, W: Sink, E: EntryWriter, S: BuildHasher + Drop>(
     result
 }
 
-/// Writes what a new reader returns.
+/// Writes what a new reader returns, and flushes the sink.
 fn write_new<R: Source, W: Sink, E: EntryWriter, S: BuildHasher + Drop>(
     entries: &mut Entries<'_, R, S>,
     sink: &mut W,
     writer: &mut E,
-) -> Result<Summary, Error>
+) -> Result<EntryCounts, Error>
     requires new { E.stands writer.old (E.before []) }
     requires well { E.going writer.old }
     requires empty { E.form [] ≡ [] }
     requires prefixes { KeepsPrefixes E.form }
     requires fresh { StandsFor R.told entries.old [] [] }
     requires going { failure_of entries.old ≡ None }
-    ensures writes { WritesGiven E.form (R.told (source_of entries.old))
-        (R.told (source_of entries.new)) (W.written sink.old) (W.written sink.new) result }
+    ensures ends { EndsWriting E.form E.before E.stands E.going (R.told (source_of entries.old))
+        (W.written sink.old) (R.told (source_of entries.new)) writer.new (W.written sink.new)
+        result }
     ensures flushes { OnOk result (IsFlushed (W.written sink.new) (W.flushed sink.new)) }
     ensures read { CountsReads R.failures entries.old entries.new result }
     ensures write { CountsWriting (W.failures sink.old) (W.failures sink.new) result }
@@ -126,26 +189,8 @@ fn write_new<R: Source, W: Sink, E: EntryWriter, S: BuildHasher + Drop>(
 {
     let mut counts = EntryCounts::new();
     write_rest(entries, &mut counts, sink, writer)?;
-    close(&counts, sink, writer)
-}
-
-/// Flushes the sink after the end.
-fn close<W: Sink, E: EntryWriter>(
-    counts: &EntryCounts,
-    sink: &mut W,
-    writer: &E,
-) -> Result<Summary, Error>
-    ensures writes { (first told : Told) (old : Option (List ℕ)) (given : List ℕ)
-        (entries : List spec.Entry) → IsEnded first told given entries
-        → HasWritten E.form E.before E.stands E.going writer.now counts.now old
-        (W.written sink.old) entries → WritesGiven E.form first told old
-        (W.written sink.new) result }
-    ensures flushes { OnOk result (IsFlushed (W.written sink.new) (W.flushed sink.new)) }
-    ensures write { CountsWriting (W.failures sink.old) (W.failures sink.new) result }
-    ensures error { IfErr result (λ error. error ≡ Error.Write) }
-{
     match sink.flush_all() {
-        Ok(()) => Ok(counts.summary(writer.handles())),
+        Ok(()) => Ok(counts),
         Err(_) => Err(Error::Write),
     }
 }

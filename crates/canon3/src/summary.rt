@@ -19,6 +19,14 @@ use capture3::{Entries, Error, Hashers, Source, new_block};
 use std::alloc::Global;
 use std::hash::BuildHasher;
 
+/// How many connections, calls and replies a capture has.
+#[derive(Clone, Copy, Debug, PartialEq, Eq)]
+pub struct MessageCounts {
+    pub connections: u32,
+    pub calls: u32,
+    pub replies: u32,
+}
+
 /// What a capture has of each kind.
 #[derive(Clone, Copy, Debug, PartialEq, Eq)]
 pub struct Summary {

@@ -2,9 +2,9 @@
 
 use crate::asserts::{assert_same, ok};
 use crate::samples::hashers;
-use canon3::{MemSink, Summary};
+use canon3::{MemSink, MessageCounts, Summary};
 use capture3::{Error, Fault, MemSource, Place};
-use listing3::show;
+use listing3::{list, show};
 use std::alloc::{AllocError, Global};
 use std::process::Abort;
 use xdr3::Reason;
@@ -69,6 +69,21 @@ fn lines_of_two_connections(rt: HostRuntime) {
         handles: 1,
     };
     assert_same!(rt; listed(&rt, &bytes, 0, &mut sink), Ok(summary));
+    assert_same!(rt; sink.bytes(), ok(&rt, lines(rt.alloc())).as_slice());
+}
+
+#[test]
+fn lines_without_a_count_of_handles(rt: HostRuntime) {
+    let bytes = capture(&rt, rt.alloc());
+    let mut sink = ok(&rt, MemSink::new(rt.alloc(), 999, 999, 0));
+    let mut source = MemSource::new(&bytes, 7, 0);
+    let counts = MessageCounts {
+        connections: 2,
+        calls: 2,
+        replies: 1,
+    };
+    let listed = list(rt.alloc(), hashers().calls, &mut source, &mut sink);
+    assert_same!(rt; listed, Ok(counts));
     assert_same!(rt; sink.bytes(), ok(&rt, lines(rt.alloc())).as_slice());
 }
 

@@ -14,7 +14,6 @@ use Rattle.xdr3.proofs.Lemmas.Shapes.Walks.{adds_nothing}
 use Rattle.rpc_head.specs.declared.values.call.ProcId.{ProcId}
 use Rattle.rpc_head.specs.Messages.{procedure_in}
 use Rattle.rpc_head.specs.Names.{head_names}
-use Rattle.nfs3_types.specs.declared.values.handle.Handle as handles
 use Rattle.capture3.specs.declared.reader.entry.Kind.{Kind}
 use Rattle.capture3.specs.declared.reader.entry.Kind.TheVariants as kinds
 use Rattle.capture3.specs.declared.fault.Error.{Error}
@@ -23,17 +22,16 @@ use Rattle.capture3.specs.Kept.{IsOfKind}
 use Rattle.listing3.specs.declared.line_writer.LineWriter.{LineWriter}
 use Rattle.canon3.specs.declared.progress.Progress.{Progress}
 use Rattle.canon3.specs.EntryWriter.{HasWrittenOrCut}
-use Rattle.canon3.specs.HandleTable.{Gathers}
 use Rattle.canon3.specs.Laws.{AreFirst}
 use Rattle.canon3.specs.Progress.{HasPassed}
 use Rattle.canon3.specs.Values.{handles_in}
 use Rattle.canon3.specs.SinkWrites.{AppendsFront}
-use Rattle.canon3.proofs.Lemmas.Numbers.HandleTableLemmas.{gathers_none, none_in_run}
+use Rattle.canon3.proofs.Lemmas.Numbers.HandleTableLemmas.{none_in_run}
 use Rattle.canon3.proofs.Lemmas.WellFormed.Laid.{IsLaidOut, last_laid}
 use Rattle.canon3.proofs.Lemmas.WellFormed.Messages.{is_headed_call, is_headed_reply}
 use Rattle.canon3.proofs.Lemmas.Writing.SinkWritesLemmas.{front_of_second}
 use Rattle.listing3.proofs.ListingLemmas.{shown_push}
-use Rattle.listing3.specs.machinery.LineWriter.{always, after_front, HasLineUnderWay, IsTextOf, items_before, LineStands}
+use Rattle.listing3.specs.machinery.LineWriter.{always, after_front, HasLineUnderWay, IsTextOf, items_before, LineStands, SkipsOthers}
 use Rattle.listing3.specs.Listing.{entry_line, line, opening, prefix, procedure_name, shown, shown_item, shown_items}
 
 -- ---- pieces of a line
@@ -63,15 +61,15 @@ same_front (x ∷ a) (y ∷ b) items more n e =
     let head : x ≡ y = cc in
     (ap (λ (l : List Item). x ∷ l) r.0 ∙ ap (λ i. i ∷ b) head, r.1)
 
-module _ {S H : Type 0} (writer : LineWriter S H) where
-  pub is_after : (front items : List Item) → LineStands writer (after_front front items) → HasLineUnderWay writer front items
+module _ {H : Type 0} (gathers : H → List Item → Type 0) (writer : LineWriter H) where
+  pub is_after : (front items : List Item) → LineStands gathers writer (after_front front items) → HasLineUnderWay gathers writer front items
   is_after front items (other, own, are, is) =
       let many : length front ≡ length other = cc in
       let all : front ++ items ≡ other ++ own = cc in
       let same = same_front front other items own many all in
-      subst (λ (l : List Item). HasLineUnderWay writer l items) (sym same.0) (subst (HasLineUnderWay writer other) (sym same.1) is)
+      subst (λ (l : List Item). HasLineUnderWay gathers writer l items) (sym same.0) (subst (HasLineUnderWay gathers writer other) (sym same.1) is)
 
-  pub stands_after : (front items : List Item) → HasLineUnderWay writer front items → LineStands writer (after_front front items)
+  pub stands_after : (front items : List Item) → HasLineUnderWay gathers writer front items → LineStands gathers writer (after_front front items)
   stands_after front items is = (front, items, refl, is)
 
 -- ---- one item more
@@ -82,23 +80,23 @@ TextOf text items = text ≡ shown_items items
 pub after_front-append : (front items more : List Item) → after_front front items ++ more ≡ after_front front (items ++ more)
 after_front-append front items more = ap (λ (l : List Item). Word [] (length front) ∷ l) (append_assoc front items more)
 
-module _ {S H : Type 0} (old new : LineWriter S H) (more : List Item) where
-  pub adds : ((front : List Item) → Gathers old.handles front → Gathers new.handles (front ++ more))
+module _ {H : Type 0} (gathers : H → List Item → Type 0) (old new : LineWriter H) (more : List Item) where
+  pub adds : ((front : List Item) → gathers old.handles front → gathers new.handles (front ++ more))
       → ((items : List Item) → IsTextOf old.xid old.items items → IsTextOf new.xid new.items (items ++ more))
-      → Adds LineStands old new more
+      → Adds (LineStands gathers) old new more
   unfolding Adds
-  adds gathers text all (front, items, are, is) = (
+  adds gathered text all (front, items, are, is) = (
     front,
     items ++ more,
     ap (λ (l : List Item). l ++ more) are ∙ after_front-append front items more,
-    record { gathered = subst (Gathers new.handles) (append_assoc front items more) (gathers (front ++ items) is.gathered); text = text items is.text },
+    record { gathered = subst (gathers new.handles) (append_assoc front items more) (gathered (front ++ items) is.gathered); text = text items is.text },
   )
 
-module _ {S H : Type 0} (old new : LineWriter S H) where
-  pub keeps : ((items : List Item) → Gathers old.handles items → Gathers new.handles items)
-      → ((items : List Item) → IsTextOf old.xid old.items items → IsTextOf new.xid new.items items) → Keeps LineStands old new
+module _ {H : Type 0} (gathers : H → List Item → Type 0) (old new : LineWriter H) where
+  pub keeps : ((items : List Item) → gathers old.handles items → gathers new.handles items)
+      → ((items : List Item) → IsTextOf old.xid old.items items → IsTextOf new.xid new.items items) → Keeps (LineStands gathers) old new
   unfolding Keeps
-  keeps gathers text all (front, items, are, is) = (front, items, are, record { gathered = gathers (front ++ items) is.gathered; text = text items is.text })
+  keeps gathered text all (front, items, are, is) = (front, items, are, record { gathered = gathered (front ++ items) is.gathered; text = text items is.text })
 
 -- the text grows by the item, where the xid was told or the item is no word
 abbrev pub IsLater : Option ℕ → Item → Type 0
@@ -128,32 +126,32 @@ text_still xid old new kept [] t = (t.0, kept [] t.1)
 text_still xid old new kept (Word name n ∷ items) t = (t.0, kept items t.1)
 text_still xid old new kept (_ ∷ items) t = tt
 
-module _ {S H : Type 0} (writer : LineWriter S H) (text : List ℕ) where
-  abbrev pub with_text : LineWriter S H
+module _ {H : Type 0} (gathers : H → List Item → Type 0) (writer : LineWriter H) (text : List ℕ) where
+  abbrev pub with_text : LineWriter H
   with_text = record { handles = writer.handles; xid = writer.xid; items = text; head = writer.head }
 
-  pub adds_plain : (i : Item) → handles_in (i ∷ []) ≡ [] → IsLater writer.xid i → Adds TextOf writer.items text (i ∷ []) → Adds LineStands writer with_text (i ∷ [])
-  adds_plain i none later write =
-      adds writer with_text (i ∷ []) (λ front h. gathers_none writer.handles front (i ∷ []) none h) (text_more writer.xid writer.items text i later write)
+  pub adds_plain : SkipsOthers gathers → (i : Item) → handles_in (i ∷ []) ≡ [] → IsLater writer.xid i → Adds TextOf writer.items text (i ∷ []) → Adds (LineStands gathers) writer with_text (i ∷ [])
+  adds_plain skips i none later write =
+      adds gathers writer with_text (i ∷ []) (λ front h. skips writer.handles front (i ∷ []) none h) (text_more writer.xid writer.items text i later write)
 
-  pub keeps_text : Keeps TextOf writer.items text → Keeps LineStands writer with_text
-  keeps_text kept = keeps writer with_text (λ items h. h) (text_still writer.xid writer.items text kept)
+  pub keeps_text : Keeps TextOf writer.items text → Keeps (LineStands gathers) writer with_text
+  keeps_text kept = keeps gathers writer with_text (λ items h. h) (text_still writer.xid writer.items text kept)
 
   -- the text and the table with the handle
-  pub adds_both : (table : List handles.Handle) (name bytes : List ℕ) → text ≡ writer.items ++ shown_item (Opaque Handle name bytes)
-      → Adds Gathers writer.handles table (Opaque Handle name bytes ∷ [])
-      → Adds LineStands writer (record { handles = table; xid = writer.xid; items = text; head = writer.head }) (Opaque Handle name bytes ∷ [])
+  pub adds_both : (table : H) (name bytes : List ℕ) → text ≡ writer.items ++ shown_item (Opaque Handle name bytes)
+      → Adds gathers writer.handles table (Opaque Handle name bytes ∷ [])
+      → Adds (LineStands gathers) writer (record { handles = table; xid = writer.xid; items = text; head = writer.head }) (Opaque Handle name bytes ∷ [])
   unfolding Adds
-  adds_both table name bytes is gathers =
-      adds writer (record { handles = table; xid = writer.xid; items = text; head = writer.head }) (Opaque Handle name bytes ∷ []) gathers
+  adds_both table name bytes is gathered =
+      adds gathers writer (record { handles = table; xid = writer.xid; items = text; head = writer.head }) (Opaque Handle name bytes ∷ []) gathered
       (text_more writer.xid writer.items text (Opaque Handle name bytes) (no_word writer.xid (Opaque Handle name bytes) tt)
       (λ items t. is ∙ ap (λ (l : List ℕ). l ++ shown_item (Opaque Handle name bytes)) t ∙ sym (flat_map-append shown_item items (Opaque Handle name bytes ∷ []) ∙ ap (λ (l : List ℕ). shown_items items ++ l) (append-nil (shown_item (Opaque Handle name bytes))))))
 
 -- the xid is told
-pub adds_xid : {S H : Type 0} (writer : LineWriter S H) (name : List ℕ) (n : ℕ) → writer.xid ≡ None
-    → Adds LineStands writer (record { handles = writer.handles; xid = Some n; items = writer.items; head = writer.head }) (Word name n ∷ [])
-adds_xid writer name n none =
-    adds writer (record { handles = writer.handles; xid = Some n; items = writer.items; head = writer.head }) (Word name n ∷ []) (λ front h. gathers_none writer.handles front (Word name n ∷ []) refl h) text
+pub adds_xid : {H : Type 0} (gathers : H → List Item → Type 0) → SkipsOthers gathers → (writer : LineWriter H) (name : List ℕ) (n : ℕ) → writer.xid ≡ None
+    → Adds (LineStands gathers) writer (record { handles = writer.handles; xid = Some n; items = writer.items; head = writer.head }) (Word name n ∷ [])
+adds_xid gathers skips writer name n none =
+    adds gathers writer (record { handles = writer.handles; xid = Some n; items = writer.items; head = writer.head }) (Word name n ∷ []) (λ front h. skips writer.handles front (Word name n ∷ []) refl h) text
   where
     text : (items : List Item) → IsTextOf writer.xid writer.items items → IsTextOf (Some n) writer.items (items ++ Word name n ∷ [])
     text [] t = (refl, t.1)
@@ -179,34 +177,34 @@ number_text_run name n old new run [] t = tt
 number_text_run name n old new run (Word other m ∷ items) t = let some : None ≡ Some m = t.0 in absurd cc
 number_text_run name n old new run (_ ∷ items) t = tt
 
-module _ {S H : Type 0} (writer : LineWriter S H) (text : List ℕ) (all : List PlainField) (run : List ℕ) where
+module _ {H : Type 0} (gathers : H → List Item → Type 0) (skips : SkipsOthers gathers) (writer : LineWriter H) (text : List ℕ) (all : List PlainField) (run : List ℕ) where
   -- a run after the xid
-  pub adds_run : (x : ℕ) → writer.xid ≡ Some x → Adds TextOf writer.items text (run_items all run) → Adds LineStands writer (with_text writer text) (run_items all run)
+  pub adds_run : (x : ℕ) → writer.xid ≡ Some x → Adds TextOf writer.items text (run_items all run) → Adds (LineStands gathers) writer (with_text gathers writer text) (run_items all run)
   adds_run x told write =
-      adds writer (with_text writer text) (run_items all run) (λ front h. gathers_none writer.handles front (run_items all run) (none_in_run all run) h)
+      adds gathers writer (with_text gathers writer text) (run_items all run) (λ front h. skips writer.handles front (run_items all run) (none_in_run all run) h)
       (subst (λ xid. (items : List Item) → IsTextOf xid writer.items items → IsTextOf xid text (items ++ run_items all run)) (sym told) (text_run x writer.items text (run_items all run) write))
 
   -- a run that begins with the xid
   pub adds_xid_run : (name : List ℕ) (n m : ℕ) → n ≡ m → writer.xid ≡ None → Adds TextOf writer.items text (run_items all run)
-      → Adds LineStands writer (record { handles = writer.handles; xid = Some n; items = text; head = writer.head }) (Word name m ∷ run_items all run)
+      → Adds (LineStands gathers) writer (record { handles = writer.handles; xid = Some n; items = text; head = writer.head }) (Word name m ∷ run_items all run)
   adds_xid_run name n m same none write =
-      let told : LineWriter S H = record { handles = writer.handles; xid = Some n; items = text; head = writer.head } in
-      subst (λ (k : ℕ). Adds LineStands writer told (Word name k ∷ run_items all run)) same
-      (adds writer told (Word name n ∷ run_items all run)
-      (λ front h. gathers_none writer.handles front (Word name n ∷ run_items all run) (none_in_run all run) h)
+      let told : LineWriter H = record { handles = writer.handles; xid = Some n; items = text; head = writer.head } in
+      subst (λ (k : ℕ). Adds (LineStands gathers) writer told (Word name k ∷ run_items all run)) same
+      (adds gathers writer told (Word name n ∷ run_items all run)
+      (λ front h. skips writer.handles front (Word name n ∷ run_items all run) (none_in_run all run) h)
       (subst (λ xid. (items : List Item) → IsTextOf xid writer.items items → IsTextOf (Some n) text (items ++ Word name n ∷ run_items all run)) (sym none) (xid_text_run name n writer.items text (run_items all run) write)))
 
   -- nothing is said of a message that begins with a number
-  pub adds_number_run : (name : List ℕ) (n : ℕ) → writer.xid ≡ None → Adds LineStands writer (with_text writer text) (Hyper name n ∷ run_items all run)
+  pub adds_number_run : (name : List ℕ) (n : ℕ) → writer.xid ≡ None → Adds (LineStands gathers) writer (with_text gathers writer text) (Hyper name n ∷ run_items all run)
   adds_number_run name n none =
-      adds writer (with_text writer text) (Hyper name n ∷ run_items all run)
-      (λ front h. gathers_none writer.handles front (Hyper name n ∷ run_items all run) (none_in_run all run) h)
+      adds gathers writer (with_text gathers writer text) (Hyper name n ∷ run_items all run)
+      (λ front h. skips writer.handles front (Hyper name n ∷ run_items all run) (none_in_run all run) h)
       (subst (λ xid. (items : List Item) → IsTextOf xid writer.items items → IsTextOf xid text (items ++ Hyper name n ∷ run_items all run)) (sym none) (number_text_run name n writer.items text (run_items all run)))
 
 -- a run of no fields
-pub adds_no_run : {S H : Type 0} (writer : LineWriter S H) (all : List PlainField) (run : List ℕ) → length all ≡ 0 → Adds LineStands writer writer (run_items all run)
-adds_no_run writer [] run none = adds_nothing LineStands writer
-adds_no_run writer (field ∷ all) run none = absurd (omega (arith, none))
+pub adds_no_run : {H : Type 0} (gathers : H → List Item → Type 0) (writer : LineWriter H) (all : List PlainField) (run : List ℕ) → length all ≡ 0 → Adds (LineStands gathers) writer writer (run_items all run)
+adds_no_run gathers writer [] run none = adds_nothing (LineStands gathers) writer
+adds_no_run gathers writer (field ∷ all) run none = absurd (omega (arith, none))
 
 -- ---- after an error
 
@@ -218,32 +216,32 @@ both_err : {T E : Type 0} (P Q : Type 0) (r : Result T E) → OnErr r P → OnEr
 both_err P Q (Ok x) p q = tt
 both_err P Q (Err e) p q = (p, q)
 
-module _ {S H : Type 0} (writer : LineWriter S H) (table : List handles.Handle) (new : List ℕ) where
-  abbrev pub with_both : LineWriter S H
+module _ {H : Type 0} (gathers : H → List Item → Type 0) (writer : LineWriter H) (table : H) (new : List ℕ) where
+  abbrev pub with_both : LineWriter H
   with_both = record { handles = table; xid = writer.xid; items = new; head = writer.head }
 
-  kept_both : Keeps Gathers writer.handles table → new ≡ writer.items → Keeps LineStands writer with_both
+  kept_both : Keeps gathers writer.handles table → new ≡ writer.items → Keeps (LineStands gathers) writer with_both
   unfolding Keeps
-  kept_both gathers same = keeps writer with_both gathers (λ items t. subst (λ (l : List ℕ). IsTextOf writer.xid l items) (sym same) t)
+  kept_both kept same = keeps gathers writer with_both kept (λ items t. subst (λ (l : List ℕ). IsTextOf writer.xid l items) (sym same) t)
 
   -- the text is cut where the handle was not added
   pub settled_err : {T E : Type 0} (written result : Result T E) (between more : List ℕ) (before : ℕ) → result ≡ written → OnErr written (new ≡ take before between) → before ≡ length writer.items → between ≡ writer.items ++ more
-      → OnErr written (Keeps Gathers writer.handles table) → OnErr result (Keeps LineStands writer with_both)
+      → OnErr written (Keeps gathers writer.handles table) → OnErr result (Keeps (LineStands gathers) writer with_both)
   settled_err {T = T} {E = E} written result between more before same cut size is kept =
-      subst (λ (r : Result T E). OnErr r (Keeps LineStands writer with_both)) (sym same)
-      (on_err_weaker written (λ (c : Keeps Gathers writer.handles table × (new ≡ take before between)). kept_both c.0 (c.1 ∙ ap (λ n. take n between) size ∙ ap (take (length writer.items)) is ∙ take-append_seam writer.items more)) (both_err _ _ written kept cut))
+      subst (λ (r : Result T E). OnErr r (Keeps (LineStands gathers) writer with_both)) (sym same)
+      (on_err_weaker written (λ (c : Keeps gathers writer.handles table × (new ≡ take before between)). kept_both c.0 (c.1 ∙ ap (λ n. take n between) size ∙ ap (take (length writer.items)) is ∙ take-append_seam writer.items more)) (both_err _ _ written kept cut))
 
 -- ---- an entry's line
 
-pub no_xid : {S H : Type 0} (writer : LineWriter S H) (front rest : List Item) (n : ℕ) → writer.xid ≡ None → LineStands writer (after_front front (Word head_names.xid n ∷ rest)) → ⊥
-no_xid writer front rest n none stands =
-    let some : writer.xid ≡ Some n = (is_after writer front (Word head_names.xid n ∷ rest) stands).text.0 in
+pub no_xid : {H : Type 0} (gathers : H → List Item → Type 0) (writer : LineWriter H) (front rest : List Item) (n : ℕ) → writer.xid ≡ None → LineStands gathers writer (after_front front (Word head_names.xid n ∷ rest)) → ⊥
+no_xid gathers writer front rest n none stands =
+    let some : writer.xid ≡ Some n = (is_after gathers writer front (Word head_names.xid n ∷ rest) stands).text.0 in
     absurd cc
 
-pub is_line : {S H : Type 0} (writer : LineWriter S H) (connection : ℕ) (side : List ℕ) (number xid : ℕ) (id : ProcId) (front rest : List Item) (n : ℕ) (head text : List ℕ) → writer.xid ≡ Some xid → LineStands writer (after_front front (Word head_names.xid n ∷ rest))
+pub is_line : {H : Type 0} (gathers : H → List Item → Type 0) (writer : LineWriter H) (connection : ℕ) (side : List ℕ) (number xid : ℕ) (id : ProcId) (front rest : List Item) (n : ℕ) (head text : List ℕ) → writer.xid ≡ Some xid → LineStands gathers writer (after_front front (Word head_names.xid n ∷ rest))
     → head ≡ prefix connection side number ++ (xid_text xid ++ (32 ∷ procedure_name id)) → text ≡ writer.items ++ 10 ∷ [] → head ++ text ≡ line connection side number id (Word head_names.xid n ∷ rest)
-is_line writer connection side number xid id front rest n head text told stands head_is text_is =
-    let b = (is_after writer front (Word head_names.xid n ∷ rest) stands).text in
+is_line gathers writer connection side number xid id front rest n head text told stands head_is text_is =
+    let b = (is_after gathers writer front (Word head_names.xid n ∷ rest) stands).text in
     let some : writer.xid ≡ Some n = b.0 in
     let same : xid ≡ n = cc in
     composed connection side number n id rest head text (head_is ∙ ap (λ k. prefix connection side number ++ (xid_text k ++ (32 ∷ procedure_name id))) same) (text_is ∙ ap (λ (l : List ℕ). l ++ 10 ∷ []) b.1)
@@ -277,15 +275,15 @@ module _ (P : Entry → Type 0) (entries : List Entry) (one : Entry) (kind : Kin
       subst P (sym this) s
 
 -- one entry more
-pub listed_more : {S H X : Type 0} (now : LineWriter S H) (old between after : Option (List ℕ)) (progress : Progress) (entries : List Entry) (one : Entry) (r : Result X Error) → HasPassed progress entries → Appends old between (shown entries)
-    → LineStands now (items_before (entries ++ one ∷ [])) → OnOk r (Appends between after (entry_line progress.connections progress.records one)) → OnErr r (AppendsFront between after (entry_line progress.connections progress.records one))
-    → HasWrittenOrCut shown items_before LineStands always now old after (entries ++ one ∷ []) r
-listed_more now old between after progress entries one (Ok x) came written stands appended cut = (
+pub listed_more : {H X : Type 0} (gathers : H → List Item → Type 0) (now : LineWriter H) (old between after : Option (List ℕ)) (progress : Progress) (entries : List Entry) (one : Entry) (r : Result X Error) → HasPassed progress entries → Appends old between (shown entries)
+    → LineStands gathers now (items_before (entries ++ one ∷ [])) → OnOk r (Appends between after (entry_line progress.connections progress.records one)) → OnErr r (AppendsFront between after (entry_line progress.connections progress.records one))
+    → HasWrittenOrCut shown items_before (LineStands gathers) always now old after (entries ++ one ∷ []) r
+listed_more gathers now old between after progress entries one (Ok x) came written stands appended cut = (
   tt,
   stands,
   subst (Appends old after) (sym (shown_push entries one progress.connections progress.records came.connections_are came.records_are))
       (Appends-trans old between after (shown entries) (entry_line progress.connections progress.records one) written appended),
 )
-listed_more now old between after progress entries one (Err e) came written stands appended cut =
+listed_more gathers now old between after progress entries one (Err e) came written stands appended cut =
     front_of_second old between after (shown entries) (entry_line progress.connections progress.records one) (shown (entries ++ one ∷ []))
     (shown_push entries one progress.connections progress.records came.connections_are came.records_are) written cut

@@ -1,7 +1,9 @@
 //! The listing of a capture: one line for each message.
 #![tactic(auto)]
 
+mod digit_table;
 pub mod examples;
+mod gathering;
 pub mod laws;
 mod line_text;
 mod line_writer;
@@ -9,4 +11,4 @@ mod listing;
 mod room;
 mod run;
 
-pub use listing::show;
+pub use listing::{list, show};

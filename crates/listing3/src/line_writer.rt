@@ -10,7 +10,6 @@ ghost use Rattle.capture3.specs.Device as devices;
 ghost use Rattle.capture3.specs.Entry as spec;
 ghost use Rattle.capture3.specs.Entry.{items_of};
 ghost use Rattle.capture3.specs.Kept.{IsOfKind};
-ghost use Rattle.canon3.specs.HandleTable.{Gathers};
 ghost use Rattle.canon3.specs.Laws.{AreFirst};
 ghost use Rattle.canon3.specs.EntryCounts.{connections_in, counted_steps, records_in};
 ghost use Rattle.canon3.specs.machinery.Sums.{all_items};
@@ -19,9 +18,10 @@ ghost use Rattle.canon3.specs.SinkWrites.{AppendsFront};
 ghost use Rattle.listing3.specs.machinery.LineWriter.{after_front, LineStands};
 ghost use Rattle.listing3.specs.Listing.{entry_line, line, opening, prefix, procedure_name};
 
+use crate::gathering::Gathering;
 use crate::line_text::LineText;
 use byteorder::{BigEndian, ByteOrder};
-use canon3::{EntryCounts, EntryWriter, HandleTable, Sink, kind_of, write_all};
+use canon3::{CountingWriter, EntryCounts, EntryWriter, HandleTable, Sink, kind_of, write_all};
 use capture3::{DeviceFailed, EntryRef, Error, Kind};
 use procs3::proc_name;
 use rpc_head::ProcId;
@@ -29,11 +29,11 @@ use std::alloc::{AllocError, Global};
 use std::hash::BuildHasher;
 use xdr3::{PlainField, Visit};
 
-/// Writes one line for each message. It collects the file handles of all messages, and buffers the
-/// text of the current one.
+/// Writes one line for each message. It passes the file handles of all messages to `handles`, and
+/// buffers the text of the current one.
 #[derive(Drop)]
-pub(crate) struct LineWriter<S: BuildHasher + Drop> {
-    pub(crate) handles: HandleTable<S>,
+pub(crate) struct LineWriter<H: Gathering + Drop> {
+    handles: H,
     // The xid, once it was told, and the text of the items after it.
     xid: Option<u32>,
     items: LineText,
@@ -64,13 +64,14 @@ fn write_two<W: Sink>(sink: &mut W, first: &[u8], second: &[u8]) -> Result<(), D
     write_all(sink, second)
 }
 
-impl<S: BuildHasher + Drop> LineWriter<S> {
+impl<H: Gathering + Drop> LineWriter<H> {
     /// Returns a writer before a capture.
-    pub(crate) fn new(alloc: Global, hasher: S) -> LineWriter<S>
-        ensures { LineStands result (after_front [] []) }
+    pub(crate) fn new(alloc: Global, handles: H) -> LineWriter<H>
+        requires { H.stands handles [] }
+        ensures { LineStands H.stands result (after_front [] []) }
     {
         LineWriter {
-            handles: HandleTable::new(alloc, hasher),
+            handles,
             xid: None,
             items: LineText::new(alloc),
             head: LineText::new(alloc),
@@ -79,19 +80,20 @@ impl<S: BuildHasher + Drop> LineWriter<S> {
 
     /// Begins a message in place of the one before.
     fn begin_message(&mut self)
-        ensures { (items : List Item) → Gathers self.old.handles items
-            → LineStands self.new (after_front items []) }
+        ensures { (items : List Item) → H.stands self.old.handles items
+            → LineStands H.stands self.new (after_front items []) }
     {
         self.xid = None;
         self.items.forget();
     }
 
-    /// Appends the text of a handle, and then collects the handle.
+    /// Appends the text of a handle, and then passes the handle on.
     fn add_handle(&mut self, name: &'static str, bytes: &[u8]) -> Result<(), AllocError>
         requires { length bytes.now ≤ 64 }
         ensures ok { OnOk result
-            (Adds LineStands self.old self.new (Opaque HandleKind name.now bytes.now ∷ [])) }
-        ensures err { OnErr result (Keeps LineStands self.old self.new) }
+            (Adds (LineStands H.stands) self.old self.new
+            (Opaque HandleKind name.now bytes.now ∷ [])) }
+        ensures err { OnErr result (Keeps (LineStands H.stands) self.old self.new) }
     {
         let before = self.items.bytes().len();
         self.items.append_hex(name, bytes)?;
@@ -105,7 +107,7 @@ impl<S: BuildHasher + Drop> LineWriter<S> {
         requires size { length bytes.now ≡ run_size fields.now }
         requires begins { self.old.xid ≡ None }
         ensures ok { OnOk result
-            (Adds LineStands self.old self.new (run_items fields.now bytes.now)) }
+            (Adds (LineStands H.stands) self.old self.new (run_items fields.now bytes.now)) }
     {
         let Some((first, more)) = fields.split_first() else {
             return Ok(());
@@ -173,13 +175,13 @@ impl<S: BuildHasher + Drop> LineWriter<S> {
         requires { counted_steps counts.now + 1 < 2 ^ 32 }
         ensures handles { self.new.handles ≡ self.old.handles }
         ensures ok { (front rest : List Item) (n : ℕ)
-            → LineStands self.old (after_front front (Word head_names.xid n ∷ rest))
+            → LineStands H.stands self.old (after_front front (Word head_names.xid n ∷ rest))
             → OnOk result
             (Appends (W.written sink.old) (W.written sink.new)
             (line (connections_in counts.now) side.now (records_in counts.now + 1) id
             (Word head_names.xid n ∷ rest))) }
         ensures err { (front rest : List Item) (n : ℕ)
-            → LineStands self.old (after_front front (Word head_names.xid n ∷ rest))
+            → LineStands H.stands self.old (after_front front (Word head_names.xid n ∷ rest))
             → OnErr result
             (AppendsFront (W.written sink.old) (W.written sink.new)
             (line (connections_in counts.now) side.now (records_in counts.now + 1) id
@@ -207,13 +209,13 @@ impl<S: BuildHasher + Drop> LineWriter<S> {
         ensures handles { self.new.handles ≡ self.old.handles }
         ensures ok { (entries : List spec.Entry) (one : spec.Entry) → IsOfKind kind one
             → AreFirst (entries ++ one ∷ [])
-            → LineStands self.old (after_front (all_items entries) (items_of one))
+            → LineStands H.stands self.old (after_front (all_items entries) (items_of one))
             → OnOk result
             (Appends (W.written sink.old) (W.written sink.new)
             (entry_line (connections_in counts.now) (records_in counts.now) one)) }
         ensures err { (entries : List spec.Entry) (one : spec.Entry) → IsOfKind kind one
             → AreFirst (entries ++ one ∷ [])
-            → LineStands self.old (after_front (all_items entries) (items_of one))
+            → LineStands H.stands self.old (after_front (all_items entries) (items_of one))
             → OnErr result
             (AppendsFront (W.written sink.old) (W.written sink.new)
             (entry_line (connections_in counts.now) (records_in counts.now) one)) }
@@ -229,10 +231,10 @@ impl<S: BuildHasher + Drop> LineWriter<S> {
 }
 
 #[tactic(auto, unfolding(xdr3::specs::Visit::Adds, xdr3::specs::Visit::Keeps))]
-impl<S: BuildHasher + Drop> Visit for LineWriter<S> {
+impl<H: Gathering + Drop> Visit for LineWriter<H> {
     ghost use Rattle.listing3.specs.machinery.LineWriter.{LineStands};
 
-    ghost stands = { LineStands };
+    ghost stands = { LineStands H.stands };
 
     fn word(&mut self, name: &'static str, n: u32) -> Result<(), AllocError> {
         match self.xid {
@@ -282,7 +284,7 @@ impl<S: BuildHasher + Drop> Visit for LineWriter<S> {
     }
 }
 
-impl<S: BuildHasher + Drop> EntryWriter for LineWriter<S> {
+impl<H: Gathering + Drop> EntryWriter for LineWriter<H> {
     ghost use Rattle.listing3.specs.machinery.LineWriter.{always, items_before};
     ghost use Rattle.listing3.specs.Listing.{shown};
 
@@ -302,7 +304,9 @@ impl<S: BuildHasher + Drop> EntryWriter for LineWriter<S> {
         self.begin_message();
         written
     }
+}
 
+impl<S: BuildHasher + Drop> CountingWriter for LineWriter<HandleTable<S>> {
     fn handles(&self) -> u32 {
         self.handles.len()
     }

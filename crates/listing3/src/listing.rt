@@ -3,14 +3,15 @@
 ghost use Rattle.std.specs.Prelude.{ℕ, List, OnOk};
 ghost use Rattle.capture3.specs.Entries.{CountsReading};
 ghost use Rattle.capture3.specs.Told.{GavePrefix};
-ghost use Rattle.canon3.specs.EntryWriter.{WritesAll, WritesGiven};
+ghost use Rattle.canon3.specs.EntryWriter.{WritesAll, WritesAllCounted, WritesGiven, WritesGivenCounted};
+ghost use Rattle.canon3.specs.Summary.{AreMessageCounts};
 ghost use Rattle.canon3.specs.WriteErrors.{CountsWriting};
 ghost use Rattle.canon3.specs.SinkWrites.{IsFlushed};
 ghost use Rattle.listing3.specs.Listing.{shown};
 
 use crate::line_writer::LineWriter;
-use canon3::{Sink, Summary, write_entries};
-use capture3::{Error, Hashers, Source};
+use canon3::{HandleTable, MessageCounts, Sink, Summary, write_entries, write_form};
+use capture3::{Error, Hashers, Silent, Source};
 use std::alloc::Global;
 use std::hash::BuildHasher;
 
@@ -22,7 +23,7 @@ use std::hash::BuildHasher;
 /// file handles and write verifiers are those that were recorded.
 ///
 /// It keeps one block of the source's bytes, one record, the calls of the open connection, the
-/// distinct file handles, and one line.
+/// distinct file handles, and one line. `list` does the same without a count of file handles.
 ///
 /// # Errors
 ///
@@ -47,6 +48,28 @@ pub fn show<R: Source, W: Sink, S: BuildHasher + Drop>(
     ensures read { CountsReading (R.failures source.old) (R.failures source.new) result }
     ensures write { CountsWriting (W.failures sink.old) (W.failures sink.new) result }
 {
-    let mut lines = LineWriter::new(alloc, hashers.handles);
+    let mut lines = LineWriter::new(alloc, HandleTable::new(alloc, hashers.handles));
     write_entries(alloc, hashers.calls, source, sink, &mut lines)
+}
+
+/// Reads a capture to its end, writes one line for each message as it comes, and flushes the sink.
+/// The lines and the errors are those of `show`, but file handles are not counted. So it keeps one
+/// block of the source's bytes, one record, the calls of the open connection, and one line.
+pub fn list<R: Source, W: Sink, S: BuildHasher + Drop>(
+    alloc: Global,
+    hasher: S,
+    source: &mut R,
+    sink: &mut W,
+) -> Result<MessageCounts, Error>
+    ensures lists { WritesGivenCounted AreMessageCounts shown (R.told source.old)
+        (R.told source.new) (W.written sink.old) (W.written sink.new) result }
+    ensures whole { (bytes : List ℕ) → GavePrefix (R.told source.old) (R.told source.new) bytes
+        → WritesAllCounted AreMessageCounts shown bytes (W.written sink.old) (W.written sink.new)
+        result }
+    ensures flushes { OnOk result (IsFlushed (W.written sink.new) (W.flushed sink.new)) }
+    ensures read { CountsReading (R.failures source.old) (R.failures source.new) result }
+    ensures write { CountsWriting (W.failures sink.old) (W.failures sink.new) result }
+{
+    let mut lines = LineWriter::new(alloc, Silent);
+    write_form(alloc, hasher, source, sink, &mut lines)
 }

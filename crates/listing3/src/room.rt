@@ -9,6 +9,7 @@ ghost use Rattle.listing3.specs.Listing.{is_plain, opening, quoted, quoted_byte}
 ghost use Rattle.listing3.specs.machinery.Digits.{eight_digits, four_digits, two_digits};
 ghost use Rattle.listing3.specs.machinery.Halves.{halves_in_order, AreHalves};
 
+use crate::digit_table::DigitTable;
 use std::alloc::AllocError;
 use xdr3::room::{make_room, put_bytes};
 
@@ -21,6 +22,9 @@ const PIECE: usize = 8;
 /// How many bytes are spelled by each of two loops before the next, so that their digits stay in the
 /// nearest cache.
 const SPELLED: usize = 512;
+
+/// How many bytes most file handles have.
+const HANDLE: usize = 32;
 
 /// The two digits of each number below 100.
 static PAIRS: [u8; 200] =
@@ -82,7 +86,7 @@ fn put_ends<const N: usize>(room: &mut [u8], at: usize, bytes: &[u8]) -> usize
 
 /// Returns the first `N` bytes. A copy cannot overlap what is written, so it stays in a register.
 #[inline(always)]
-fn block<const N: usize>(bytes: &[u8]) -> [u8; N]
+pub(crate) fn block<const N: usize>(bytes: &[u8]) -> [u8; N]
     requires { N ≤ length bytes.now }
     ensures { result ≡ take N bytes.now }
 {
@@ -142,7 +146,7 @@ fn put_front(room: &mut [u8], at: usize, n: u64) -> usize
 
 /// Writes a number of four bytes in decimal.
 #[inline(never)]
-fn put_word(room: &mut [u8], at: usize, n: u32) -> usize
+pub(crate) fn put_word(room: &mut [u8], at: usize, n: u32) -> usize
     requires { at + 10 ≤ length room.old }
     ensures within { (at ≤ result) × (result ≤ at + 10) }
     ensures written { take result room.new ≡ take at room.old ++ decimal n }
@@ -248,7 +252,13 @@ fn put_pair(room: &mut [u8], at: usize, n: u32) -> usize
 
 /// Writes ` name=` and a number in decimal.
 #[inline(always)]
-pub(crate) fn put_number(room: &mut [u8], at: usize, name: &'static str, n: u64) -> usize
+pub(crate) fn put_number(
+    room: &mut [u8],
+    at: usize,
+    table: &mut DigitTable,
+    name: &'static str,
+    n: u64,
+) -> usize
     requires { at + (length name.now + 2 + DIGITS) ≤ length room.old }
     ensures within { (at ≤ result) × (result ≤ at + (length name.now + 2 + DIGITS)) }
     ensures written { take result room.new
@@ -256,10 +266,11 @@ pub(crate) fn put_number(room: &mut [u8], at: usize, name: &'static str, n: u64)
     ensures len { length room.new ≡ length room.old }
 {
     let start = put_name(room, at, name);
-    put_decimal(room, start, n)
+    table.put_decimal(room, start, n)
 }
 
-/// Writes two lower-case hexadecimal digits for each byte.
+/// Writes two lower-case hexadecimal digits for each byte. A file handle of the usual length is spelled
+/// without loops.
 pub(crate) fn put_hex(room: &mut [u8], at: usize, bytes: &[u8]) -> usize
     requires { at + 2 * length bytes.now ≤ length room.old }
     ensures end { result ≡ at + 2 * length bytes.now }
@@ -267,6 +278,9 @@ pub(crate) fn put_hex(room: &mut [u8], at: usize, bytes: &[u8]) -> usize
     ensures kept { take at room.new ≡ take at room.old }
     ensures len { length room.new ≡ length room.old }
 {
+    if bytes.len() == HANDLE {
+        return put_spelled(room, at, &block::<HANDLE>(bytes));
+    }
     let mut end = at;
     for piece in bytes.chunks(SPELLED) {
         end = put_spelled(room, end, piece);

@@ -6,6 +6,7 @@ ghost use Rattle.xdr3.specs.Plain.{plain_item, run_items, run_size, width};
 ghost use Rattle.listing3.specs.Listing.{opening, shown_item, shown_items};
 ghost use Rattle.listing3.specs.machinery.Fields.{field_name, HasShortName};
 
+use crate::digit_table::DigitTable;
 use crate::room::{DIGITS, put_number};
 use byteorder::{BigEndian, ByteOrder};
 use std::alloc::AllocError;
@@ -25,6 +26,7 @@ const FIELD: usize = 64;
 pub(crate) fn put_run(
     room: &mut Vec<u8>,
     at: usize,
+    table: &mut DigitTable,
     fields: &[PlainField],
     bytes: &[u8],
 ) -> Result<usize, AllocError>
@@ -36,26 +38,26 @@ pub(crate) fn put_run(
     ensures len { vec_len room.old ≤ vec_len room.new }
 {
     if !are_short(fields) {
-        return put_each(room, at, fields, bytes);
+        return put_each(room, at, table, fields, bytes);
     }
     match fields.len() {
         2 => {
             make_room(room, at, 2 * FIELD)?;
-            Ok(put_two_fields(room, at, fields, bytes).0)
+            Ok(put_two_fields(room, at, table, fields, bytes).0)
         }
         3 => {
             make_room(room, at, 3 * FIELD)?;
-            Ok(put_three_fields(room, at, fields, bytes).0)
+            Ok(put_three_fields(room, at, table, fields, bytes).0)
         }
         5 => {
             make_room(room, at, 5 * FIELD)?;
-            Ok(put_five_fields(room, at, fields, bytes).0)
+            Ok(put_five_fields(room, at, table, fields, bytes).0)
         }
         16 => {
             make_room(room, at, 16 * FIELD)?;
-            Ok(put_sixteen_fields(room, at, fields, bytes).0)
+            Ok(put_sixteen_fields(room, at, table, fields, bytes).0)
         }
-        _ => put_each(room, at, fields, bytes),
+        _ => put_each(room, at, table, fields, bytes),
     }
 }
 
@@ -63,6 +65,7 @@ pub(crate) fn put_run(
 fn put_each(
     room: &mut Vec<u8>,
     at: usize,
+    table: &mut DigitTable,
     fields: &[PlainField],
     bytes: &[u8],
 ) -> Result<usize, AllocError>
@@ -78,7 +81,7 @@ fn put_each(
     for field in fields {
         let (name, n, width) = number_in(*field, rest);
         make_room(room, end, name.len() + 2 + DIGITS)?;
-        end = put_number(room, end, name, n);
+        end = put_number(room, end, table, name, n);
         rest = &rest[width..];
     }
     Ok(end)
@@ -108,7 +111,13 @@ fn field_name(field: PlainField) -> &'static str
 /// Writes ` name=value` for a field with a short name. Returns the position after it, and how many of
 /// the bytes it has.
 #[inline]
-fn put_field(room: &mut [u8], at: usize, field: PlainField, bytes: &[u8]) -> (usize, usize)
+fn put_field(
+    room: &mut [u8],
+    at: usize,
+    table: &mut DigitTable,
+    field: PlainField,
+    bytes: &[u8],
+) -> (usize, usize)
     requires short { HasShortName field }
     requires size { width field ≤ length bytes.now }
     requires room { at + FIELD ≤ length room.old }
@@ -119,12 +128,18 @@ fn put_field(room: &mut [u8], at: usize, field: PlainField, bytes: &[u8]) -> (us
     ensures len { length room.new ≡ length room.old }
 {
     let (name, n, size) = number_in(field, bytes);
-    (put_number(room, at, name, n), size)
+    (put_number(room, at, table, name, n), size)
 }
 
 /// Writes ` name=value` for the only field of a run, as `put_field` does.
 #[inline(always)]
-fn put_one_field(room: &mut [u8], at: usize, fields: &[PlainField], bytes: &[u8]) -> (usize, usize)
+fn put_one_field(
+    room: &mut [u8],
+    at: usize,
+    table: &mut DigitTable,
+    fields: &[PlainField],
+    bytes: &[u8],
+) -> (usize, usize)
     requires count { length fields.now ≡ 1 }
     requires short { All HasShortName fields.now }
     requires size { run_size fields.now ≤ length bytes.now }
@@ -135,13 +150,19 @@ fn put_one_field(room: &mut [u8], at: usize, fields: &[PlainField], bytes: &[u8]
         ≡ take at room.old ++ shown_items (run_items fields.now bytes.now) }
     ensures len { length room.new ≡ length room.old }
 {
-    put_field(room, at, fields[0], bytes)
+    put_field(room, at, table, fields[0], bytes)
 }
 
 /// Writes ` name=value` for each of two fields with short names. Returns the position after them, and
 /// how many of the bytes they have.
 #[inline(always)]
-fn put_two_fields(room: &mut [u8], at: usize, fields: &[PlainField], bytes: &[u8]) -> (usize, usize)
+fn put_two_fields(
+    room: &mut [u8],
+    at: usize,
+    table: &mut DigitTable,
+    fields: &[PlainField],
+    bytes: &[u8],
+) -> (usize, usize)
     requires count { length fields.now ≡ 2 }
     requires short { All HasShortName fields.now }
     requires size { run_size fields.now ≤ length bytes.now }
@@ -152,8 +173,8 @@ fn put_two_fields(room: &mut [u8], at: usize, fields: &[PlainField], bytes: &[u8
         ≡ take at room.old ++ shown_items (run_items fields.now bytes.now) }
     ensures len { length room.new ≡ length room.old }
 {
-    let (end, size) = put_field(room, at, fields[0], bytes);
-    let (last, more) = put_field(room, end, fields[1], &bytes[size..]);
+    let (end, size) = put_field(room, at, table, fields[0], bytes);
+    let (last, more) = put_field(room, end, table, fields[1], &bytes[size..]);
     (last, size + more)
 }
 
@@ -163,6 +184,7 @@ fn put_two_fields(room: &mut [u8], at: usize, fields: &[PlainField], bytes: &[u8
 fn put_three_fields(
     room: &mut [u8],
     at: usize,
+    table: &mut DigitTable,
     fields: &[PlainField],
     bytes: &[u8],
 ) -> (usize, usize)
@@ -176,8 +198,8 @@ fn put_three_fields(
         ≡ take at room.old ++ shown_items (run_items fields.now bytes.now) }
     ensures len { length room.new ≡ length room.old }
 {
-    let (end, size) = put_two_fields(room, at, &fields[..2], bytes);
-    let (last, more) = put_field(room, end, fields[2], &bytes[size..]);
+    let (end, size) = put_two_fields(room, at, table, &fields[..2], bytes);
+    let (last, more) = put_field(room, end, table, fields[2], &bytes[size..]);
     (last, size + more)
 }
 
@@ -187,6 +209,7 @@ fn put_three_fields(
 fn put_four_fields(
     room: &mut [u8],
     at: usize,
+    table: &mut DigitTable,
     fields: &[PlainField],
     bytes: &[u8],
 ) -> (usize, usize)
@@ -200,8 +223,8 @@ fn put_four_fields(
         ≡ take at room.old ++ shown_items (run_items fields.now bytes.now) }
     ensures len { length room.new ≡ length room.old }
 {
-    let (end, size) = put_two_fields(room, at, &fields[..2], bytes);
-    let (last, more) = put_two_fields(room, end, &fields[2..], &bytes[size..]);
+    let (end, size) = put_two_fields(room, at, table, &fields[..2], bytes);
+    let (last, more) = put_two_fields(room, end, table, &fields[2..], &bytes[size..]);
     (last, size + more)
 }
 
@@ -211,6 +234,7 @@ fn put_four_fields(
 fn put_five_fields(
     room: &mut [u8],
     at: usize,
+    table: &mut DigitTable,
     fields: &[PlainField],
     bytes: &[u8],
 ) -> (usize, usize)
@@ -224,8 +248,8 @@ fn put_five_fields(
         ≡ take at room.old ++ shown_items (run_items fields.now bytes.now) }
     ensures len { length room.new ≡ length room.old }
 {
-    let (end, size) = put_four_fields(room, at, &fields[..4], bytes);
-    let (last, more) = put_one_field(room, end, &fields[4..], &bytes[size..]);
+    let (end, size) = put_four_fields(room, at, table, &fields[..4], bytes);
+    let (last, more) = put_one_field(room, end, table, &fields[4..], &bytes[size..]);
     (last, size + more)
 }
 
@@ -235,6 +259,7 @@ fn put_five_fields(
 fn put_eight_fields(
     room: &mut [u8],
     at: usize,
+    table: &mut DigitTable,
     fields: &[PlainField],
     bytes: &[u8],
 ) -> (usize, usize)
@@ -248,8 +273,8 @@ fn put_eight_fields(
         ≡ take at room.old ++ shown_items (run_items fields.now bytes.now) }
     ensures len { length room.new ≡ length room.old }
 {
-    let (end, size) = put_four_fields(room, at, &fields[..4], bytes);
-    let (last, more) = put_four_fields(room, end, &fields[4..], &bytes[size..]);
+    let (end, size) = put_four_fields(room, at, table, &fields[..4], bytes);
+    let (last, more) = put_four_fields(room, end, table, &fields[4..], &bytes[size..]);
     (last, size + more)
 }
 
@@ -259,6 +284,7 @@ fn put_eight_fields(
 fn put_sixteen_fields(
     room: &mut [u8],
     at: usize,
+    table: &mut DigitTable,
     fields: &[PlainField],
     bytes: &[u8],
 ) -> (usize, usize)
@@ -272,8 +298,8 @@ fn put_sixteen_fields(
         ≡ take at room.old ++ shown_items (run_items fields.now bytes.now) }
     ensures len { length room.new ≡ length room.old }
 {
-    let (end, size) = put_eight_fields(room, at, &fields[..8], bytes);
-    let (last, more) = put_eight_fields(room, end, &fields[8..], &bytes[size..]);
+    let (end, size) = put_eight_fields(room, at, table, &fields[..8], bytes);
+    let (last, more) = put_eight_fields(room, end, table, &fields[8..], &bytes[size..]);
     (last, size + more)
 }
 

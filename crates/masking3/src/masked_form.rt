@@ -14,7 +14,9 @@ ghost use Rattle.masking3.specs.Masked.{masked_bytes};
 use crate::hashers::MaskHashers;
 use crate::masking_writer::{MaskingWriter, Plan};
 use crate::ways::Ways;
-use canon3::{EntryCounts, EntryWriter, Sink, Summary, kind_of, write_all, write_entries};
+use canon3::{
+    CountingWriter, EntryCounts, EntryWriter, Sink, Summary, kind_of, write_all, write_entries,
+};
 use capture3::{EntryRef, Error, Source, pack_header};
 use std::alloc::Global;
 use std::hash::BuildHasher;
@@ -124,7 +126,9 @@ impl<P: Plan, S: BuildHasher + Drop> EntryWriter for MaskingWriter<P, S> {
         self.begin_message();
         Ok(())
     }
+}
 
+impl<P: Plan, S: BuildHasher + Drop> CountingWriter for MaskingWriter<P, S> {
     fn handles(&self) -> u32 {
         self.handles.len()
     }

@@ -2,6 +2,7 @@
 use Rattle.std.specs.Prelude.{◌≡◌, ◌⊎◌, ℕ, List, map, Option, Some, string_bytes}
 use Rattle.capture3.specs.SidedChunks.{Streams}
 use Rattle.canon3.specs.CanonicalForm.{canonical_bytes}
+use Rattle.canon3.specs.Summary.{IsSummary}
 use Rattle.line3.specs.Asked.{Asks, AreRefused}
 use Rattle.line3.specs.declared.asked.Job.{Job}
 use Rattle.line3.specs.declared.asked.Job.TheVariants as jobs
@@ -23,7 +24,7 @@ module _ (holds : List ℕ → Option (List ℕ)) (old new : List WrittenFile) {
       → ListsFile contents file.now bytes stdout outcome back
   AnswersJob (jobs.Canon input output) outcome =
       (bytes : List ℕ) → holds input.now ≡ Some bytes
-      → RewritesFile canonical_bytes input.now output.now bytes old new outcome
+      → RewritesFile IsSummary canonical_bytes input.now output.now bytes old new outcome
   AnswersJob (jobs.Same first second) outcome =
       (bytes other : List ℕ) → holds first.now ≡ Some bytes → holds second.now ≡ Some other
       → ComparesFiles first.now second.now bytes other outcome

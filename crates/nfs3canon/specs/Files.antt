@@ -6,8 +6,8 @@ use Rattle.capture3.specs.Entries.{OnRefused}
 use Rattle.capture3.specs.FirstFault.{FirstFault}
 use Rattle.capture3.specs.SidedChunks.{Streams}
 use Rattle.canon3.specs.Comparison.{DecidesSame}
-use Rattle.canon3.specs.EntryWriter.{WritesAll}
-use Rattle.canon3.specs.Summary.{IsSummary}
+use Rattle.canon3.specs.EntryWriter.{WritesAllCounted}
+use Rattle.canon3.specs.Summary.{AreMessageCounts, IsSummary}
 use Rattle.listing3.specs.Listing.{shown}
 use Rattle.packing3.specs.Packed.{IsPacked}
 use Rattle.program3.specs.Files.{FailsToMake, WrittenFile}
@@ -34,7 +34,7 @@ ComparesFiles first second file other outcome = IsOfName first outcome ⊎ IsOfN
 abbrev pub ListsFile : {W : Type 0} → (W → Option (List ℕ)) → (name bytes : List ℕ) → W → Outcome
     → Option W → Type 0
 ListsFile contents name bytes output (outcomes.Listed came) (Some new) =
-    WritesAll shown bytes (contents output) (contents new) came
+    WritesAllCounted AreMessageCounts shown bytes (contents output) (contents new) came
 ListsFile contents name bytes output (outcomes.Listed came) None = came ≡ Err errors.Memory
 ListsFile contents name bytes output outcome back =
     IsOfName name outcome × (back ≡ Some output)

@@ -1,8 +1,8 @@
 //! The forms in which a command writes what it reads.
 
-use canon3::{Sink, Summary, canon};
+use canon3::{MessageCounts, Sink, Summary, canon};
 use capture3::{Error, Hashers, Source};
-use listing3::show;
+use listing3::list;
 use program3::Rewriting;
 use std::alloc::Global;
 use std::hash::BuildHasher;
@@ -15,8 +15,13 @@ pub struct Canonical<S: BuildHasher + Drop> {
 
 impl<S: BuildHasher + Drop> Rewriting for Canonical<S> {
     ghost use Rattle.canon3.specs.CanonicalForm.{canonical_bytes};
+    ghost use Rattle.canon3.specs.Summary.{IsSummary};
+
+    type Counts = Summary;
 
     ghost form = { λ _. canonical_bytes };
+
+    ghost counts = { IsSummary };
 
     fn rewrite<R: Source, W: Sink>(
         self,
@@ -35,16 +40,21 @@ pub struct Listing<S: BuildHasher + Drop> {
 }
 
 impl<S: BuildHasher + Drop> Rewriting for Listing<S> {
+    ghost use Rattle.canon3.specs.Summary.{AreMessageCounts};
     ghost use Rattle.listing3.specs.Listing.{shown};
 
+    type Counts = MessageCounts;
+
     ghost form = { λ _. shown };
+
+    ghost counts = { AreMessageCounts };
 
     fn rewrite<R: Source, W: Sink>(
         self,
         alloc: Global,
         source: &mut R,
         sink: &mut W,
-    ) -> Result<Summary, Error> {
-        show(alloc, self.hashers, source, sink)
+    ) -> Result<MessageCounts, Error> {
+        list(alloc, self.hashers.calls, source, sink)
     }
 }

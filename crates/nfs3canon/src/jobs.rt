@@ -2,6 +2,7 @@
 
 ghost use Rattle.std.specs.Prelude.{◌≡◌, ℕ, List, Some, map, string_bytes};
 ghost use Rattle.canon3.specs.CanonicalForm.{canonical_bytes};
+ghost use Rattle.canon3.specs.Summary.{IsSummary};
 ghost use Rattle.program3.specs.Files.{RewritesFile};
 ghost use Rattle.nfs3canon.specs.Answers.{AnswersJob, AnswersLine};
 ghost use Rattle.nfs3canon.specs.Files.{ComparesFiles, CountsFile, ListsFile};
@@ -117,7 +118,7 @@ fn canon<F: Files, H: Hashing>(
     output: &str,
 ) -> Ended
     ensures { (bytes : List ℕ) → F.holds files.old input.now ≡ Some bytes
-        → RewritesFile canonical_bytes input.now output.now bytes
+        → RewritesFile IsSummary canonical_bytes input.now output.now bytes
         (F.finished files.old) (F.finished files.new) result.outcome }
 {
     match hashing.hashers() {

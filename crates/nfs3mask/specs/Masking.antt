@@ -1,5 +1,6 @@
 -- What came of masking a capture.
 use Rattle.std.specs.Prelude.{ℕ, List, Ok}
+use Rattle.canon3.specs.Summary.{IsSummary}
 use Rattle.masking3.specs.Masked.{masked_bytes}
 use Rattle.masking3.specs.declared.ways.Ways.{Ways}
 use Rattle.program3.specs.Files.{KeepsForm, RewritesFile, WrittenFile}
@@ -11,6 +12,6 @@ use Rattle.program3.specs.declared.outcome.Outcome.TheVariants as outcomes
 abbrev pub MasksFile : Ways → (input output bytes : List ℕ) → (old new : List WrittenFile)
     → Outcome → Type 0
 MasksFile ways input output bytes old new (outcomes.Masked summary words) =
-    KeepsForm (masked_bytes ways) output bytes old new (Ok summary)
+    KeepsForm IsSummary (masked_bytes ways) output bytes old new (Ok summary)
 MasksFile ways input output bytes old new outcome =
-    RewritesFile (masked_bytes ways) input output bytes old new outcome
+    RewritesFile IsSummary (masked_bytes ways) input output bytes old new outcome

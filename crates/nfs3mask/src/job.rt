@@ -1,6 +1,7 @@
 //! What the job does with files.
 
 ghost use Rattle.std.specs.Prelude.{◌≡◌, ℕ, List, Some};
+ghost use Rattle.canon3.specs.Summary.{IsSummary};
 ghost use Rattle.masking3.specs.Masked.{masked_bytes};
 ghost use Rattle.masking3.specs.declared.ways.Ways.{Ways};
 ghost use Rattle.program3.specs.Files.{RewritesFile, WrittenFile};
@@ -22,9 +23,14 @@ struct MaskedForm<S: BuildHasher + Drop> {
 }
 
 impl<S: BuildHasher + Drop> Rewriting for MaskedForm<S> {
+    ghost use Rattle.canon3.specs.Summary.{IsSummary};
     ghost use Rattle.masking3.specs.Masked.{masked_bytes};
 
+    type Counts = Summary;
+
     ghost form = { λ m. masked_bytes m.ways };
+
+    ghost counts = { IsSummary };
 
     fn rewrite<R: Source, W: Sink>(
         self,
@@ -64,7 +70,7 @@ pub fn run_mask<F: Files, S: BuildHasher + Drop>(
 #[tactic(auto, using(crate::proofs::MaskingLemmas::masks))]
 fn with_mask_told(outcome: Outcome, told: String) -> Outcome
     ensures { (ways : Ways) (input output bytes : List ℕ) (old new : List WrittenFile)
-        → RewritesFile (masked_bytes ways) input output bytes old new outcome
+        → RewritesFile IsSummary (masked_bytes ways) input output bytes old new outcome
         → MasksFile ways input output bytes old new result }
 {
     match outcome {

@@ -7,8 +7,7 @@ use Rattle.capture3.specs.declared.fault.Error.TheVariants as errors
 use Rattle.capture3.specs.Entry.{Entry}
 use Rattle.capture3.specs.Told.{Told, Gave, GavePrefix}
 use Rattle.capture3.proofs.Lemmas.Reader.ToldLemmas.{IsPrefixOf, prefix_of_told}
-use Rattle.canon3.specs.EntryWriter.{WritesAll}
-use Rattle.canon3.specs.declared.summary.Summary.{Summary}
+use Rattle.canon3.specs.EntryWriter.{WritesAllCounted}
 use Rattle.program3.specs.Writing.{WritesOut}
 
 -- a source that tells what is left, and gave nothing yet, gives a prefix of that
@@ -46,23 +45,23 @@ pub append_none : (known : Option (List ℕ)) → append_known known [] ≡ know
 append_none None = refl
 append_none (Some xs) = ap Some (append-nil xs)
 
-module _ (form : List Entry → List ℕ) (bytes : List ℕ) (old mid new : Option (List ℕ)) where
-  written_on : (came : Result Summary Error) → WritesAll form bytes old mid came → Keeps mid new → WritesAll form bytes old new came
-  written_on (Ok summary) (entries, typed, is, appended) kept = (entries, typed, is, appends_kept old mid new (form entries) appended kept)
+module _ {C : Type 0} (AreCountsOf : List ℕ → C → Type 0) (form : List Entry → List ℕ) (bytes : List ℕ) (old mid new : Option (List ℕ)) where
+  written_on : (came : Result C Error) → WritesAllCounted AreCountsOf form bytes old mid came → Keeps mid new → WritesAllCounted AreCountsOf form bytes old new came
+  written_on (Ok counts) (entries, typed, are, appended) kept = (entries, typed, are, appends_kept old mid new (form entries) appended kept)
   written_on (Err (errors.Refused fault)) (entries, first, reached, appended) kept = (entries, first, reached, appends_kept old mid new (form entries) appended kept)
   written_on (Err errors.Read) writes kept = tt
   written_on (Err errors.Write) writes kept = tt
   written_on (Err errors.Memory) writes kept = tt
 
-  written_out_of : (came now : Result Summary Error) → WritesAll form bytes old mid came → WritesOut came mid now new → WritesAll form bytes old new now
-  written_out_of came now writes (inl failed) = subst (WritesAll form bytes old new) (sym failed) tt
-  written_out_of came now writes (inr (is, kept)) = subst (WritesAll form bytes old new) (sym is) (written_on came writes kept)
+  written_out_of : (came now : Result C Error) → WritesAllCounted AreCountsOf form bytes old mid came → WritesOut came mid now new → WritesAllCounted AreCountsOf form bytes old new now
+  written_out_of came now writes (inl failed) = subst (WritesAllCounted AreCountsOf form bytes old new) (sym failed) tt
+  written_out_of came now writes (inr (is, kept)) = subst (WritesAllCounted AreCountsOf form bytes old new) (sym is) (written_on came writes kept)
 
   -- the rest of the buffer was written, or a write has failed
-  pub written_all : (came now : Result Summary Error) → WritesAll form bytes old mid came → (came ≡ Err errors.Write → now ≡ came) → (came ≢ Err errors.Write → WritesOut came mid now new)
-      → WritesAll form bytes old new now
-  written_all (Err errors.Write) now writes failed out = subst (WritesAll form bytes old new) (sym (failed refl)) tt
-  written_all (Ok summary) now writes failed out = written_out_of (Ok summary) now writes (out (λ is. absurd (cc)))
+  pub written_all : (came now : Result C Error) → WritesAllCounted AreCountsOf form bytes old mid came → (came ≡ Err errors.Write → now ≡ came) → (came ≢ Err errors.Write → WritesOut came mid now new)
+      → WritesAllCounted AreCountsOf form bytes old new now
+  written_all (Err errors.Write) now writes failed out = subst (WritesAllCounted AreCountsOf form bytes old new) (sym (failed refl)) tt
+  written_all (Ok counts) now writes failed out = written_out_of (Ok counts) now writes (out (λ is. absurd (cc)))
   written_all (Err (errors.Refused fault)) now writes failed out = written_out_of (Err (errors.Refused fault)) now writes (out (λ is. absurd (cc)))
   written_all (Err errors.Read) now writes failed out = written_out_of (Err errors.Read) now tt (out (λ is. absurd (cc)))
   written_all (Err errors.Memory) now writes failed out = written_out_of (Err errors.Memory) now tt (out (λ is. absurd (cc)))

@@ -7,7 +7,6 @@ use Rattle.capture3.specs.Entries.{OnRefused}
 use Rattle.capture3.specs.Entry.{Entry}
 use Rattle.capture3.specs.FirstFault.{FirstFault}
 use Rattle.capture3.specs.Typed.{Typed}
-use Rattle.canon3.specs.Summary.{IsSummary}
 use Rattle.canon3.specs.declared.summary.Summary.{Summary}
 use Rattle.program3.specs.Opening.{IsOfName}
 use Rattle.program3.specs.declared.files.Made.{Made}
@@ -41,21 +40,24 @@ FailsToMake output streams outcome = FailsToOpenStream output outcome
     ⊎ Any (λ stream. FailsToOpenStream stream outcome) streams
 
 -- What came of reading a capture of these bytes, and writing a form of its entries to a file of
--- this name. It succeeded: this is the capture's summary, and the one file that was finished has
+-- this name. It succeeded: these are the capture's counts, and the one file that was finished has
 -- the name, and its bytes are the form of all entries. Or no file was finished, and if the capture
 -- was refused, this is its first fault.
-abbrev pub KeepsForm : (form : List Entry → List ℕ) → (name bytes : List ℕ)
-    → (old new : List WrittenFile) → Result Summary Error → Type 0
-KeepsForm form name bytes old new (Ok summary) = (entries : List Entry) × Typed bytes entries
-    × IsSummary bytes summary × (new ≡ record { name = name; bytes = Some (form entries) } ∷ old)
-KeepsForm form name bytes old new (Err error) =
-    OnRefused {X = Summary} (Err error) (FirstFault bytes) × (new ≡ old)
+abbrev pub KeepsForm : {C : Type 0} → (AreCountsOf : List ℕ → C → Type 0)
+    → (form : List Entry → List ℕ) → (name bytes : List ℕ) → (old new : List WrittenFile)
+    → Result C Error → Type 0
+KeepsForm AreCountsOf form name bytes old new (Ok counts) = (entries : List Entry)
+    × Typed bytes entries × AreCountsOf bytes counts
+    × (new ≡ record { name = name; bytes = Some (form entries) } ∷ old)
+KeepsForm {C = C} AreCountsOf form name bytes old new (Err error) =
+    OnRefused {X = C} (Err error) (FirstFault bytes) × (new ≡ old)
 
 -- the same of the file of one name and that of another; or no file was finished, since one of the
 -- two was not opened or made
-abbrev pub RewritesFile : (form : List Entry → List ℕ) → (input output bytes : List ℕ)
-    → (old new : List WrittenFile) → Outcome → Type 0
-RewritesFile form input output bytes old new (outcomes.Counted came) =
-    KeepsForm form output bytes old new came
-RewritesFile form input output bytes old new outcome =
+abbrev pub RewritesFile : (IsSummaryOf : List ℕ → Summary → Type 0)
+    → (form : List Entry → List ℕ) → (input output bytes : List ℕ) → (old new : List WrittenFile)
+    → Outcome → Type 0
+RewritesFile IsSummaryOf form input output bytes old new (outcomes.Counted came) =
+    KeepsForm IsSummaryOf form output bytes old new came
+RewritesFile IsSummaryOf form input output bytes old new outcome =
     FailsToOpen input output outcome × (new ≡ old)

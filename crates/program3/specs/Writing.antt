@@ -3,10 +3,9 @@ use Rattle.std.specs.Prelude.{◌≡◌, ◌⊎◌, ℕ, List, Option, Result, E
 use Rattle.std.specs.Io.KnownBytes.{Keeps}
 use Rattle.capture3.specs.declared.fault.Error.{Error}
 use Rattle.capture3.specs.declared.fault.Error.TheVariants as errors
-use Rattle.canon3.specs.declared.summary.Summary.{Summary}
 
 -- all of it, and what came of the job stays, or a write failed
-abbrev pub WritesOut : Result Summary Error → Option (List ℕ) → Result Summary Error
+abbrev pub WritesOut : {C : Type 0} → Result C Error → Option (List ℕ) → Result C Error
     → Option (List ℕ) → Type 0
 WritesOut came gathered now written = (now ≡ Err errors.Write)
     ⊎ ((now ≡ came) × Keeps gathered written)

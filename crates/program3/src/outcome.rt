@@ -2,7 +2,7 @@
 
 ghost use Rattle.std.specs.Prelude.{◌≡◌, false};
 
-use canon3::{SameError, Summary, Verdict};
+use canon3::{MessageCounts, SameError, Summary, Verdict};
 use capture3 as captures;
 use line3::LineFault;
 
@@ -14,7 +14,7 @@ pub enum Outcome {
     /// A capture was masked and counted. The text is the words that tell the mask, each with a space before it.
     Masked(Summary, String),
     /// A capture was listed, or its first fault or a failure met.
-    Listed(Result<Summary, captures::Error>),
+    Listed(Result<MessageCounts, captures::Error>),
     /// Two captures were compared, or a fault or a failure met.
     Compared(Result<Verdict, SameError>),
     /// Streams were packed, or a limit or a failure met.

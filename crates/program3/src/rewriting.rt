@@ -3,7 +3,7 @@
 ghost use Rattle.std.specs.Prelude.{◌≡◌, ◌∷◌, ℕ, List, [], Some, IfErr, IfOk, OnErr, OnOk};
 ghost use Rattle.capture3.specs.Entry as spec;
 ghost use Rattle.capture3.specs.Told.{GavePrefix};
-ghost use Rattle.canon3.specs.EntryWriter.{WritesAll, WritesGiven};
+ghost use Rattle.canon3.specs.EntryWriter.{WritesAllCounted, WritesGivenCounted};
 ghost use Rattle.canon3.specs.WriteErrors.{IsOfWriting};
 ghost use Rattle.program3.specs.Files.{KeepsForm, RewritesFile};
 
@@ -17,8 +17,14 @@ use std::io::{BufWriter, Read, Write};
 
 /// What reads a capture and writes a form of its entries.
 pub trait Rewriting {
+    /// What is counted of a capture.
+    type Counts: Drop;
+
     // What the entries are written as.
     ghost form: { Self → List spec.Entry → List ℕ };
+
+    // Holds of a capture's bytes and its counts.
+    ghost counts: { List ℕ → Self.Counts → Type 0 };
 
     /// Reads a capture to its end, and writes the form of its entries as they come.
     fn rewrite<R: Source, W: Sink>(
@@ -26,17 +32,18 @@ pub trait Rewriting {
         alloc: Global,
         source: &mut R,
         sink: &mut W,
-    ) -> Result<Summary, Error>
-        ensures writes { WritesGiven (form self) (R.told source.old) (R.told source.new)
-            (W.written sink.old) (W.written sink.new) result }
+    ) -> Result<Self::Counts, Error>
+        ensures writes { WritesGivenCounted counts (form self) (R.told source.old)
+            (R.told source.new) (W.written sink.old) (W.written sink.new) result }
         ensures whole { (bytes : List ℕ)
             → GavePrefix (R.told source.old) (R.told source.new) bytes
-            → WritesAll (form self) bytes (W.written sink.old) (W.written sink.new) result };
+            → WritesAllCounted counts (form self) bytes (W.written sink.old)
+            (W.written sink.new) result };
 }
 
 /// Reads the capture of one name, and writes the form of its entries to the file of another. The file gets
 /// its name once the form is whole and safe, and at no other end.
-pub fn run_rewriting<F: Files, J: Rewriting + Drop>(
+pub fn run_rewriting<F: Files, J: Rewriting<Counts = Summary> + Drop>(
     alloc: Global,
     rewriting: J,
     files: &mut F,
@@ -44,7 +51,7 @@ pub fn run_rewriting<F: Files, J: Rewriting + Drop>(
     output: &str,
 ) -> Ended
     ensures rewrites { (bytes : List ℕ) → F.holds files.old input.now ≡ Some bytes
-        → RewritesFile (J.form rewriting) input.now output.now bytes
+        → RewritesFile J.counts (J.form rewriting) input.now output.now bytes
         (F.finished files.old) (F.finished files.new) result.outcome }
 {
     match files.both_opened(input, output) {
@@ -56,7 +63,7 @@ pub fn run_rewriting<F: Files, J: Rewriting + Drop>(
     }
 }
 
-fn kept<F: Files, J: Rewriting + Drop>(
+fn kept<F: Files, J: Rewriting<Counts = Summary> + Drop>(
     alloc: Global,
     rewriting: J,
     files: &mut F,
@@ -65,7 +72,7 @@ fn kept<F: Files, J: Rewriting + Drop>(
 ) -> Result<Summary, Error>
     ensures keeps { (bytes : List ℕ) → F.Input.remaining source ≡ Some bytes
         → F.Output.contents made.file ≡ Some []
-        → KeepsForm (J.form rewriting) (F.name_of made.place) bytes
+        → KeepsForm J.counts (J.form rewriting) (F.name_of made.place) bytes
         (F.finished files.old) (F.finished files.new) result }
 {
     let Made { file, place } = made;
@@ -120,9 +127,10 @@ pub fn form_written<R: Read + Drop, W: Write + Drop, J: Rewriting + Drop>(
     rewriting: J,
     source: R,
     output: W,
-) -> Result<(Result<Summary, Error>, W), AllocError>
+) -> Result<(Result<J::Counts, Error>, W), AllocError>
     ensures writes { IfOk result (λ done. (bytes : List ℕ) → R.remaining source ≡ Some bytes
-        → WritesAll (J.form rewriting) bytes (W.contents output) (W.contents done.1) done.0) }
+        → WritesAllCounted J.counts (J.form rewriting) bytes (W.contents output)
+        (W.contents done.1) done.0) }
 {
     let Ok(buffer) = BufWriter::with_capacity(alloc, WRITTEN_AT_ONCE, output) else {
         return Err(AllocError);

@@ -4,7 +4,6 @@ ghost use Rattle.std.specs.Prelude.{◌≡◌, ◌≢◌, Err};
 ghost use Rattle.std.specs.Io.Buffered.{writer_contents, writer_inner};
 ghost use Rattle.program3.specs.Writing.{WritesOut};
 
-use canon3::Summary;
 use capture3::Error;
 use std::io::{BufWriter, Write};
 
@@ -17,10 +16,10 @@ pub const WRITTEN_AT_ONCE: usize = 65_536;
 /// # Errors
 ///
 /// The error of `came`, or `Write` if the rest cannot be written.
-pub fn written_out<W: Write + Drop>(
-    came: Result<Summary, Error>,
+pub fn written_out<C: Drop, W: Write + Drop>(
+    came: Result<C, Error>,
     mut buffer: BufWriter<W>,
-) -> (Result<Summary, Error>, W)
+) -> (Result<C, Error>, W)
     ensures failed { came ≡ Err Error.Write → result.1 ≡ writer_inner buffer }
     ensures came { came ≡ Err Error.Write → result.0 ≡ came }
     ensures written { came ≢ Err Error.Write

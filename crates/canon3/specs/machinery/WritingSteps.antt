@@ -52,6 +52,28 @@ pub record IsEnded (first told : Told) (given : List ℕ) (entries : List Entry)
   pub ended : IsSpent told
   pub typed : Typed given entries
 
+-- a writer to a sink, from when the source told this first, and the sink had the old bytes
+module _ {T : Type 0} (form : List Entry → List ℕ) (before : List Entry → List Item)
+    (stands : T → List Item → Type 0) (going : T → Type 0) (first : Told)
+    (old : Option (List ℕ)) where
+  -- all bytes were a capture's, and the form of all its entries was written
+  pub record HasWrittenAll (told : Told) (writer : T) (counts : EntryCounts)
+      (new : Option (List ℕ)) : Type 0 where
+    pub given : List ℕ
+    pub handed : List Entry
+    pub ended : IsEnded first told given handed
+    pub writes : HasWritten form before stands going writer counts old new handed
+
+  -- an error came
+  pub record HasStopped (told : Told) (new : Option (List ℕ)) (error : Error) : Type 0 where
+    pub given : List ℕ
+    pub consumed : Gave first told given
+    pub stopped : IsStoppedBy form error told given old new
+
+  abbrev pub EndsWriting : Told → T → (new : Option (List ℕ)) → Result EntryCounts Error → Type 0
+  EndsWriting told writer new (Ok counts) = HasWrittenAll told writer counts new
+  EndsWriting told writer new (Err error) = HasStopped told new error
+
 -- a reader that hands out entries, from when the source told this first, and a writer to a sink,
 -- from when it had the old bytes
 module _ {T R S H : Type 0} {builds : BuildHasher.Ghosts S H} {hashes : Hasher.Ghosts H}
@@ -66,27 +88,17 @@ module _ {T R S H : Type 0} {builds : BuildHasher.Ghosts S H} {hashes : Hasher.G
     pub reads : StandsFor told reader given handed
     pub writes : HasWritten form before stands going writer counts old new handed
 
-  -- all bytes were a capture's, and the form of all its entries was written
-  pub record HasWrittenAll (reader : Entries R S H builds hashes) (writer : T)
-      (counts : EntryCounts) (new : Option (List ℕ)) : Type 0 where
-    pub given : List ℕ
-    pub handed : List Entry
-    pub ended : IsEnded first (told (source_of reader)) given handed
-    pub writes : HasWritten form before stands going writer counts old new handed
-
-  pub record HasStopped (reader : Entries R S H builds hashes) (new : Option (List ℕ))
-      (error : Error) : Type 0 where
-    pub given : List ℕ
-    pub consumed : Gave first (told (source_of reader)) given
-    pub stopped : IsStoppedBy form error (told (source_of reader)) given old new
-
   abbrev pub WritesOn : Entries R S H builds hashes → T → EntryCounts → Option (List ℕ)
       → Result Bool Error → Type 0
   WritesOn reader writer counts new (Ok true) = IsWriting reader writer counts new
-  WritesOn reader writer counts new (Ok false) = HasWrittenAll reader writer counts new
-  WritesOn reader writer counts new (Err error) = HasStopped reader new error
+  WritesOn reader writer counts new (Ok false) =
+      HasWrittenAll form before stands going first old (told (source_of reader)) writer counts new
+  WritesOn reader writer counts new (Err error) =
+      HasStopped form before stands going first old (told (source_of reader)) new error
 
   abbrev pub WritesToTheEnd : {X : Type 0} → Entries R S H builds hashes → T → EntryCounts
       → Option (List ℕ) → Result X Error → Type 0
-  WritesToTheEnd reader writer counts new (Ok x) = HasWrittenAll reader writer counts new
-  WritesToTheEnd reader writer counts new (Err error) = HasStopped reader new error
+  WritesToTheEnd reader writer counts new (Ok x) =
+      HasWrittenAll form before stands going first old (told (source_of reader)) writer counts new
+  WritesToTheEnd reader writer counts new (Err error) =
+      HasStopped form before stands going first old (told (source_of reader)) new error

@@ -13,6 +13,7 @@ use Rattle.capture3.specs.Entry.{Entry, Begin, Call, Turn, Reply, Close, End, it
 use Rattle.capture3.specs.Typed.{Typed}
 use Rattle.capture3.proofs.Lemmas.Reached.EmittedEntries.{reached_by_machine}
 use Rattle.canon3.specs.declared.entry_counts.EntryCounts.{EntryCounts}
+use Rattle.canon3.specs.declared.summary.MessageCounts.{MessageCounts}
 use Rattle.canon3.specs.declared.summary.Summary.{Summary}
 use Rattle.capture3.specs.declared.reader.entry.Kind.{Kind}
 use Rattle.capture3.specs.declared.reader.entry.Kind.TheVariants as kinds
@@ -21,8 +22,8 @@ use Rattle.canon3.specs.Parting.{connections}
 use Rattle.canon3.specs.EntryCounts.{AreCounted}
 use Rattle.canon3.specs.machinery.CountedKinds.{calls, replies}
 use Rattle.canon3.specs.Progress.{HasPassed}
-use Rattle.canon3.specs.Summary.{ConcludesAll, ConcludesGiven, is_begin, is_call, is_reply, IsSummary}
-use Rattle.canon3.specs.machinery.Sums.{all_items, Sums}
+use Rattle.canon3.specs.Summary.{AreMessageCounts, ConcludesAll, ConcludesGiven, is_begin, is_call, is_reply, IsSummary}
+use Rattle.canon3.specs.machinery.Sums.{all_items, Sums, SumsMessages}
 use Rattle.capture3.specs.Kept.{IsOfKind}
 use Rattle.canon3.specs.Values.{handles}
 use Rattle.canon3.proofs.Lemmas.Order.InOrder.{typed_in_order}
@@ -82,6 +83,15 @@ connections_counted (Turn ∷ entries) = connections_counted entries
 connections_counted (Reply id items ∷ entries) = connections_counted entries
 connections_counted (Close ∷ entries) = connections_counted entries
 connections_counted (End ∷ entries) = connections_counted entries
+
+pub message_counts_are : (bytes : List ℕ) (counts : MessageCounts) (entries : List Entry) → Typed bytes entries → SumsMessages counts entries → AreMessageCounts bytes counts
+message_counts_are bytes counts entries typed sums = record {
+  entries = entries;
+  typed = typed;
+  connections = sums.connections;
+  calls = sums.calls;
+  replies = sums.replies;
+}
 
 -- there are few enough handles to be counted
 few_distinct : (bytes : List ℕ) (entries : List Entry) → Typed bytes entries → min (length (distinct bytes_eq (handles entries))) number_limit ≡ length (distinct bytes_eq (handles entries))

@@ -2,7 +2,7 @@
 use Rattle.std.proofs.Common.{⊎_elim, ◌≡◌, ℕ, Bool, true, false, List, [], ◌∷◌, ◌++◌, refl, subst, sym, Option, Result, Ok, Err, IfErr, IfOk, arith}
 use Rattle.std.specs.Prelude.{IsTrue}
 use Rattle.capture3.specs.Told.{Gave, Told}
-use Rattle.capture3.proofs.Lemmas.Reader.ToldLemmas.{gave_none, IsPrefixOf, shown_of_all}
+use Rattle.capture3.proofs.Lemmas.Reader.ToldLemmas.{IsPrefixOf, shown_of_all}
 use Rattle.std.specs.Io.KnownBytes.{Appends}
 use Rattle.std.proofs.KnownBytes.{Appends-nil}
 use Rattle.std.specs.declared.hash.BuildHasher as BuildHasher
@@ -22,10 +22,8 @@ use Rattle.capture3.specs.Reached.{AreFirstReached, Reached}
 use Rattle.capture3.proofs.Lemmas.Reached.EmittedEntries.{reached_by_machine}
 use Rattle.canon3.specs.declared.entry_counts.EntryCounts.{EntryCounts}
 use Rattle.capture3.specs.Typed.{Typed}
-use Rattle.canon3.specs.declared.summary.Summary.{Summary}
-use Rattle.canon3.specs.EntryWriter.{IsStoppedBy, KeepsPrefixes, WritesAll, WritesGiven}
-use Rattle.canon3.specs.Summary.{IsSummary}
-use Rattle.canon3.specs.machinery.WritingSteps.{WritesOn, HasMore}
+use Rattle.canon3.specs.EntryWriter.{IsStoppedBy, KeepsPrefixes, WritesAllCounted, WritesGivenCounted}
+use Rattle.canon3.specs.machinery.WritingSteps.{WritesOn, HasMore, HasStopped, HasWrittenAll}
 use Rattle.canon3.specs.WriteErrors.{IsOfWriting}
 use Rattle.canon3.specs.SinkWrites.{AppendsFront}
 use Rattle.canon3.proofs.Lemmas.Order.Reaching.{reached_first}
@@ -58,20 +56,21 @@ module _ (form : List Entry → List ℕ) (prefixes : KeepsPrefixes form) where
   met_stops errors.Memory told old new given entries met written = cut_reached old new given entries met (whole_front old new (form entries) written)
 
   -- before any byte was read
-  pub nothing_written : (told : Told) (old : Option (List ℕ)) → WritesGiven form told told old old (Err errors.Memory)
-  nothing_written told old = ([], gave_none told, (_, reached_by_machine [] (λ k. omega arith), ([], _, refl, Appends-nil old)))
+  pub nothing_written : (told : Told) (old : Option (List ℕ)) → IsStoppedBy form errors.Memory told [] old old
+  nothing_written told old = (_, reached_by_machine [] (λ k. omega arith), ([], _, refl, Appends-nil old))
 
   -- of all bytes, of which those that were given are a prefix
-  pub all_written : (bytes : List ℕ) (first told : Told) (old new : Option (List ℕ)) (result : Result Summary Error) → ((given : List ℕ) → Gave first told given → IsPrefixOf told given bytes) → WritesGiven form first told old new result → WritesAll form bytes old new result
-  all_written bytes first told old new (Ok summary) prefix (given, gave, (entries, ended, typed, is, written)) =
+  pub all_written : {C : Type 0} (AreCountsOf : List ℕ → C → Type 0) (bytes : List ℕ) (first told : Told) (old new : Option (List ℕ)) (result : Result C Error) → ((given : List ℕ) → Gave first told given → IsPrefixOf told given bytes)
+      → WritesGivenCounted AreCountsOf form first told old new result → WritesAllCounted AreCountsOf form bytes old new result
+  all_written AreCountsOf bytes first told old new (Ok counts) prefix (given, gave, (entries, ended, typed, are, written)) =
       let all = (prefix given gave).all ended in
-      (entries, subst (λ (b : List ℕ). Typed b entries) all typed, subst (λ (b : List ℕ). IsSummary b summary) all is, written)
-  all_written bytes first told old new (Err (errors.Refused fault)) prefix (given, gave, (entries, met, written)) =
+      (entries, subst (λ (b : List ℕ). Typed b entries) all typed, subst (λ (b : List ℕ). AreCountsOf b counts) all are, written)
+  all_written AreCountsOf bytes first told old new (Err (errors.Refused fault)) prefix (given, gave, (entries, met, written)) =
       let shown = shown_of_all told given bytes entries fault (prefix given gave) met in
       (entries, shown.0, shown.1, written)
-  all_written bytes first told old new (Err errors.Read) prefix w = tt
-  all_written bytes first told old new (Err errors.Write) prefix w = tt
-  all_written bytes first told old new (Err errors.Memory) prefix w = tt
+  all_written AreCountsOf bytes first told old new (Err errors.Read) prefix w = tt
+  all_written AreCountsOf bytes first told old new (Err errors.Write) prefix w = tt
+  all_written AreCountsOf bytes first told old new (Err errors.Memory) prefix w = tt
 
   -- ---- along a reader
 
@@ -86,3 +85,14 @@ module _ (form : List Entry → List ℕ) (prefixes : KeepsPrefixes form) where
     written_goes_on given handed one (Err errors.Write) more error consumed reached reads cut = record { given = given; consumed = consumed; stopped = cut_reached old new given (handed ++ one ∷ []) reached cut }
     written_goes_on given handed one (Err errors.Read) more error consumed reached reads cut = ⊎_elim (λ e. absurd (cc)) (λ e. absurd (cc)) error
     written_goes_on given handed one (Err (errors.Refused fault)) more error consumed reached reads cut = ⊎_elim (λ e. absurd (cc)) (λ e. absurd (cc)) error
+
+-- ---- at the end
+
+-- what is said of a writer that wrote all, or that an error stopped, and of what was counted
+module _ {T C : Type 0} (form : List Entry → List ℕ) (before : List Entry → List Item) (stands : T → List Item → Type 0) (going : T → Type 0) (first : Told) (old : Option (List ℕ)) (AreCountsOf : List ℕ → C → Type 0) (told : Told) (new : Option (List ℕ)) where
+  pub whole_given : (writer : T) (counts : EntryCounts) (counted : C) (w : HasWrittenAll form before stands going first old told writer counts new) → AreCountsOf w.given counted
+      → WritesGivenCounted AreCountsOf form first told old new (Ok counted)
+  whole_given writer counts counted w are = (w.given, w.ended.consumed, (w.handed, w.ended.ended, w.ended.typed, are, w.writes.written))
+
+  pub stopped_given : (error : Error) → HasStopped form before stands going first old told new error → WritesGivenCounted AreCountsOf form first told old new (Err error)
+  stopped_given error s = (s.given, s.consumed, s.stopped)

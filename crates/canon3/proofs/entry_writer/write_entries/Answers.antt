@@ -1,23 +1,34 @@
-use Rattle.std.proofs.Common.{List, ℕ, sym, ◌≡◌, ◌∙◌}
-use Rattle.capture3.specs.Entries.{source_of}
-use Rattle.capture3.specs.Told.{GavePrefix}
+use Rattle.std.proofs.Common.{Err, Ok}
+use Rattle.capture3.proofs.Lemmas.Reader.PassedOn.{error_is}
 use Rattle.capture3.proofs.Lemmas.Reader.ToldLemmas.{prefix_of_kept}
-use Rattle.canon3.specs.EntryWriter.{WritesAll}
-use Rattle.canon3.proofs.Lemmas.Writing.EntryWriterLemmas.{all_written, nothing_written}
+use Rattle.canon3.specs.Summary.{IsSummary}
+use Rattle.canon3.proofs.Lemmas.Progress.SummaryLemmas.{summary_is}
+use Rattle.canon3.proofs.Lemmas.Writing.EntryWriterLemmas.{all_written, stopped_given, whole_given}
 use Rattle.canon3.proofs.entry_writer.write_entries.Goals as goal
 
--- the reader gave back the source that it was lent
 pub returns : goal.returns
 returns g c =
-    let w = c.write_new-result in
-    let back : _ ≡ source_of w.new.entries = c.source-1.given.1 (sym (c.into_source.ensures.same_reference ∙ w.ensures.same_reference ∙ c.through-entries.ensures.same_reference)) ∙ c.into_source.ensures.value in
     let form = g.E.EntryWriter.form in
-    let first = g.R.Source.told (source_of c.through-entries.result) in
-    let told = g.R.Source.told (source_of w.new.entries) in
+    let first = g.R.Source.told c.args.source.now in
+    let told = g.R.Source.told c.write_whole.new.source in
     let old = g.W.Sink.written c.args.sink.now in
-    let new = g.W.Sink.written w.new.sink in
-    let whole : (bytes : List ℕ) → GavePrefix first told bytes → WritesAll form bytes old new w.result = λ bytes gave. all_written form c.requires.prefixes bytes first told old new w.result (λ given. prefix_of_kept first told given bytes gave) w.ensures.writes in
-    rw (back, ← c.through-entries.ensures.unread) (record { writes = w.ensures.writes; whole = whole; flushes = w.ensures.flushes; read = w.ensures.read; write = w.ensures.write })
+    let new = g.W.Sink.written c.write_whole.new.sink in
+    let w = c.in_ok-counts.ensures.ends in
+    let writes = whole_given form g.E.EntryWriter.before g.E.Visit.stands g.E.EntryWriter.going first old IsSummary told new _ _ c.summary.result w (summary_is w.given c.summary.result w.handed w.ended.typed (c.summary.ensures w.handed w.writes.came (c.handles.ensures w.handed w.writes.goes w.writes.stands_for))) in
+    record {
+      writes = writes;
+      whole = λ bytes gave. all_written form c.requires.prefixes IsSummary bytes first told old new (Ok c.summary.result) (λ given. prefix_of_kept first told given bytes gave) writes;
+      flushes = c.in_ok-counts.ensures.flushes;
+      read = c.in_ok-counts.ensures.read;
+      write = c.in_ok-counts.ensures.write;
+    }
 
-pub returns-in-Err-clause-writes : goal.returns-in-Err-clause-writes
-returns-in-Err-clause-writes g c = nothing_written g.E.EntryWriter.form c.requires.prefixes (g.R.Source.told c.args.source.now) (g.W.Sink.written c.args.sink.now)
+pub returns-in_err-counts-clause-whole : goal.returns-in_err-counts-clause-whole
+returns-in_err-counts-clause-whole g c bytes gave =
+    let form = g.E.EntryWriter.form in
+    let first = g.R.Source.told c.args.source.now in
+    let told = g.R.Source.told c.write_whole.new.source in
+    let old = g.W.Sink.written c.args.sink.now in
+    let new = g.W.Sink.written c.write_whole.new.sink in
+    rw (error_is _ _ c.from_residual.ensures) (all_written form c.requires.prefixes IsSummary bytes first told old new (Err c.in_err-counts.field-0.0) (λ given. prefix_of_kept first told given bytes gave)
+    (stopped_given form g.E.EntryWriter.before g.E.Visit.stands g.E.EntryWriter.going first old IsSummary told new c.in_err-counts.field-0.0 c.in_err-counts.ensures.ends))

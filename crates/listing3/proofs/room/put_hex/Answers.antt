@@ -1,4 +1,6 @@
-use Rattle.std.proofs.Common.{take, ◌∙◌, arith, rules}
+use Rattle.std.proofs.Common.{take, ◌++◌, ◌∙◌, ap, arith, rules}
+use Rattle.std.proofs.lemmas.List.{take_all}
+use Rattle.hex.specs.Hex.{encode_lower}
 use Rattle.std.specs.Slice.Iter.{chunks_rest}
 use Rattle.listing3.proofs.Halves.{all_spelled, left_over, piece_spelled}
 use Rattle.listing3.proofs.Rooms.{kept_below}
@@ -19,6 +21,10 @@ loop-piece-preserved c =
       left = left_over c.loop-piece.end _ (chunks_rest c.loop-piece.piece-iterator) c.in-Some.piece.now (chunks_rest c.next.new.self) _ steps.1.0 put.end so_far.left;
       len = put.len ∙ so_far.len;
     }
+
+pub returns-then-bytes-eq-HANDLE-clause-written : goal.returns-then-bytes-eq-HANDLE-clause-written
+returns-then-bytes-eq-HANDLE-clause-written c =
+    c.put_spelled.ensures.written ∙ ap (λ l. take c.args.at c.args.room.now ++ encode_lower l) (c.block.ensures ∙ take_all 32 c.args.bytes.now (omega (arith, c.if-bytes-eq-HANDLE.true)))
 
 pub returns-clause-written : goal.returns-clause-written
 returns-clause-written c = all_spelled (take c.loop-piece.end c.loop-piece.room) _ (chunks_rest c.loop-piece.piece-iterator) c.in-None.ensures.steps.1.0 c.loop-piece.invariant.text

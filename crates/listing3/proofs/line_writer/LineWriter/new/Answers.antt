@@ -3,4 +3,4 @@ use Rattle.listing3.proofs.LineLemmas.{stands_after}
 use Rattle.listing3.proofs.line_writer.LineWriter.new.Goals as goal
 
 pub returns : goal.returns
-returns g c = stands_after _ [] [] (record { gathered = c.new.ensures; text = (refl, c.new-2.ensures) })
+returns g c = stands_after g.H.Visit.stands _ [] [] (record { gathered = c.requires; text = (refl, c.new.ensures) })

@@ -18,7 +18,7 @@ returns-in-Call-clause-ok g c entries one of first =
     let p = c.args.counts.now.progress in
     let before = g.W.Sink.written c.args.sink.now in
     let after = g.W.Sink.written c.write_line.new.sink in
-    listed_call (λ (e : Entry). LineStands c.args.self.now (after_front (all_items entries) (items_of e)) → OnOk c.write_line.result (Appends before after (entry_line p.connections p.records e))) entries one c.args.kind of first c.in-Call.id c.in-Call.is
+    listed_call (λ (e : Entry). LineStands g.H.Visit.stands c.args.self.now (after_front (all_items entries) (items_of e)) → OnOk c.write_line.result (Appends before after (entry_line p.connections p.records e))) entries one c.args.kind of first c.in-Call.id c.in-Call.is
     (λ n rest asks stands. subst (λ (i : ProcId). OnOk c.write_line.result (Appends before after (line p.connections client (p.records + 1) i (Word head_names.xid n ∷ rest)))) asks (c.write_line.ensures.ok (all_items entries) rest n stands))
 
 pub returns-in-Call-clause-err : goal.returns-in-Call-clause-err
@@ -26,21 +26,21 @@ returns-in-Call-clause-err g c entries one of first =
     let p = c.args.counts.now.progress in
     let before = g.W.Sink.written c.args.sink.now in
     let after = g.W.Sink.written c.write_line.new.sink in
-    listed_call (λ (e : Entry). LineStands c.args.self.now (after_front (all_items entries) (items_of e)) → OnErr c.write_line.result (AppendsFront before after (entry_line p.connections p.records e))) entries one c.args.kind of first c.in-Call.id c.in-Call.is
+    listed_call (λ (e : Entry). LineStands g.H.Visit.stands c.args.self.now (after_front (all_items entries) (items_of e)) → OnErr c.write_line.result (AppendsFront before after (entry_line p.connections p.records e))) entries one c.args.kind of first c.in-Call.id c.in-Call.is
     (λ n rest asks stands. subst (λ (i : ProcId). OnErr c.write_line.result (AppendsFront before after (line p.connections client (p.records + 1) i (Word head_names.xid n ∷ rest)))) asks (c.write_line.ensures.err (all_items entries) rest n stands))
 
 pub returns-in-Reply-clause-ok : goal.returns-in-Reply-clause-ok
 returns-in-Reply-clause-ok g c entries one of first =
     let p = c.args.counts.now.progress in
     let r = c.write_line-in-Reply in
-    listed_reply (λ (e : Entry). LineStands c.args.self.now (after_front (all_items entries) (items_of e)) → OnOk r.result (Appends (g.W.Sink.written c.args.sink.now) (g.W.Sink.written r.new.sink) (entry_line p.connections p.records e))) entries one c.args.kind of first c.in-Reply.id c.in-Reply.is
+    listed_reply (λ (e : Entry). LineStands g.H.Visit.stands c.args.self.now (after_front (all_items entries) (items_of e)) → OnOk r.result (Appends (g.W.Sink.written c.args.sink.now) (g.W.Sink.written r.new.sink) (entry_line p.connections p.records e))) entries one c.args.kind of first c.in-Reply.id c.in-Reply.is
     (λ n rest stands. r.ensures.ok (all_items entries) rest n stands)
 
 pub returns-in-Reply-clause-err : goal.returns-in-Reply-clause-err
 returns-in-Reply-clause-err g c entries one of first =
     let p = c.args.counts.now.progress in
     let r = c.write_line-in-Reply in
-    listed_reply (λ (e : Entry). LineStands c.args.self.now (after_front (all_items entries) (items_of e)) → OnErr r.result (AppendsFront (g.W.Sink.written c.args.sink.now) (g.W.Sink.written r.new.sink) (entry_line p.connections p.records e))) entries one c.args.kind of first c.in-Reply.id c.in-Reply.is
+    listed_reply (λ (e : Entry). LineStands g.H.Visit.stands c.args.self.now (after_front (all_items entries) (items_of e)) → OnErr r.result (AppendsFront (g.W.Sink.written c.args.sink.now) (g.W.Sink.written r.new.sink) (entry_line p.connections p.records e))) entries one c.args.kind of first c.in-Reply.id c.in-Reply.is
     (λ n rest stands. r.ensures.err (all_items entries) rest n stands)
 
 pub returns-in-Begin-clause-ok : goal.returns-in-Begin-clause-ok

@@ -6,14 +6,14 @@ use Rattle.listing3.proofs.LineLemmas.{is_line, no_xid}
 use Rattle.listing3.proofs.line_writer.LineWriter.write_line.Goals as goal
 
 pub returns-in_default-clause-ok : goal.returns-in_default-clause-ok
-returns-in_default-clause-ok g c front rest n stands = absurd (no_xid c.args.self.now front rest n c.in_default.is stands)
+returns-in_default-clause-ok g c front rest n stands = absurd (no_xid g.H.Visit.stands c.args.self.now front rest n c.in_default.is stands)
 
 pub returns-in-Ok-clause-ok : goal.returns-in-Ok-clause-ok
 returns-in-Ok-clause-ok g c front rest n stands =
     let p = c.args.counts.now.progress in
     on_ok_weaker c.hand_over.result
     (subst (Appends (g.W.Sink.written c.args.sink.now) (g.W.Sink.written c.hand_over.new.sink))
-    (is_line c.args.self.now p.connections c.args.side.now (p.records + 1) c.in-Some.xid c.args.id front rest n c.compose.new.self.head c.compose.new.self.items c.in-Some.is stands c.in-Ok.ensures.head c.in-Ok.ensures.items))
+    (is_line g.H.Visit.stands c.args.self.now p.connections c.args.side.now (p.records + 1) c.in-Some.xid c.args.id front rest n c.compose.new.self.head c.compose.new.self.items c.in-Some.is stands c.in-Ok.ensures.head c.in-Ok.ensures.items))
     c.hand_over.ensures.ok
 
 pub returns-in-Ok-clause-err : goal.returns-in-Ok-clause-err
@@ -21,5 +21,5 @@ returns-in-Ok-clause-err g c front rest n stands =
     let p = c.args.counts.now.progress in
     on_err_weaker c.hand_over.result
     (subst (AppendsFront (g.W.Sink.written c.args.sink.now) (g.W.Sink.written c.hand_over.new.sink))
-    (is_line c.args.self.now p.connections c.args.side.now (p.records + 1) c.in-Some.xid c.args.id front rest n c.compose.new.self.head c.compose.new.self.items c.in-Some.is stands c.in-Ok.ensures.head c.in-Ok.ensures.items))
+    (is_line g.H.Visit.stands c.args.self.now p.connections c.args.side.now (p.records + 1) c.in-Some.xid c.args.id front rest n c.compose.new.self.head c.compose.new.self.items c.in-Some.is stands c.in-Ok.ensures.head c.in-Ok.ensures.items))
     c.hand_over.ensures.err

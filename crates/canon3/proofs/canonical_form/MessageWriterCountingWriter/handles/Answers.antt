@@ -3,7 +3,7 @@ use Rattle.canon3.specs.machinery.MessageWriter.{values_of}
 use Rattle.canon3.specs.Rank.{number_limit}
 use Rattle.canon3.proofs.Lemmas.Numbers.HandleTableLemmas.{distinct_held}
 use Rattle.canon3.proofs.Lemmas.Writing.Opening.{nothing_held}
-use Rattle.canon3.proofs.canonical_form.MessageWriterEntryWriter.handles.Goals as goal
+use Rattle.canon3.proofs.canonical_form.MessageWriterCountingWriter.handles.Goals as goal
 
 pub returns : goal.returns
 returns g c entries going stands =

@@ -8,7 +8,7 @@ use Rattle.masking3.specs.machinery.MaskingWriter.{told_entry}
 use Rattle.masking3.proofs.Lemmas.Classes.MessageSpotLemmas.{begins_none}
 use Rattle.masking3.proofs.Lemmas.Writing.ToldItems.{handles_before}
 use Rattle.masking3.proofs.Lemmas.Writing.WriterLemmas.{is_after}
-use Rattle.masking3.proofs.masked_form.MaskingWriterEntryWriter.handles.Goals as goal
+use Rattle.masking3.proofs.masked_form.MaskingWriterCountingWriter.handles.Goals as goal
 
 pub returns : goal.returns
 returns g c entries goes stands =
