@@ -17,7 +17,7 @@ REFUSED, FAILED, INTERRUPTED = 2, 3, 130
 
 
 # How a tool reads a recording from standard input.
-READING = {'from_pcap': '- OUT', 'where': '- PLACE', 'explain': '- PLACE', 'verdicts': '-'}
+READING = {'from_pcap': '- OUT', 'where': '- PLACE', 'explain': '- PLACE', 'verdicts': '-', 'procedures': '-'}
 
 
 def run(name: str, main: typing.Callable[[list[str]], int]) -> int:

@@ -30,9 +30,10 @@ from .recordings import Damaged, NoRecording, Recording, Source, opened
 from .records import Extent, Window, body_of, extents, extent_of, fragments
 from .segments import Segments
 from .selection import Options, Selected, count, plural, select
-from .streams import Connection, Connections, Frames, Spool, Stored
+from .streams import Brought, Connection, Connections, Frames, Spool, Stored
 
 FRAMES_A_STEP = 1_000
+NOTHING, NOTHING_MORE = Brought(0, 0, 0), Brought(sys.maxsize, 0, 0)
 __all__ = ['FrameRef', 'LeftOut', 'NotTaken', 'Options', 'Record', 'Taken', 'TakenConnection', 'TakenStream', 'take']
 
 
@@ -95,6 +96,28 @@ class TakenStream:
         if self.index is None:
             self.index = array.array('Q', (extent.begin for extent in extents(window, 0, self.size)))
         return extent_of(window, self.index[number - 1], self.size) if 0 < number <= len(self.index) else None
+
+    def brought(self) -> typing.Iterator[Brought]:
+        """Iterates over the frames that brought the bytes, in order of the bytes, if frames are noted. Each has the place of its first byte
+        in the stream, which for the first of them may be before the stream."""
+        for (low, high), at in zip(self.ranges, self.begins):
+            if self.noted is not None:
+                shift, found = at - low, self.noted.between(low, high)
+                yield from found if not shift else (brought._replace(begin=brought.begin + shift) for brought in found)
+
+    def completions(self) -> typing.Iterator[tuple[int, int]]:
+        """Iterates over the records in order: how many bytes each has with its marks, and the time of the frame that completed it, 0 if
+        that has none or is not noted. Of the frames that brought bytes of a record the one with the largest number completed it. The last
+        record may be cut."""
+        brought, held = self.brought(), NOTHING
+        following = next(brought, NOTHING_MORE)
+        for extent in extents(Window(self), 0, self.size):
+            begin, end = extent[:2]
+            last = held if following.begin > begin else NOTHING
+            while following.begin < end:
+                held, following = following, next(brought, NOTHING_MORE)
+                last = held if held.number > last.number else last
+            yield end - begin, last.time
 
     def count_records(self) -> int:
         """Returns the number of records, of which the last may be cut."""
