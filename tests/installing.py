@@ -18,7 +18,7 @@ from collections.abc import Callable
 from running import Answer, Runs, ended, try_all, words_of
 
 TOP = pathlib.Path(__file__).resolve().parent.parent
-TOOLS = ('from-pcap', 'where', 'verdicts', 'procedures', 'compare', 'explain')
+TOOLS = ('from-pcap', 'where', 'verdicts', 'procedures', 'compare', 'explain', 'cut')
 
 
 class Place(Runs):

@@ -71,13 +71,21 @@ class TakenStream:
 
     def read(self, begin: int, size: int) -> bytes:
         """Returns the bytes from `begin` on: `size` of them, or fewer at the stream's end."""
-        end, pieces = min(begin + size, self.size), []
-        part = bisect.bisect_right(self.begins, begin) - 1
+        return b''.join(self.stored.read(low, high - low) for low, high in self.ranges_of(begin, begin + size))
+
+    def ranges_of(self, begin: int, end: int) -> typing.Iterator[tuple[int, int]]:
+        """Iterates over the ranges of the stored bytes in which these bytes are."""
+        end, part = min(end, self.size), bisect.bisect_right(self.begins, begin) - 1
         while begin < end:
-            piece_end = min(end, self.begins[part + 1])
-            pieces.append(self.stored.read(self.ranges[part][0] + begin - self.begins[part], piece_end - begin))
-            begin, part = piece_end, part + 1
-        return b''.join(pieces)
+            part_end = min(end, self.begins[part + 1])
+            shift = self.ranges[part][0] - self.begins[part]
+            yield begin + shift, part_end + shift
+            begin, part = part_end, part + 1
+
+    def part(self, extents: typing.Iterable[Extent]) -> 'TakenStream':
+        """Returns a stream of some records, in their order."""
+        ranges = [piece for extent in extents for piece in self.ranges_of(extent.begin, extent.end)]
+        return TakenStream(self.stored, self.noted, ranges)
 
     def blocks(self) -> typing.Iterator[bytes]:
         """Iterates over all bytes in order, in blocks of 65,536 and a last one."""
@@ -125,13 +133,10 @@ class TakenStream:
 
     def frames(self, begin: int, end: int) -> list[FrameRef]:
         """Returns the frames that brought the bytes, in order of their numbers, each once."""
-        found, part = set[FrameRef](), bisect.bisect_right(self.begins, begin) - 1
-        while self.noted is not None and begin < min(end, self.size):
-            part_end = min(end, self.begins[part + 1])
-            shift = self.ranges[part][0] - self.begins[part]
-            found.update(FrameRef(brought.number, brought.time) for brought in self.noted.between(begin + shift, part_end + shift))
-            begin, part = part_end, part + 1
-        return sorted(found)
+        if self.noted is None:
+            return []
+        brought = itertools.chain.from_iterable(self.noted.between(*piece) for piece in self.ranges_of(begin, end))
+        return sorted({FrameRef(one.number, one.time) for one in brought})
 
 
 class TakenConnection(typing.NamedTuple):
