@@ -6,7 +6,7 @@
         taken.write_capture('run.nfs3cap')
         taken.frames(Place(1, 'server', 7, 24))     # the frames of the recording that carry this byte
 
-`take` reads pcap and pcapng (also gzipped, `-` for standard input, and the parts of one recording by a pattern) and captures
+`take` reads pcap and pcapng (also compressed, `-` for standard input, and the parts of one recording by a pattern) and captures
 (`NFS3CAP1`, `NFS3CAP2`). Places of
 `check`, `show` and `same` on the file that `write_capture` writes are places of `taken`: connections have the numbers of
 `TakenConnection.number`, and records are those of its streams.
@@ -15,22 +15,23 @@ import array
 import bisect
 import contextlib
 import itertools
-import shutil
 import sys
 import tempfile
 import time
 import typing
 
-from .captures import CHUNK, MAGICS, MOST_BYTES, MOST_CONNECTIONS, BadCapture, Container, capture_of, place_in
+from .captures import CHUNK, MOST_BYTES, MOST_CONNECTIONS, BadCapture, Container, capture_of, place_in
+from .kinds import MAGICS
 from .outputs import CAPTURE, write_file
 from .parts import Part, files_of, in_order, pattern_beside
 from .places import SIDES, FilePlace, NoPlace, Place, Side
 from .programs import chosen_frames
-from .recordings import Damaged, NoRecording, Recording, Source, opened
+from .recordings import NoRecording, Recording, Source, opened
 from .records import Extent, Window, body_of, extents, extent_of, fragments
 from .segments import Segments
 from .selection import Options, Selected, count, plural, select
 from .streams import Brought, Connection, Connections, Frames, Spool, Stored
+from .unpacking import READ_AT_ONCE, Damaged, Readable
 
 FRAMES_A_STEP = 1_000
 NOTHING, NOTHING_MORE = Brought(0, 0, 0), Brought(sys.maxsize, 0, 0)
@@ -291,14 +292,7 @@ def take(path: str, options: Options = Options(), frames: bool = True, shows_pro
     if len(files) > 1:
         return take_parts(files, options, frames, progress)
     with contextlib.ExitStack() as stack:
-        path, chosen = files[0], None
-        file = stack.enter_context(opened(path))
-        if options.filter is not None:
-            if path == '-':
-                file = stack.enter_context(copied(file))
-                path = file.name
-            chosen = chosen_frames(path, options.filter)
-        taken = take_from(Source(file), options, frames, chosen, progress)
+        taken = take_from(*opened_for(files[0], options, stack), options, frames, progress)
     begun = sum(left_out.is_begun_before for left_out in taken.left_out)
     pattern = pattern_beside(files[0]) if begun else None
     if pattern:
@@ -312,26 +306,42 @@ def take_parts(files: list[str], options: Options, keeps_frames: bool, progress:
     taking = Taking(keeps_frames, progress)
     try:
         for path in in_order(files):
-            chosen = None if options.filter is None else chosen_frames(path, options.filter)
-            with opened(path) as file:
+            with contextlib.ExitStack() as stack:
+                source, chosen = opened_for(path, options, stack)
                 taking.taken.parts.append(Part(path, taking.count))
-                taking.add(Recording(Source(file)), chosen, f'{path}: ')
+                taking.add(Recording(source), chosen, f'{path}: ')
     except (NoRecording, Damaged) as refused:
         raise NotTaken(str(refused)) from refused
     return taking.ended(options)
 
 
+def opened_for(path: str, options: Options, stack: contextlib.ExitStack) -> tuple[Source, set[int] | None]:
+    """Opens a recording, and asks tshark for the frames that a filter chooses, if there is one. It reads a copy if that is of standard
+    input or compressed. Raises `NotTaken` if what is compressed cannot be copied as a whole."""
+    source = Source(stack.enter_context(opened(path)))
+    if options.filter is None:
+        return source, None
+    if path == '-' or source.is_unpacked:
+        try:
+            copy = stack.enter_context(copied(source))
+        except Damaged as damaged:
+            raise NotTaken(str(damaged)) from damaged
+        path, source = copy.name, Source(copy)
+    return source, chosen_frames(path, options.filter)
+
+
 @contextlib.contextmanager
-def copied(file: typing.IO[bytes]) -> typing.Iterator[typing.IO[bytes]]:
-    """A temporary file with what is read from another."""
+def copied(content: Readable) -> typing.Iterator[typing.IO[bytes]]:
+    """A temporary file with what is read."""
     with tempfile.NamedTemporaryFile(prefix='nfs3canon') as copy:
-        shutil.copyfileobj(file, copy)
+        while block := content.read(READ_AT_ONCE):
+            copy.write(block)
         copy.flush()
         copy.seek(0)
         yield copy
 
 
-def take_from(source: Source, options: Options, keeps_frames: bool, chosen: set[int] | None, progress: 'Progress') -> Taken:
+def take_from(source: Source, chosen: set[int] | None, options: Options, keeps_frames: bool, progress: 'Progress') -> Taken:
     """Takes what is read; of a recording only the frames that are chosen, if `chosen` is not None."""
     try:
         if source.peek(8) in MAGICS:
