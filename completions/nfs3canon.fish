@@ -17,14 +17,14 @@ complete -c nfs3canon -n '__fish_seen_subcommand_from canon same; and test (__nf
 complete -c nfs3canon -n '__fish_seen_subcommand_from pack' -F
 
 # The tools for recordings.
-for tool in from_pcap verdicts nfs3-from-pcap nfs3-where nfs3-verdicts nfs3-compare nfs3-explain
+for tool in from_pcap verdicts procedures nfs3-from-pcap nfs3-where nfs3-verdicts nfs3-procedures nfs3-compare nfs3-explain nfs3-cut
     complete -c $tool -l midstream -d 'Take connections whose beginning was not recorded'
     complete -c $tool -l whole-records -d 'End each stream after its last whole record'
     complete -c $tool -l filter -x -d 'A display filter of Wireshark'
     complete -c $tool -l version -d 'Print the version'
     complete -c $tool -l help -d 'Print help'
 end
-for tool in verdicts nfs3-verdicts nfs3-compare
+for tool in verdicts nfs3-verdicts procedures nfs3-procedures nfs3-compare
     complete -c $tool -l allow-losses -d 'Take runs in part as the status 0'
 end
 for tool in verdicts nfs3-verdicts
@@ -33,6 +33,15 @@ for tool in verdicts nfs3-verdicts
     complete -c $tool -s j -x -d 'Judge so many recordings at once'
     complete -c $tool -l program -r -d 'nfs3canon'
 end
+for tool in procedures nfs3-procedures
+    complete -c $tool -l beside -d 'Print two recordings side by side'
+    complete -c $tool -l total -d 'Print no tables of connections'
+    complete -c $tool -l json -r -d 'Write JSON'
+    complete -c $tool -l csv -r -d 'Write comma-separated values'
+    complete -c $tool -l program -r -d 'nfs3canon'
+end
+complete -c nfs3-cut -l origins -d 'Take the exchanges too that gave the file handles'
+complete -c nfs3-cut -l program -r -d 'nfs3canon'
 complete -c nfs3-compare -l mask -x -d 'The classes of values to mask'
 complete -c nfs3-compare -l order -x -a 'strict any' -d 'Whether the order of calls counts'
 complete -c nfs3-compare -l extra -x -a 'asking none' -d 'What is left out in any order'

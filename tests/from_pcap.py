@@ -6,9 +6,11 @@
 PROGRAM is crates/nfs3canon/out/nfs3canon where none is named. What needs tshark is skipped, with a word, if tshark is not
 there. The last line is 'N passed, M failed', and the status is 1 where any failed.
 """
+import bz2
 import concurrent.futures
 import gzip
 import itertools
+import lzma
 import os
 import random
 import shutil
@@ -20,7 +22,7 @@ import typing
 from recordings import (
     NANOSECONDS, block, cooked, cooked_2, enhanced, extended, fragments, fragments_6, interface, loopback, obsolete, pcapng, section,
     simple)
-from running import begin, pipe_of, try_all, words_of
+from running import begin, ended, pipe_of, try_all, words_of
 from scripts import (
     ALL, CALLS, REPLIES, TOP, Tools, exchange, in_fragments, packed, stream, taken_of, tried, whole)
 import messages
@@ -62,6 +64,65 @@ def recordings_of_all_kinds(tools: Tools) -> None:
     tools.taken('gzip of pcapng', gzip.compress(pcapng(frames)), [ALL])
     tools.taken('gzip in two members', packed_twice, [ALL])
     tools.taken('zeros after gzip', gzip.compress(pcap(frames)) + bytes(512), [ALL])
+
+
+PACKERS: dict[str, typing.Callable[[bytes], bytes]] = {'gzip': gzip.compress, 'xz': lzma.compress, 'bzip2': bz2.compress}
+if shutil.which('zstd'):
+    PACKERS['zstd'] = lambda content: subprocess.run(['zstd', '-cq'], input=content, stdout=subprocess.PIPE, check=True).stdout
+
+
+def compressed_recordings(tools: Tools) -> None:
+    """Recordings and captures by each packer, also in several pieces. One that is cut anywhere, or that goes on in another way, is never
+    whole, nor is one in which a bit is another, unless the bit says nothing."""
+    content, several = pcap(whole()), pcapng(whole())
+    for name, pack in PACKERS.items():
+        packed_one = pack(content)
+        tools.taken(name, packed_one, [ALL])
+        tools.taken(name + ' of pcapng', pack(several), [ALL])
+        tools.taken(name + ' of a capture', pack(packed(ALL)), [ALL])
+        tools.taken(name + ' in pieces', pack(content[:99]) + pack(b'') + pack(content[99:300]) + pack(content[300:]), [ALL])
+        other, step = PACKERS['gzip' if name == 'xz' else 'xz'](b'x'), 97 if name == 'zstd' else 7
+        for what, recording in (('text after it', packed_one + b'text'), ('another packer', packed_one + other),
+                                *((f'{size} bytes', packed_one[:size]) for size in range(1, len(packed_one), step))):
+            tools.want(f'{name}, {what}', taken_as_whole(recording), None)
+    for name in ('xz', 'bzip2'):
+        zeros = PACKERS[name](content) + bytes(512)
+        tools.taken('zeros after ' + name, zeros, [ALL])
+        tools.taken('zeros in ' + name, PACKERS[name](content[:99]) + bytes(2_000_004) + PACKERS[name](content[99:]), [ALL])
+        chance, whole_one = random.Random(7), PACKERS[name](content)
+        for _ in range(200):
+            at, flipped = chance.randrange(len(whole_one)), 1 << chance.randrange(8)
+            other = whole_one[:at] + bytes([whole_one[at] ^ flipped]) + whole_one[at + 1:]
+            tools.want(f'{name}, byte {at}', taken_as_whole(other) in (None, packed(ALL)), True)
+    begin, empty = os.times(), lzma.compress(b'')
+    tools.taken('empty streams', empty * 20_000 + lzma.compress(content) + empty, [ALL])
+    tools.want('seconds', os.times().user - begin.user < 10, True)
+
+
+def taken_as_whole(recording: bytes) -> bytes | None:
+    """The capture of a recording, unless something is said against that."""
+    try:
+        taken = taken_of(recording)
+    except NotTaken:
+        return None
+    return None if taken.damage or taken.notes else b''.join(capture_of(taken.pairs()))
+
+
+def what_is_not_decompressed(tools: Tools) -> None:
+    """A stream of xz that asks for much memory is refused. If zstd is not there or is killed, that is told."""
+    large = lzma.compress(pcap(whole()), filters=[{'id': lzma.FILTER_LZMA2, 'dict_size': 1 << 30}])
+    tools.refused('a window of 1 GB', large, 'the compressed file is damaged: Memory usage limit exceeded')
+    if 'zstd' in PACKERS:
+        tools.write('a.zst', PACKERS['zstd'](pcap(whole())))
+        os.mkdir(tools.path('bin'))
+        env = {**os.environ, 'PATH': tools.path('bin')}
+        words = [sys.executable, str(TOP / 'tools/from_pcap'), 'a.zst', 'out']
+        told = 'from_pcap: it is compressed by zstd: decompress it first, as in `zstd -dc FILE | tools/from_pcap - OUT`\n'
+        tools.want('no zstd', ended(words, tools.folder, env=env).text(), (2, '', told))
+        tools.write('bin/zstd', b'#!/bin/sh\nkill -9 $$\n')
+        os.chmod(tools.path('bin/zstd'), 0o755)
+        tools.want('killed', ended(words, tools.folder, env=env).text(), (3, '', 'from_pcap: zstd was killed by signal 9 (Killed)\n'))
+        tools.want('OUT', tools.exists('out'), False)
 
 
 def times(tools: Tools) -> None:
@@ -149,7 +210,8 @@ def recordings_that_end_early(tools: Tools) -> None:
             ('nothing', b'', 'it is empty'), ('text', b'no recording', 'it is neither pcap nor pcapng'),
             ('gzip of text', gzip.compress(b'no recording'), 'it is neither pcap nor pcapng'),
             ('three bytes of gzip', gzip.compress(b'x')[:3], 'the compressed file is cut short'),
-            ('xz', b'\xfd7zXZ\0\0', 'it is compressed by xz'), ('zstd', b'\x28\xb5\x2f\xfd', 'zstd'),
+            ('xz', b'\xfd7zXZ\0\0', 'the compressed file is cut short'), ('zstd', b'\x28\xb5\x2f\xfd', ''),
+            ('lz4', b'\x04\x22\x4d\x18', 'it is compressed by lz4'),
             ('a magic alone', plain[:4], 'its header is cut short')):
         tools.refused(what, recording, message) if what != 'a magic alone' else tools.want(
             what, message in (taken_of(recording).damage or ''), True)
@@ -713,6 +775,15 @@ def filters(tools: Tools) -> None:
         tools.want(words, (status, found), (0 if ports else 1, ports))
     status, _, told = tools.tool('from_pcap', '--filter', 'tcp.port == 111', '-', 'out', stdin=pcap(one + two))
     tools.want('standard input', (status, ':701 and' in told), (0, True))
+    tools.write('a.xz', lzma.compress(pcap(one + two)))
+    for name in ('a.xz', 'a.x[yz]'):
+        tools.write('a.xy', lzma.compress(pcap(whole(port=702))))
+        status, _, told = tools.tool('from_pcap', '--filter', 'tcp.port == 111 or tcp.port == 702', name, 'out')
+        found = [port for port in (700, 701, 702) if f':{port} and' in told]
+        tools.want('compressed', (status, found), (0, [701] if name == 'a.xz' else [701, 702]))
+    tools.write('a.xz', lzma.compress(pcap(one + two))[:-9])
+    answer = tools.tool('from_pcap', '--filter', 'tcp', 'a.xz', 'out')
+    tools.want('compressed and cut', answer, (2, '', 'from_pcap: the compressed file is cut short\n'))
     status, _, told = tools.tool('from_pcap', '--filter', 'no.such == 1', 'a.pcap', 'out')
     tools.want('a filter that is none', (status, told.startswith('from_pcap: tshark: ')), (2, True))
     alone = {**os.environ, 'PATH': '/nonexistent:' + os.path.dirname(sys.executable)}
@@ -722,8 +793,8 @@ def filters(tools: Tools) -> None:
 
 
 OF_TSHARK = [filters]
-TESTS = [memory, recordings_of_all_kinds, times, times_past_63_bits, empty_gzip_members, recordings_that_end_early, link_layers,
-         internet_layers, datagrams_in_fragments, repeated_last_fragments, segments_in_any_order, bytes_that_came_first,
+TESTS = [memory, recordings_of_all_kinds, compressed_recordings, what_is_not_decompressed, times, times_past_63_bits,
+         empty_gzip_members, recordings_that_end_early, link_layers, internet_layers, datagrams_in_fragments, repeated_last_fragments, segments_in_any_order, bytes_that_came_first,
          beginnings_and_ends, who_is_the_client, what_is_left_out, bytes_are_missing, frames_that_are_cut, whole_records, midstream, midstream_after_gaps, faults_stay, embedded, search_is_linear,
          files, long_streams, limits, filters]
 

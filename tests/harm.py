@@ -315,6 +315,9 @@ def programs_that_die(tools: Tools) -> None:
             for inputs in ([FIRST], [FIRST, CHANGED]):
                 answer = tools.tool('verdicts', '--program', program, *inputs)
                 one_line(tools, f'{command}: {how}', answer, 3, f'{FIRST}: {name} {told}')
+        if command in ('check', 'show'):
+            answer = tools.tool('procedures', '--program', program, FIRST)
+            one_line(tools, f'procedures, {command}: {how}', answer, 3, f'procedures: {FIRST}: {name} {told}')
     program = dying(tools, 'show', KILLED)
     tools.want('one that is not asked', tools.tool('compare', '--program', program, FIRST, FIRST)[0], 0)
     tools.write('page', AS_IT_WAS)
@@ -347,12 +350,15 @@ def closed_outputs(tools: Tools) -> None:
     rows: list[tuple[list[str], bool, bool]] = [  # whether something goes to standard output, and to standard error
         (['compare', *program, FIRST, CHANGED], True, False), (['compare', *program, FIRST, FIRST], True, False),
         (['compare', *program, str(EXAMPLES / 'bad_bool.pcap'), FIRST], False, True), (['verdicts', *program, FIRST], True, False),
-        (['verdicts', *program, 'lost.pcap'], True, True), (['where', FIRST, place], True, False),
+        (['verdicts', *program, 'lost.pcap'], True, True), (['procedures', *program, 'lost.pcap'], True, True),
+        (['procedures', *program, '--beside', FIRST, CHANGED], True, False), (['cut', *program, FIRST, place, 'out'], True, False),
+        (['where', FIRST, place], True, False),
         (['where', FIRST, 'connection 9 client record 1'], False, True), (['where', FIRST, 'nothing'], False, True),
         (['from_pcap', FIRST, 'out'], False, True), (['explain', NULL, place], True, False), (['explain', NULL, 'file 999'], False, True),
         (['install', *program, 'prefix'], True, False), (['install', '--program', 'absent', 'prefix'], False, True),
         (['release', '--program', 'absent', '.'], False, True),
-        *(([name, '--help'], True, False) for name in ('compare', 'verdicts', 'where', 'from_pcap', 'explain', 'install', 'release'))]
+        *(([name, '--help'], True, False) for name in ('compare', 'verdicts', 'procedures', 'cut', 'where', 'from_pcap', 'explain',
+                                                         'install', 'release'))]
     for words, prints, tells in rows:
         for streams, is_wanted in (('>&-', True), ('2>&-', True), ('>&- 2>&-', True), ('>/dev/full', prints), ('2>/dev/full', tells)):
             if is_wanted:

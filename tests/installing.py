@@ -17,7 +17,7 @@ from collections.abc import Callable
 from running import Answer, Runs, ended, try_tests
 
 TOP = pathlib.Path(__file__).resolve().parent.parent
-TOOLS = ('from-pcap', 'where', 'verdicts', 'compare', 'explain')
+TOOLS = ('from-pcap', 'where', 'verdicts', 'procedures', 'compare', 'explain', 'cut')
 
 
 class Place(Runs):

@@ -60,7 +60,7 @@ def whole(**options: typing.Any) -> list[bytes]:
 
 def taken_of(recording: bytes, **options: typing.Any) -> Taken:
     """What is taken of a recording, as `tools/from_pcap` does it."""
-    return take_from(Source(io.BytesIO(recording)), Options(**options), True, None, Progress(False))
+    return take_from(Source(io.BytesIO(recording)), None, Options(**options), True, Progress(False))
 
 
 class Tools(Runs):

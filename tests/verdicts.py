@@ -8,6 +8,7 @@ there. The last line is 'N passed, M failed', and the status is 1 if any failed.
 """
 import itertools
 import json
+import lzma
 import os
 import random
 import re
@@ -203,18 +204,17 @@ def parts_that_are_none(tools: Tools) -> None:
 
 def recordings_that_are_compressed(tools: Tools) -> None:
     """What to type names the tool that was called."""
-    tools.write('a.xz', b'\xfd7zXZ\0\0')
-    tools.write('a.zst', b'\x28\xb5\x2f\xfd')
+    tools.write('a.lz4', b'\x04\x22\x4d\x18')
     told = ': it is compressed by %s: decompress it first, as in `%s`'
     for words, line in (
-            (('from_pcap', 'a.xz', 'out'), told % ('xz', 'xz -dc FILE | tools/from_pcap - OUT')),
-            (('where', 'a.zst', 'file 20'), told % ('zstd', 'zstd -dc FILE | tools/where - PLACE')),
-            (('compare', '--program', tools.program, 'a.zst', 'a.xz'), told % ('zstd', 'tools/compare <(zstd -dc A) <(zstd -dc B)'))):
+            (('from_pcap', 'a.lz4', 'out'), told % ('lz4', 'lz4 -dc FILE | tools/from_pcap - OUT')),
+            (('where', 'a.lz4', 'file 20'), told % ('lz4', 'lz4 -dc FILE | tools/where - PLACE')),
+            (('compare', '--program', tools.program, 'a.lz4', 'a.lz4'), told % ('lz4', 'tools/compare <(lz4 -dc A) <(lz4 -dc B)'))):
         tools.want(words[0], tools.tool(*words), (2, '', words[0] + line + '\n'))
-    tools.want('verdicts', ': ' + verdicts(tools, 'a.zst')[1][0][-1], told % ('zstd', 'zstd -dc FILE | tools/verdicts -'))
+    tools.want('verdicts', ': ' + verdicts(tools, 'a.lz4')[1][0][-1], told % ('lz4', 'lz4 -dc FILE | tools/verdicts -'))
     os.symlink(TOP / 'tools/where', tools.path('nfs3-where'))
-    done = ended([tools.path('nfs3-where'), 'a.xz', 'file 20'], tools.folder)
-    tools.want('installed', '`xz -dc FILE | nfs3-where - PLACE`' in done.error.decode(), True)
+    done = ended([tools.path('nfs3-where'), 'a.lz4', 'file 20'], tools.folder)
+    tools.want('installed', '`lz4 -dc FILE | nfs3-where - PLACE`' in done.error.decode(), True)
 
 
 # --- verdicts ---
@@ -278,8 +278,11 @@ def rows_of_files_that_are_not_whole(tools: Tools) -> None:
         ('both', (TOP / 'examples/bad_server_record.nfs3cap').read_bytes()[:-1],
          [first, ['2', '-', '-', '1', '2', 'server record 2 byte 0: NoCall']]),
         ('text', b'no recording', [[*as_a_whole, 'it is neither pcap nor pcapng']]),
-        ('xz', b'\xfd7zXZ\0\0',
-         [[*as_a_whole, 'it is compressed by xz: decompress it first, as in `xz -dc FILE | tools/verdicts -`']]),
+        ('lz4', b'\x04\x22\x4d\x18',
+         [[*as_a_whole, 'it is compressed by lz4: decompress it first, as in `lz4 -dc FILE | tools/verdicts -`']]),
+        ('xz', lzma.compress(pcap(whole()))[:-1],
+         [['1', '192.0.2.7:700', '192.0.2.1:2049', '39', '39', 'ok'],
+          [*as_a_whole, 'the recording is damaged after frame 15: the compressed file is cut short']]),
         ('damaged', pcap(whole()) + b'\xff' * 16,
          [['1', '192.0.2.7:700', '192.0.2.1:2049', '39', '39', 'ok'],
           [*as_a_whole, 'the recording is damaged after frame 15: frame 16 claims 4294967295 bytes']]),

@@ -2,10 +2,11 @@
 import contextlib
 import typing
 
-from .recordings import Damaged, Source
+from .kinds import MAGICS
+from .recordings import Source
 from .streams import Spool, Stored
+from .unpacking import Damaged
 
-MAGICS = (b'NFS3CAP1', b'NFS3CAP2')
 CHUNK = 1 << 16
 MOST_CONNECTIONS, MOST_BYTES = 65_535, 1 << 30
 READ_AT_ONCE = 1 << 20

@@ -2,10 +2,10 @@
 
     tools/from_pcap [--midstream] [--whole-records] [--filter FILTER] RECORDING OUT
 
-RECORDING is a file of pcap or pcapng, which may be gzipped, or `-` for standard input:
+RECORDING is a file of pcap or pcapng, or `-` for standard input. It may be compressed by gzip, xz or bzip2, and by zstd if the program
+`zstd` is there:
 
     tcpdump -w - port 2049 | tools/from_pcap - OUT
-    xz -dc RECORDING.xz | tools/from_pcap - OUT
 
 A RECORDING that is the name of no file is a pattern, whose files are the parts of one recording, as `tcpdump -C` and `-W` write
 them. They are read in the order of the times of their first frames, and frames are counted through all of them:

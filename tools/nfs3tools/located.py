@@ -10,14 +10,16 @@ import contextlib
 import sys
 import typing
 
-from .captures import MAGICS, Container, capture_of
+from .captures import Container, capture_of
+from .kinds import MAGICS
 from .parts import files_of
 from .places import SIDES, FilePlace, NoPlace, Place, Side
-from .recordings import Damaged, NoRecording, Recording, Source, opened
+from .recordings import NoRecording, Recording, Source, opened
 from .records import LONGEST_BODY, READ_AT_ONCE, Extent, Window, body_of, extents, fragments, xids
 from .selection import Options
 from .streams import Spool, Stored
 from .taken import FrameRef, NotTaken, Taken, TakenStream, bytes_of, copied, take, whole
+from .unpacking import Damaged
 
 HEAD_OF_CALL = 24  # bytes: the xid, mtype and rpcvers, and then the program, the version and the procedure
 

@@ -13,11 +13,11 @@ from .selection import Options
 from .taken import NotTaken, Taken
 from .version import version
 
-REFUSED, FAILED, INTERRUPTED = 2, 3, 130
+ABSENT, REFUSED, FAILED, INTERRUPTED = 1, 2, 3, 130  # ABSENT: no such place
 
 
 # How a tool reads a recording from standard input.
-READING = {'from_pcap': '- OUT', 'where': '- PLACE', 'explain': '- PLACE', 'verdicts': '-'}
+READING = {'from_pcap': '- OUT', 'where': '- PLACE', 'explain': '- PLACE', 'verdicts': '-', 'procedures': '-', 'cut': '- PLACE OUT'}
 
 
 def run(name: str, main: typing.Callable[[list[str]], int]) -> int:

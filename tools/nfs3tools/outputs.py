@@ -12,9 +12,8 @@ import stat
 import sys
 import typing
 
-from .captures import MAGICS
+from .kinds import MAGICS, PACKED_BY, PCAP, SECTION
 from .printed import escaped
-from .recordings import GZIP, PACKED_BY, PCAP, SECTION
 
 PART = '.nfs3canon-'  # begins the name of a file that is being written
 TRIES = 16  # such names
@@ -106,7 +105,7 @@ def kind_of(path: str, found: os.stat_result) -> str | None:
         return RECORDING
     if begin in MAGICS:
         return CAPTURE
-    return COMPRESSED if begin.startswith((GZIP, *PACKED_BY)) else None
+    return COMPRESSED if begin.startswith(tuple(PACKED_BY)) else None
 
 
 @contextlib.contextmanager

@@ -9,7 +9,8 @@ import shlex
 import typing
 
 from .printed import escaped
-from .recordings import Damaged, NoRecording, Recording, Source, opened
+from .recordings import NoRecording, Recording, Source, opened
+from .unpacking import Damaged
 
 
 class Part(typing.NamedTuple):

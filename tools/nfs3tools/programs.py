@@ -16,6 +16,7 @@ TOP = pathlib.Path(__file__).resolve().parent.parent.parent
 CHECKED, COMPARED, MASKED = {0: 'ok ', 2: ''}, {0: 'same\n', 1: 'differ at '}, {0: 'ok '}
 COMMANDS = ('check', 'same', 'show')
 PIPE_SIZE = 1 << 16  # of Linux
+Stream = typing.IO[bytes] | int
 MOST_STATUS = 125  # of a program itself; a shell and a loader have those above for one that cannot run
 
 
@@ -95,24 +96,25 @@ def run_program(program: str, words: list[str], expected: typing.Mapping[int, st
     return answer
 
 
-def lines_of_program(program: str, words: list[str]) -> typing.Iterator[str]:
+def lines_of_program(program: str, words: list[str], expected: int = 0,
+                     stdin: Stream = subprocess.DEVNULL) -> typing.Iterator[str]:
     """Iterates over the lines that a program prints.
 
-    Raises `Died` after the last of them unless its status is 0.
+    Raises `Died` after the last of them unless its status is the one that is expected.
     """
     with tempfile.TemporaryFile() as error:
-        with begun([program, *words], stdin=subprocess.DEVNULL, stdout=subprocess.PIPE, stderr=error) as process:
+        with begun([program, *words], stdin=stdin, stdout=subprocess.PIPE, stderr=error) as process:
             assert process.stdout is not None
             with io.TextIOWrapper(process.stdout, encoding='latin-1', newline='\n') as lines:
                 while some := lines.readlines(PIPE_SIZE):
                     if some[-1][-1] != '\n':
                         some.pop()
                     yield from some
-        if process.returncode:
+        if process.returncode != expected:
             raise died([program, *words], process.returncode, text_of(error))
 
 
-def begun(command: list[str], stdin: int, stdout: typing.IO[bytes] | int, stderr: typing.IO[bytes] | int) -> 'subprocess.Popen[bytes]':
+def begun(command: list[str], stdin: Stream, stdout: Stream, stderr: Stream) -> 'subprocess.Popen[bytes]':
     """Raises `Died` if the program cannot be started, as when memory is short."""
     try:
         return subprocess.Popen(command, bufsize=PIPE_SIZE, stdin=stdin, stdout=stdout, stderr=stderr)

@@ -1,20 +1,15 @@
-"""Recordings of packets: pcap and pcapng, also gzipped, as a run of frames."""
+"""Recordings of packets: pcap and pcapng, also compressed, as a run of frames."""
 import contextlib
 import struct
 import sys
 import typing
-import zlib
 
-READ_AT_ONCE = 1 << 20
-FIRST_STEP = 1 << 9  # compressed bytes of a member of gzip that are decompressed at first
+from .kinds import LONGEST_MAGIC, PACKED_BY, PCAP, SECTION
+from .unpacking import READ_AT_ONCE, Damaged, Readable, unpacked
+
 LONGEST = 1 << 24  # bytes of a frame or block; a greater length is damage, and is never allocated
 NANOSECONDS = 1_000_000_000
 
-PCAP = {b'\xd4\xc3\xb2\xa1': ('<', 1_000), b'\xa1\xb2\xc3\xd4': ('>', 1_000),
-        b'\x4d\x3c\xb2\xa1': ('<', 1), b'\xa1\xb2\x3c\x4d': ('>', 1)}
-SECTION = b'\x0a\x0d\x0d\x0a'
-GZIP = b'\x1f\x8b'
-PACKED_BY = {b'\xfd7zXZ\0': 'xz', b'\x28\xb5\x2f\xfd': 'zstd', b'BZh': 'bzip2', b'\x04\x22\x4d\x18': 'lz4'}
 SECTION_HEADER, INTERFACE, OBSOLETE_PACKET, SIMPLE_PACKET, ENHANCED_PACKET = 0x0a0d0d0a, 1, 2, 3, 6
 TIME_UNIT, TIME_OFFSET = 9, 14  # options of an interface: if_tsresol, if_tsoffset
 
@@ -27,10 +22,6 @@ class NoRecording(Exception):
         self.packed_by = packed_by
 
 
-class Damaged(Exception):
-    """The recording cannot be read any further."""
-
-
 class Frame(typing.NamedTuple):
     """A frame: its number, from 1; nanoseconds since 1970, 0 if it has no time; its link type; the bytes that were
     recorded; and how many it had on the wire, which may be more."""
@@ -41,74 +32,17 @@ class Frame(typing.NamedTuple):
     length: int
 
 
-class Readable(typing.Protocol):
-    """What bytes are read from."""
-
-    def read(self, size: int, /) -> bytes:
-        """Returns `size` bytes, or fewer; none at the end."""
-
-
-class Inflated:
-    """The bytes of a gzipped file, decompressed block by block. What stands before damage is read."""
-
-    def __init__(self, file: Readable, begun: bytes) -> None:
-        self.file, self.packed, self.at = file, begun, 0
-        self.begin_member()
-        self.damage: Damaged | None = None
-
-    def begin_member(self) -> None:
-        """A member gets few bytes at first, and then more: what comes after its end is copied for nothing."""
-        self.inflate, self.step = zlib.decompressobj(31), FIRST_STEP
-
-    def read(self, size: int, /) -> bytes:
-        while self.damage is None:
-            if self.inflate.eof:
-                if self.peek(len(GZIP)) != GZIP:
-                    return b''
-                self.begin_member()
-            piece = self.peek(1) and self.packed[self.at:self.at + self.step]
-            if not piece:
-                self.damage = Damaged('the compressed file is cut short')
-            elif content := self.inflated(piece, size):
-                return content
-        raise self.damage
-
-    def peek(self, size: int) -> bytes:
-        """The next compressed bytes: `size` of them, or fewer at the end."""
-        while len(self.packed) < self.at + size and (more := self.file.read(READ_AT_ONCE)):
-            self.packed, self.at = self.packed[self.at:] + more, 0
-        return self.packed[self.at:self.at + size]
-
-    def inflated(self, piece: bytes, size: int) -> bytes:
-        """The next bytes, of which there may be none yet; of damaged ones those before the damage."""
-        before = self.inflate.copy()
-        try:
-            content = self.inflate.decompress(piece, size)
-        except zlib.error as error:
-            self.damage = Damaged(f'the compressed file is damaged: {error}')
-            return byte_by_byte(before, piece)
-        self.at += len(piece) - len(self.inflate.unused_data or self.inflate.unconsumed_tail)
-        self.step = min(2 * self.step, READ_AT_ONCE)
-        return content
-
-
-def byte_by_byte(inflate: 'zlib._Decompress', packed: bytes) -> bytes:
-    """What can be decompressed before the damage."""
-    content = bytearray()
-    with contextlib.suppress(zlib.error):
-        for at in range(len(packed)):
-            content += inflate.decompress(packed[at:at + 1])
-    return bytes(content)
-
-
 class Source:
-    """Bytes that are taken from the front, in pieces of any size. `at` counts those that were taken."""
+    """Bytes that are taken from the front, in pieces of any size. `at` counts those that were taken. Those of a compressed file are what is
+    in it."""
 
     def __init__(self, file: Readable) -> None:
         self.file, self.block, self.begin, self.before = file, b'', 0, 0
         self.damage: Damaged | None = None
-        if self.peek(2) == GZIP:
-            self.file, self.block, self.begin = Inflated(file, self.block), b'', 0
+        content = unpacked(file, self.peek(LONGEST_MAGIC), self.block)
+        self.is_unpacked = content is not None
+        if content is not None:
+            self.file, self.block, self.begin = content, b'', 0
 
     @property
     def at(self) -> int:
@@ -129,6 +63,9 @@ class Source:
         piece = self.block[self.begin:end]
         self.begin = end
         return piece
+
+    def read(self, size: int, /) -> bytes:
+        return self.take(size)
 
     def fill(self, size: int) -> None:
         """Reads until `size` bytes are there, or the file ends. Raises `Damaged` if it is not known whether it does."""

@@ -24,6 +24,7 @@ FLAVOR = rb'\0\0\0[\0-\x03\x06\x07]\0\0[\0\x01].'
 CALL = re.compile(rb'\0\0\0\0\0\0\0\x02....\0\0\0.\0\0..' + FLAVOR, re.DOTALL)
 REPLY = re.compile(rb'\0\0\0\x01\0\0\0(?:\0' + FLAVOR + rb'|\x01\0\0\0[\0\x01])', re.DOTALL)
 BEFORE_PATTERN = 8  # bytes: the mark and the xid
+MARK = struct.Struct('>I')
 
 
 class Bytes(typing.Protocol):
@@ -81,7 +82,23 @@ def extents(window: Window, begin: int, end: int) -> typing.Iterator[Extent]:
     while begin < end:
         extent = extent_of(window, begin, end)
         yield extent
+        for extent in plain_extents(window, extent.end, end):
+            yield extent
         begin = extent.end
+
+
+def plain_extents(window: Window, begin: int, end: int) -> typing.Iterator[Extent]:
+    """The same of records that are whole and of one fragment, as most are, and whose marks are in the block that was fetched last. This is
+    where the time goes."""
+    block, unpack, make = window.block, MARK.unpack_from, Extent._make
+    shift, last = window.begin, window.begin + len(block) - 4
+    while shift <= begin <= last:
+        size = unpack(block, begin - shift)[0] - 0x80000000
+        after = begin + 4 + size
+        if not 0 <= size <= LONGEST_BODY or after > end:
+            break
+        yield make((begin, after, True, False, 1))
+        begin = after
 
 
 def fragments(window: Window, extent: Extent) -> typing.Iterator[tuple[int, int]]:

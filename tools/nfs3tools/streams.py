@@ -338,7 +338,8 @@ class Connection:
             other.begins_at(acknowledged)
         if other.first is not None:
             other.acknowledged = acknowledged
-            other.shows(other.position(acknowledged), number)
+            if acknowledged != other.expected:  # else it shows nothing that was not taken
+                other.shows(other.position(acknowledged), number)
 
 
 class Connections:

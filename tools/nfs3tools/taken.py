@@ -6,7 +6,7 @@
         taken.write_capture('run.nfs3cap')
         taken.frames(Place(1, 'server', 7, 24))     # the frames of the recording that carry this byte
 
-`take` reads pcap and pcapng (also gzipped, `-` for standard input, and the parts of one recording by a pattern) and captures
+`take` reads pcap and pcapng (also compressed, `-` for standard input, and the parts of one recording by a pattern) and captures
 (`NFS3CAP1`, `NFS3CAP2`). Places of
 `check`, `show` and `same` on the file that `write_capture` writes are places of `taken`: connections have the numbers of
 `TakenConnection.number`, and records are those of its streams.
@@ -15,24 +15,26 @@ import array
 import bisect
 import contextlib
 import itertools
-import shutil
 import sys
 import tempfile
 import time
 import typing
 
-from .captures import CHUNK, MAGICS, MOST_BYTES, MOST_CONNECTIONS, BadCapture, Container, capture_of, place_in
+from .captures import CHUNK, MOST_BYTES, MOST_CONNECTIONS, BadCapture, Container, capture_of, place_in
+from .kinds import MAGICS
 from .outputs import CAPTURE, write_file
 from .parts import Part, files_of, in_order, pattern_beside
 from .places import SIDES, FilePlace, NoPlace, Place, Side
 from .programs import chosen_frames
-from .recordings import Damaged, NoRecording, Recording, Source, opened
+from .recordings import NoRecording, Recording, Source, opened
 from .records import Extent, Window, body_of, extents, extent_of, fragments
 from .segments import Segments
 from .selection import Options, Selected, count, plural, select
-from .streams import Connection, Connections, Frames, Spool, Stored
+from .streams import Brought, Connection, Connections, Frames, Spool, Stored
+from .unpacking import READ_AT_ONCE, Damaged, Readable
 
 FRAMES_A_STEP = 1_000
+NOTHING, NOTHING_MORE = Brought(0, 0, 0), Brought(sys.maxsize, 0, 0)
 __all__ = ['FrameRef', 'LeftOut', 'NotTaken', 'Options', 'Record', 'Taken', 'TakenConnection', 'TakenStream', 'take']
 
 
@@ -70,13 +72,21 @@ class TakenStream:
 
     def read(self, begin: int, size: int) -> bytes:
         """Returns the bytes from `begin` on: `size` of them, or fewer at the stream's end."""
-        end, pieces = min(begin + size, self.size), []
-        part = bisect.bisect_right(self.begins, begin) - 1
+        return b''.join(self.stored.read(low, high - low) for low, high in self.ranges_of(begin, begin + size))
+
+    def ranges_of(self, begin: int, end: int) -> typing.Iterator[tuple[int, int]]:
+        """Iterates over the ranges of the stored bytes in which these bytes are."""
+        end, part = min(end, self.size), bisect.bisect_right(self.begins, begin) - 1
         while begin < end:
-            piece_end = min(end, self.begins[part + 1])
-            pieces.append(self.stored.read(self.ranges[part][0] + begin - self.begins[part], piece_end - begin))
-            begin, part = piece_end, part + 1
-        return b''.join(pieces)
+            part_end = min(end, self.begins[part + 1])
+            shift = self.ranges[part][0] - self.begins[part]
+            yield begin + shift, part_end + shift
+            begin, part = part_end, part + 1
+
+    def part(self, extents: typing.Iterable[Extent]) -> 'TakenStream':
+        """Returns a stream of some records, in their order."""
+        ranges = [piece for extent in extents for piece in self.ranges_of(extent.begin, extent.end)]
+        return TakenStream(self.stored, self.noted, ranges)
 
     def blocks(self) -> typing.Iterator[bytes]:
         """Iterates over all bytes in order, in blocks of 65,536 and a last one."""
@@ -96,19 +106,38 @@ class TakenStream:
             self.index = array.array('Q', (extent.begin for extent in extents(window, 0, self.size)))
         return extent_of(window, self.index[number - 1], self.size) if 0 < number <= len(self.index) else None
 
+    def brought(self) -> typing.Iterator[Brought]:
+        """Iterates over the frames that brought the bytes, in order of the bytes, if frames are noted. Each has the place of its first byte
+        in the stream, which for the first of them may be before the stream."""
+        for (low, high), at in zip(self.ranges, self.begins):
+            if self.noted is not None:
+                shift, found = at - low, self.noted.between(low, high)
+                yield from found if not shift else (brought._replace(begin=brought.begin + shift) for brought in found)
+
+    def completions(self) -> typing.Iterator[tuple[int, int]]:
+        """Iterates over the records in order: how many bytes each has with its marks, and the time of the frame that completed it, 0 if
+        that has none or is not noted. Of the frames that brought bytes of a record the one with the largest number completed it. The last
+        record may be cut."""
+        brought, held = self.brought(), NOTHING
+        following = next(brought, NOTHING_MORE)
+        for extent in extents(Window(self), 0, self.size):
+            begin, end = extent[:2]
+            last = held if following.begin > begin else NOTHING
+            while following.begin < end:
+                held, following = following, next(brought, NOTHING_MORE)
+                last = held if held.number > last.number else last
+            yield end - begin, last.time
+
     def count_records(self) -> int:
         """Returns the number of records, of which the last may be cut."""
         return sum(1 for _ in extents(Window(self), 0, self.size))
 
     def frames(self, begin: int, end: int) -> list[FrameRef]:
         """Returns the frames that brought the bytes, in order of their numbers, each once."""
-        found, part = set[FrameRef](), bisect.bisect_right(self.begins, begin) - 1
-        while self.noted is not None and begin < min(end, self.size):
-            part_end = min(end, self.begins[part + 1])
-            shift = self.ranges[part][0] - self.begins[part]
-            found.update(FrameRef(brought.number, brought.time) for brought in self.noted.between(begin + shift, part_end + shift))
-            begin, part = part_end, part + 1
-        return sorted(found)
+        if self.noted is None:
+            return []
+        brought = itertools.chain.from_iterable(self.noted.between(*piece) for piece in self.ranges_of(begin, end))
+        return sorted({FrameRef(one.number, one.time) for one in brought})
 
 
 class TakenConnection(typing.NamedTuple):
@@ -263,14 +292,7 @@ def take(path: str, options: Options = Options(), frames: bool = True, shows_pro
     if len(files) > 1:
         return take_parts(files, options, frames, progress)
     with contextlib.ExitStack() as stack:
-        path, chosen = files[0], None
-        file = stack.enter_context(opened(path))
-        if options.filter is not None:
-            if path == '-':
-                file = stack.enter_context(copied(file))
-                path = file.name
-            chosen = chosen_frames(path, options.filter)
-        taken = take_from(Source(file), options, frames, chosen, progress)
+        taken = take_from(*opened_for(files[0], options, stack), options, frames, progress)
     begun = sum(left_out.is_begun_before for left_out in taken.left_out)
     pattern = pattern_beside(files[0]) if begun else None
     if pattern:
@@ -284,26 +306,42 @@ def take_parts(files: list[str], options: Options, keeps_frames: bool, progress:
     taking = Taking(keeps_frames, progress)
     try:
         for path in in_order(files):
-            chosen = None if options.filter is None else chosen_frames(path, options.filter)
-            with opened(path) as file:
+            with contextlib.ExitStack() as stack:
+                source, chosen = opened_for(path, options, stack)
                 taking.taken.parts.append(Part(path, taking.count))
-                taking.add(Recording(Source(file)), chosen, f'{path}: ')
+                taking.add(Recording(source), chosen, f'{path}: ')
     except (NoRecording, Damaged) as refused:
         raise NotTaken(str(refused)) from refused
     return taking.ended(options)
 
 
+def opened_for(path: str, options: Options, stack: contextlib.ExitStack) -> tuple[Source, set[int] | None]:
+    """Opens a recording, and asks tshark for the frames that a filter chooses, if there is one. It reads a copy if that is of standard
+    input or compressed. Raises `NotTaken` if what is compressed cannot be copied as a whole."""
+    source = Source(stack.enter_context(opened(path)))
+    if options.filter is None:
+        return source, None
+    if path == '-' or source.is_unpacked:
+        try:
+            copy = stack.enter_context(copied(source))
+        except Damaged as damaged:
+            raise NotTaken(str(damaged)) from damaged
+        path, source = copy.name, Source(copy)
+    return source, chosen_frames(path, options.filter)
+
+
 @contextlib.contextmanager
-def copied(file: typing.IO[bytes]) -> typing.Iterator[typing.IO[bytes]]:
-    """A temporary file with what is read from another."""
+def copied(content: Readable) -> typing.Iterator[typing.IO[bytes]]:
+    """A temporary file with what is read."""
     with tempfile.NamedTemporaryFile(prefix='nfs3canon') as copy:
-        shutil.copyfileobj(file, copy)
+        while block := content.read(READ_AT_ONCE):
+            copy.write(block)
         copy.flush()
         copy.seek(0)
         yield copy
 
 
-def take_from(source: Source, options: Options, keeps_frames: bool, chosen: set[int] | None, progress: 'Progress') -> Taken:
+def take_from(source: Source, chosen: set[int] | None, options: Options, keeps_frames: bool, progress: 'Progress') -> Taken:
     """Takes what is read; of a recording only the frames that are chosen, if `chosen` is not None."""
     try:
         if source.peek(8) in MAGICS:

@@ -33,7 +33,7 @@ from .messages import add_losses, add_options, advice_on, options_of, parser_of,
 from .outputs import check_output, write_file
 from .parts import files_of
 from .places import FilePlace, Place, parse_fault
-from .printed import escaped, printable
+from .printed import columns, escaped, printable
 from .programs import CHECKED, Answer, Died, FilterRefused, Missing, program_path, run_program
 from .selection import Options, count
 from .taken import FrameRef, LeftOut, NotTaken, Taken, TakenConnection, take
@@ -67,6 +67,9 @@ class Verdict(typing.NamedTuple):
     seconds: float = 0.0
 
 
+Look = typing.Callable[[Taken, list[Verdict]], object]
+
+
 class Judge(typing.NamedTuple):
     """How recordings are judged: by which program, taken how, and how many connections at once."""
     program: str
@@ -74,11 +77,15 @@ class Judge(typing.NamedTuple):
     at_once: int
     shows_progress: bool
 
-    def verdicts(self, recording: str) -> list[Verdict]:
-        """The verdicts on a recording or capture. What cannot be read is an error among them."""
+    def verdicts(self, recording: str, look: Look | None = None) -> list[Verdict]:
+        """The verdicts on a recording or capture. What cannot be read is an error among them. `look` is called with them and with what
+        is taken."""
         try:
             with take(recording, self.options, shows_progress=self.shows_progress) as taken:
-                return self.of_taken(recording, taken)
+                verdicts = self.of_taken(recording, taken)
+                if look:
+                    look(taken, verdicts)
+                return verdicts
         except NotTaken as refused:
             return [error_of(recording, advice_on(refused, 'verdicts'))]
         except (FilterRefused, Missing) as refused:
@@ -184,7 +191,12 @@ def main(words: list[str]) -> int:
         write_file(chosen.junit, [junit_of(verdicts, chosen.allow_losses)], inputs)
     if chosen.json:
         write_file(chosen.json, [json_of(verdicts)], inputs)
-    good = ['ok', 'skipped', 'note', *(['in part'] if chosen.allow_losses else [])]
+    return status_of(verdicts, chosen.allow_losses)
+
+
+def status_of(verdicts: list[Verdict], allows_losses: bool) -> int:
+    """The status of a tool after these verdicts."""
+    good = ['ok', 'skipped', 'note', *(['in part'] if allows_losses else [])]
     return 0 if all(verdict.state in good for verdict in verdicts) else NOT_ALL_OK
 
 
@@ -221,19 +233,30 @@ def leave_interrupts() -> None:
 
 def print_table(verdicts: list[Verdict]) -> None:
     """Prints a row for each verdict but those on connections that are left out, which with all notes go to standard error."""
+    tell_notes(verdicts)
+    heads = ('recording', 'connection', 'client', 'server', 'calls', 'replies', 'verdict')
+    for line in columns([heads, *(row_of(verdict) for verdict in verdicts if verdict.state not in ('skipped', 'note'))]):
+        print(line)
+    print(sums_of(verdicts))
+
+
+def tell_notes(verdicts: list[Verdict]) -> None:
+    """Prints on standard error what is missing from recordings, and which connections are left out."""
     for verdict in verdicts:
-        name = escaped(verdict.recording)
-        named = name if verdict.connection is None else f'{name}: connection {verdict.connection}'
         said = {'skipped': [f'left out: {verdict.message}'], 'note': [verdict.message]}.get(verdict.state, [])
         for line in [*verdict.notes, *said]:
-            print(printable(f'{named}: {line}'), file=sys.stderr)
-    heads = ('recording', 'connection', 'client', 'server', 'calls', 'replies', 'verdict')
-    rows = [heads, *(row_of(verdict) for verdict in verdicts if verdict.state not in ('skipped', 'note'))]
-    widths = [max(len(row[column]) for row in rows) for column in range(len(heads) - 1)]
-    for row in rows:
-        print('  '.join([*(cell.ljust(width) for cell, width in zip(row, widths)), row[-1]]))
+            print(printable(f'{named(verdict)}: {line}'), file=sys.stderr)
+
+
+def named(verdict: Verdict) -> str:
+    """The recording of a verdict, and its connection if it is on one."""
+    name = escaped(verdict.recording)
+    return name if verdict.connection is None else f'{name}: connection {verdict.connection}'
+
+
+def sums_of(verdicts: list[Verdict]) -> str:
     states = [verdict.state for verdict in verdicts]
-    print(f'{states.count("ok")} ok, {states.count("in part")} in part, {states.count("refused")} refused, {states.count("error")} errors')
+    return f'{states.count("ok")} ok, {states.count("in part")} in part, {states.count("refused")} refused, {states.count("error")} errors'
 
 
 def row_of(verdict: Verdict) -> tuple[str, ...]:
@@ -277,10 +300,15 @@ def name_of(verdict: Verdict) -> str:
 
 
 def json_of(verdicts: list[Verdict]) -> bytes:
+    return json.dumps(objects_of(verdicts), indent=1).encode() + b'\n'
+
+
+def objects_of(verdicts: list[Verdict]) -> list[dict[str, object]]:
+    """The verdicts as objects of JSON."""
     rows = []
     for verdict in verdicts:
         row = verdict._asdict()
         row.update(recording=escaped(verdict.recording), frames=[frame._asdict() for frame in verdict.frames],
                    seconds=round(verdict.seconds, 3))
         rows.append(row)
-    return json.dumps(rows, indent=1).encode() + b'\n'
+    return rows

@@ -22,13 +22,12 @@ import sys
 import typing
 from collections.abc import Sequence
 
-from .messages import REFUSED, add_options, ended, options_of, parser_of
+from .messages import ABSENT, REFUSED, add_options, ended, options_of, parser_of
 from .parts import Part
 from .places import FilePlace, NoPlace, Place, parse_place
 from .printed import escaped
 from .taken import FrameRef, NotTaken, Taken, take
 
-ABSENT = 1
 SHOWN_AT_MOST = 12  # frames of which the time is printed
 
 
