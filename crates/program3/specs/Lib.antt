@@ -7,3 +7,4 @@ pub mod Rights
 pub mod Standard
 pub mod Systems
 pub mod Writing
+pub mod machinery

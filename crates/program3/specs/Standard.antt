@@ -1,6 +1,5 @@
 -- The file to which a program prints.
-use Rattle.std.specs.Prelude.{◌==◌, ◌&&◌, ℕ, Bool, true, false, List, Option, None, Some}
-use Rattle.std.specs.List.{list_any}
+use Rattle.std.specs.Prelude.{◌==◌, ◌&&◌, ℕ, Bool, true, false, Option, None, Some}
 use Rattle.program3.specs.declared.identity.FileId.{FileId}
 use Rattle.program3.specs.declared.standard.StandardOutput.{StandardOutput}
 use Rattle.program3.specs.declared.standard.StandardOutput.TheVariants.{Closed, Open, Unknown}
@@ -12,10 +11,6 @@ bad_number = 9
 -- a file has its device and its number there under each of its names
 abbrev pub is_one_file : (one other : FileId) → Bool
 is_one_file one other = one.device == other.device && one.inode == other.inode
-
--- one of these files is this one
-abbrev pub is_among_files : List FileId → FileId → Bool
-is_among_files files id = list_any (is_one_file id) files
 
 -- which file it is, if that is known
 abbrev pub known_id : StandardOutput → Option FileId

@@ -3,7 +3,7 @@
 ghost use Rattle.std.specs.Prelude.{◌≡◌, ◌≢◌, ◌↔◌, IfOk, IfSome, IsTrue, bit_and, false};
 ghost use Rattle.std.specs.Fs.{file_type, metadata_mode, IsFile};
 ghost use Rattle.capture3.specs.Capture.{magic_front};
-ghost use Rattle.program3.specs.Standard.{is_among_files};
+ghost use Rattle.program3.specs.machinery.SparedFiles.{is_among_files};
 
 use crate::identity::FileId;
 use crate::opening::OpenError;
