@@ -21,7 +21,7 @@ from messages import (
     BLK, DIR, EXCLUSIVE, MOUNT, NFS, NFSACL, NOENT, NOW, REG, UNCHECKED, auth_sys, call, dirop, failed, fattr, fh, guard, how, hyper, made,
     ok, opaque, post_op_attr, sattr, set_to_client_time, success, wcc, word)
 from nfs3tools.apart import apart
-from nfs3tools.classes import Mask, Way
+from nfs3tools.classes import Mask, Way, mask_of
 from nfs3tools.differing import Comparison
 from nfs3tools.listings import Message, messages_of
 from nfs3tools.telling import of_difference
@@ -256,6 +256,39 @@ def sizes_of_changes(place: Findings) -> None:
     wants('entries', 17, (fh(H) + bytes(24), fh(H) + bytes(24)), (listing(1), listing(2)), 'entry "a".nlink', 'entry "a".size')
     place.want('without it', differing_under(place, {}, (12, asked[0], ok(wcc(1, file(2)))), (12, asked[1], ok(wcc(3, file(4))))),
                ['dir before.size', 'dir after.nlink', 'dir after.size'])
+
+
+def names_of_removed_files(place: Findings) -> None:
+    """Names of .nfs and 24 digits are any in calls and replies, and others are compared."""
+    one, other, third = b'.nfs' + b'0' * 24, b'.nfs' + b'a1' * 12, b'.nfs' + b'7' * 24
+    mask = mask_of('sillynames')
+    def removed(*names: bytes) -> tuple[int, bytes, bytes]:
+        return 14, dirop(H, names[0]) + dirop(H, names[1]), ok(wcc(), wcc())
+    place.want('others', differing_under(place, mask, removed(one, third), removed(other, one)), [])
+    place.want('one for two', differing_under(place, mask, removed(one, third), removed(other, other)), [])
+    place.want('no numbers', differing_under(place, mask_of('sillynames=number'), removed(one, one), removed(other, third)), [])
+    place.want('without the mask', differing_under(place, {}, removed(one, one), removed(other, other)), ['from.name', 'to.name'])
+    for name in (other + b'0', other[:-1], b'x' + other[1:], other.upper(), b'a'):
+        place.want(name.decode(), differing_under(place, mask, removed(one, one), removed(name, one)), ['from.name'])
+    def listing(*names: bytes) -> tuple[int, bytes, bytes]:
+        entries = [messages.entry(number, name, 0) for number, name in enumerate(names)]
+        return 16, fh(H) + bytes(20), ok(messages.entries(None, bytes(8), entries, is_end=True))
+    place.want('entries', differing_under(place, mask, listing(b'a', one, third), listing(b'a', third, other)), [])
+    place.want('an entry more', differing_under(place, mask, listing(b'a', one), listing(b'a', third, other)), ['entry.name'])
+    place.want('without the mask', differing_under(place, {}, listing(b'a', one), listing(b'a', other)), ['entry.name', 'entry.name'])
+
+
+def names_of_hosts(place: Findings) -> None:
+    """The names of hosts in replies to DUMP are any, with those of machines in credentials."""
+    def run(host: bytes, folder: bytes) -> tuple[list[bytes], list[bytes]]:
+        return [call(1, MOUNT, 3, 2, b'')], [success(1, messages.mountlist([(host, folder)]))]
+    place.put('a', run(b'box', b'/a'))
+    place.put('b', run(b'another', b'/a'))
+    place.want('masked', place.compare('a', 'b')[0], 0)
+    place.want('compared', [line for line in place.compare('--mask=-machines', 'a', 'b')[1] if line.startswith(('  - ', '  + '))],
+               ['  - entry 1.hostname="box"', '  + entry 1.hostname="another"'])
+    place.put('b', run(b'another', b'/b'))
+    place.want('folders', place.compare('a', 'b')[0], 1)
 
 
 # --- Long values ---
@@ -594,7 +627,7 @@ def json_is_an_output(place: Findings) -> None:
 
 TESTS: list[Callable[[Findings], None]] = [
     labels_of_every_procedure, labels_of_fewer_parts, fields_are_those_of_labels, differing_labels, sizes_of_changes,
-    data_of_files, values_that_part, long_names, long_handles, names_of_numbers, equal_findings,
+    names_of_removed_files, names_of_hosts, data_of_files, values_that_part, long_names, long_handles, names_of_numbers, equal_findings,
     equal_findings_of_one_run, equal_findings_of_renamed_values, the_first_twenty, fields_left_out, as_json, json_of_recordings,
     json_is_an_output]
 

@@ -27,6 +27,8 @@ class ValueClass:
     is_of_changes: bool = False
     # The form of its values, if not all values of its items are of the class.
     form: re.Pattern[str] | None = None
+    # Whether its values are names, which have no numbers: they become empty, or have 0 for each digit.
+    has_names: bool = False
 
     def has(self, name: str, is_call: bool) -> bool:
         """Returns whether an item of this name in a call, or in a reply, may be one of the class."""
@@ -45,7 +47,8 @@ CLASSES = (
     ValueClass('times', names('atime_sec atime_nsec mtime_sec mtime_nsec ctime_sec ctime_nsec'), Way.ZERO, True,
                'times of files, in attributes, guards and settings'),
     ValueClass('stamps', names('stamp'), Way.ZERO, True, 'stamps of AUTH_SYS credentials'),
-    ValueClass('machines', names('machinename'), Way.ZERO, True, 'names of machines in AUTH_SYS credentials'),
+    ValueClass('machines', names('machinename hostname'), Way.ZERO, True,
+               'names of machines in AUTH_SYS credentials, and of hosts in replies to DUMP', has_names=True),
     ValueClass('space', names('tbytes fbytes abytes tfiles ffiles afiles invarsec used'), Way.ZERO, True,
                'counts of free space, and the space that a file uses'),
     ValueClass('ids', names('fileid'), Way.NUMBER, True, 'file ids'),
@@ -57,6 +60,9 @@ CLASSES = (
                only_in_calls=names('group')),
     ValueClass('wcc', names('size nlink'), Way.ZERO, False,
                'sizes and counts of links, in replies, that others may change meanwhile', is_of_changes=True),
+    ValueClass('sillynames', names('name'), Way.ZERO, True,
+               'names that Linux clients give to removed files that are open: .nfs and 24 digits',
+               form=re.compile(r'"\.nfs[0-9a-f]{24}"'), has_names=True),
 )
 BY_NAME = {one.name: one for one in CLASSES}
 
@@ -77,7 +83,8 @@ def changed(mask: Mask, word: str) -> Mask:
         raise argparse.ArgumentTypeError(f'{name} is masked as zero or number, not as {way}')
     if word.startswith('-'):
         return {kept: how for kept, how in mask.items() if kept != name}
-    return {**mask, name: Way(way) if way else BY_NAME[name].way}
+    one = BY_NAME[name]
+    return {**mask, name: Way(way) if way and not one.has_names else one.way}
 
 
 def mask_of(text: str) -> Mask:

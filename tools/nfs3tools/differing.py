@@ -12,7 +12,6 @@ from .whose import Labels
 # After one of these the rest of a reply has another layout.
 DECIDING = ('reply_stat', 'reject_stat', 'accept_stat', 'status')
 RENAMED = {'fh': HANDLES, 'verf': VERIFIERS}
-FREE = ' '  # in place of the class of an entry's name that is to be bound
 # Calls and replies whose data is of a file, from the offset of the call on.
 WRITE, READ = 'NFSPROC3_WRITE', 'NFSPROC3_READ'
 
@@ -138,7 +137,8 @@ class Comparison:
 
     def of_entries(self, here: Side, first: list[range], there: Side, second: list[range]) -> Iterator[Difference]:
         """Yields how the entries of two directories differ, and whether they come in another order."""
-        ours, theirs = self.together(here, first, there, second)
+        ours = by_name((self.key_of_entry(here, entry), entry) for entry in first)
+        theirs = by_name((self.key_of_entry(there, entry), entry) for entry in second)
         yield from (of_entry(name_of(here, entry), None) for key, entry in ours.items() if key not in theirs)
         yield from (of_entry(None, name_of(there, entry)) for key, entry in theirs.items() if key not in ours)
         for key, entry in ours.items():
@@ -150,29 +150,11 @@ class Comparison:
         if turns:
             yield of_entry(name_of(here, turns[0]), name_of(there, turns[1]), 'the entries come in another order')
 
-    def together(self, here: Side, first: list[range], there: Side, second: list[range]) -> tuple['Entries', 'Entries']:
-        """Returns the entries of both directories by keys that those have in common that belong together. Names that are renamed
-        belong to those to which they are bound, and the others of them to each other by turn."""
-        theirs = by_name([(self.key_of_entry(there, entry), entry) for entry in second])
-        ours = by_name([(self.renamed_key(self.key_of_entry(here, entry)), entry) for entry in first])
-        free = [key for key in theirs if key not in ours and key[0][0] and key[0] not in self.bindings.back]
-        keys = dict(zip([key for key in ours if key[0][0] == FREE], free))
-        return {keys.get(key, key): entry for key, entry in ours.items()}, theirs
-
-    def key_of_entry(self, side: Side, entry: range) -> tuple[str, str]:
-        """Returns the class in which an entry's name is renamed, if it is, and the name, or no name if it is left out."""
+    def key_of_entry(self, side: Side, entry: range) -> str:
+        """Returns the name of an entry, in quotes, or the class of its name if that is masked."""
         at = at_name(side, entry)
         owner = None if at is None else self.owner_of(side, at)
-        if owner is None:
-            return '', name_of(side, entry)
-        return owner.name, '' if self.mask[owner.name] is Way.ZERO else name_of(side, entry)
-
-    def renamed_key(self, key: tuple[str, str]) -> tuple[str, str]:
-        """Returns the second run's key in place of one of the first. A name that is renamed and not bound has none."""
-        if not all(key):
-            return key
-        bound = self.bindings.forth.get(key)
-        return (FREE, key[1]) if bound is None else (key[0], bound)
+        return name_of(side, entry) if owner is None else owner.name
 
 
 def is_of(owner: ValueClass, side: Side, at: int) -> bool:
@@ -183,11 +165,11 @@ def is_of(owner: ValueClass, side: Side, at: int) -> bool:
 
 
 # Entries by their keys, and by how many of a key are before. A broken directory may have several of a name.
-Entries = dict[tuple[tuple[str, str], int], range]
+Entries = dict[tuple[str, int], range]
 
 
-def by_name(entries: Iterable[tuple[tuple[str, str], range]]) -> Entries:
-    counts = Counter[tuple[str, str]]()
+def by_name(entries: Iterable[tuple[str, range]]) -> Entries:
+    counts = Counter[str]()
     out: Entries = {}
     for key, entry in entries:
         out[key, counts[key]] = entry

@@ -17,7 +17,7 @@ use Rattle.line3.specs.declared.asked.LineFault.TheVariants.{Usage, Odd, SameNam
 use Rattle.line3.proofs.GrammarLemmas.{all_pass, at, ends, further_turn, further_walked, no_first, plain_turn, plain_walked}
 use Rattle.mask_line3.specs.declared.asked.MaskClass.{MaskClass}
 use Rattle.masking3.specs.declared.ways.Way.{Way}
-use Rattle.mask_line3.specs.declared.asked.MaskClass.TheVariants.{Times, Stamps, Machines, Space, Ids, Fsids, Cookies, CookieVerifiers, CreateVerifiers, Owners, Wcc}
+use Rattle.mask_line3.specs.declared.asked.MaskClass.TheVariants.{Times, Stamps, Machines, Space, Ids, Fsids, Cookies, CookieVerifiers, CreateVerifiers, Owners, Wcc, SillyNames}
 use Rattle.mask_line3.specs.declared.asked.Change.{Change}
 use Rattle.mask_line3.specs.Changes.{change_word}
 use Rattle.mask_line3.specs.machinery.Grammar.{mask_app}
@@ -128,6 +128,7 @@ class_plain CookieVerifiers way = record { first = _; rest = _; split = refl; no
 class_plain CreateVerifiers way = record { first = _; rest = _; split = refl; no_hyphen = refl }
 class_plain Owners way = record { first = _; rest = _; split = refl; no_hyphen = refl }
 class_plain Wcc way = record { first = _; rest = _; split = refl; no_hyphen = refl }
+class_plain SillyNames way = record { first = _; rest = _; split = refl; no_hyphen = refl }
 
 change_plain : (change : Change) → IsFileWord (change_word change)
 change_plain change = class_plain change.class change.way

@@ -2,14 +2,14 @@
 
 use masking3::{Way, Ways};
 
-/// A class, as a word of the line names it: one of values, or the names of machines.
+/// A class, as a word of the line names it: one of values, or of names.
 #[derive(Clone, Copy, Debug, PartialEq, Eq)]
 pub enum MaskClass {
     /// The times of files.
     Times,
     /// The stamps of credentials.
     Stamps,
-    /// The names of machines in credentials.
+    /// The names of machines in credentials, and of hosts in DUMP's results.
     Machines,
     /// The counts of free space, and the space that a file uses.
     Space,
@@ -27,6 +27,8 @@ pub enum MaskClass {
     Owners,
     /// The sizes and counts of links that others may change meanwhile.
     Wcc,
+    /// The names of files that a Linux client removed while they were open.
+    SillyNames,
 }
 
 /// What becomes of a class, as a word of the line says it.

@@ -56,6 +56,10 @@ pub(crate) fn with_way(ways: Ways, class: MaskClass, way: Way) -> Ways
             ..ways
         },
         MaskClass::Wcc => Ways { wcc: way, ..ways },
+        MaskClass::SillyNames => Ways {
+            silly_names: way,
+            ..ways
+        },
     }
 }
 
@@ -97,6 +101,7 @@ pub fn ways_told(alloc: Global, ways: &Ways) -> Result<String, AllocError>
     push_change(&mut text, MaskClass::CreateVerifiers, ways.create_verifiers)?;
     push_change(&mut text, MaskClass::Owners, ways.owners)?;
     push_change(&mut text, MaskClass::Wcc, ways.wcc)?;
+    push_change(&mut text, MaskClass::SillyNames, ways.silly_names)?;
     Ok(text)
 }
 

@@ -91,7 +91,7 @@ fn unchanging(alloc: Global, word: &str) -> LineFault
         "error: '{word}' is not CLASS=WAY
 
   classes: times, stamps, machines, space, ids, fsids, cookies, cookieverfs,
-           createverfs, owners, wcc
+           createverfs, owners, wcc, sillynames
   ways: keep, zero, number
 
 Usage: nfs3mask <IN> <OUT> [CLASS=WAY]...

@@ -16,14 +16,15 @@ const ENDINGS: &str = "\
 CLASS=WAY words change the usual mask, a later word for a class before an earlier
 one. What happens to the values of a class:
   keep    they stay
-  zero    they become 0, and names empty
+  zero    they become 0; names of machines become empty
   number  each becomes its number by first appearance among those of its class;
-          names have no numbers, and become empty
+          names have no numbers, and become what they are under zero
 
 Classes, with their usual ways:
   times=zero          times of files, in attributes, guards and settings
   stamps=zero         stamps of AUTH_SYS credentials
-  machines=zero       names of machines in AUTH_SYS credentials
+  machines=zero       names of machines in AUTH_SYS credentials, and of hosts in
+                      replies to MOUNT's DUMP
   space=zero          counts of free space, and the space that a file uses
   ids=number          file ids
   fsids=number        file system ids
@@ -33,6 +34,8 @@ Classes, with their usual ways:
   owners=keep         users and groups, in attributes, settings and credentials
   wcc=keep            sizes and counts of links, in replies, that others may change
                       meanwhile: in wcc_data, and of directories
+  sillynames=zero     names that the Linux client gives to files that are removed
+                      while they are open, .nfs and 24 digits: each digit becomes 0
 
 Prints the line that `nfs3canon canon` prints, and then `masked` with the way of
 every class. OUT is written beside its name and gets the name when it is complete;

@@ -23,6 +23,7 @@ pub(crate) fn class_named(name: &str) -> Option<MaskClass>
         "createverfs" => Some(MaskClass::CreateVerifiers),
         "owners" => Some(MaskClass::Owners),
         "wcc" => Some(MaskClass::Wcc),
+        "sillynames" => Some(MaskClass::SillyNames),
         _ => None,
     }
 }
@@ -43,6 +44,7 @@ pub(crate) fn class_name(class: MaskClass) -> &'static str
         MaskClass::CreateVerifiers => "createverfs",
         MaskClass::Owners => "owners",
         MaskClass::Wcc => "wcc",
+        MaskClass::SillyNames => "sillynames",
     }
 }
 

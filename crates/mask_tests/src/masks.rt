@@ -220,6 +220,82 @@ fn sizes_of_files_and_directories(rt: HostRuntime) -> Result<(), Fail> {
     Ok(())
 }
 
+/// A name that Linux gave to a removed file: of the file id 0xa4f2e, and the 28th one.
+const SILLY: [u32; 7] = [
+    0x2e6e_6673,
+    0x3030_3030,
+    0x3030_3030,
+    0x3030_3061,
+    0x3466_3265,
+    0x3030_3030,
+    0x3030_3163,
+];
+
+/// The name with zeros for digits.
+const ZEROS: [u32; 7] = [
+    0x2e6e_6673,
+    0x3030_3030,
+    0x3030_3030,
+    0x3030_3030,
+    0x3030_3030,
+    0x3030_3030,
+    0x3030_3030,
+];
+
+/// A REMOVE of a file of 28 bytes.
+fn removal(alloc: Global, name: &[u32; 7]) -> Result<Vec<u8>, AllocError> {
+    let mut bytes = Vec::new(alloc);
+    push_words(&mut bytes, &[0x4e46_5333, 0x4341_5031, 1, 84, 0x8000_0050])?;
+    push_words(&mut bytes, &[7, 0, 2, 100_003, 3, 12, 0, 0, 0, 0])?;
+    push_words(&mut bytes, &[4, 0xaabb_ccdd, 28])?;
+    push_words(&mut bytes, name)?;
+    push_words(&mut bytes, &[0, 0, 0])?;
+    Ok(bytes)
+}
+
+#[test]
+fn names_of_removed_files(rt: HostRuntime) -> Result<(), Fail> {
+    let bytes = removal(rt.alloc(), &SILLY)?;
+    for (way, form) in [(Way::Keep, SILLY), (Way::Zero, ZEROS), (Way::Number, ZEROS)] {
+        let mut ways = Ways::none();
+        ways.silly_names = way;
+        let mut sink = MemSink::new(rt.alloc(), 999, 9, 0)?;
+        assert_eq!(rt; masked(&rt, ways, &bytes, &mut sink).is_ok(), true);
+        assert_eq!(rt; sink.bytes(), removal(rt.alloc(), &form)?.as_slice());
+    }
+    Ok(())
+}
+
+/// A DUMP and its reply of one directory, `/a`, which has this record and these words for the host's name.
+fn dump(alloc: Global, record: [u32; 2], host: &[u32]) -> Result<Vec<u8>, AllocError> {
+    let mut bytes = Vec::new(alloc);
+    push_words(&mut bytes, &[0x4e46_5333, 0x4341_5031, 1, 44, 0x8000_0028])?;
+    push_words(&mut bytes, &[7, 0, 2, 100_005, 3, 2, 0, 0, 0, 0, 0])?;
+    push_words(&mut bytes, &record)?;
+    push_words(&mut bytes, &[7, 1, 0, 0, 0, 0, 1])?;
+    push_words(&mut bytes, host)?;
+    push_words(&mut bytes, &[2, 0x2f61_0000, 0, 0, 0])?;
+    Ok(bytes)
+}
+
+#[test]
+fn names_of_hosts(rt: HostRuntime) -> Result<(), Fail> {
+    let bytes = dump(rt.alloc(), [52, 0x8000_0030], &[3, 0x626f_7800])?;
+    let without = dump(rt.alloc(), [48, 0x8000_002c], &[0])?;
+    for (way, form) in [
+        (Way::Keep, &bytes),
+        (Way::Zero, &without),
+        (Way::Number, &without),
+    ] {
+        let mut ways = Ways::none();
+        ways.machines = way;
+        let mut sink = MemSink::new(rt.alloc(), 999, 9, 0)?;
+        assert_eq!(rt; masked(&rt, ways, &bytes, &mut sink).is_ok(), true);
+        assert_eq!(rt; sink.bytes(), form.as_slice());
+    }
+    Ok(())
+}
+
 #[test]
 fn a_sink_without_room(rt: HostRuntime) -> Result<(), Fail> {
     let mut sink = MemSink::new(rt.alloc(), 50, 9, 0)?;

@@ -1,5 +1,5 @@
 use Rattle.std.proofs.Common.{◌∷◌, []}
-use Rattle.mask_line3.specs.declared.asked.MaskClass.TheVariants.{Times, Stamps, Machines, Space, Ids, Fsids, Cookies, CookieVerifiers, CreateVerifiers, Owners, Wcc}
+use Rattle.mask_line3.specs.declared.asked.MaskClass.TheVariants.{Times, Stamps, Machines, Space, Ids, Fsids, Cookies, CookieVerifiers, CreateVerifiers, Owners, Wcc, SillyNames}
 use Rattle.mask_line3.specs.Changes.{change_of}
 use Rattle.mask_line3.proofs.ChangeLemmas.{told_more}
 use Rattle.mask_line3.proofs.change.ways_told.Goals as goal
@@ -17,4 +17,5 @@ returns-clause-told c =
     let eight = told_more (change_of Times ways.times ∷ change_of Stamps ways.stamps ∷ change_of Machines ways.machines ∷ change_of Space ways.space ∷ change_of Ids ways.ids ∷ change_of Fsids ways.fsids ∷ change_of Cookies ways.cookies ∷ []) (change_of CookieVerifiers ways.cookie_verifiers) _ _ seven c.in_ok-push_change-8.ensures in
     let nine = told_more (change_of Times ways.times ∷ change_of Stamps ways.stamps ∷ change_of Machines ways.machines ∷ change_of Space ways.space ∷ change_of Ids ways.ids ∷ change_of Fsids ways.fsids ∷ change_of Cookies ways.cookies ∷ change_of CookieVerifiers ways.cookie_verifiers ∷ []) (change_of CreateVerifiers ways.create_verifiers) _ _ eight c.in_ok-push_change-9.ensures in
     let ten = told_more (change_of Times ways.times ∷ change_of Stamps ways.stamps ∷ change_of Machines ways.machines ∷ change_of Space ways.space ∷ change_of Ids ways.ids ∷ change_of Fsids ways.fsids ∷ change_of Cookies ways.cookies ∷ change_of CookieVerifiers ways.cookie_verifiers ∷ change_of CreateVerifiers ways.create_verifiers ∷ []) (change_of Owners ways.owners) _ _ nine c.in_ok-push_change-10.ensures in
-    told_more (change_of Times ways.times ∷ change_of Stamps ways.stamps ∷ change_of Machines ways.machines ∷ change_of Space ways.space ∷ change_of Ids ways.ids ∷ change_of Fsids ways.fsids ∷ change_of Cookies ways.cookies ∷ change_of CookieVerifiers ways.cookie_verifiers ∷ change_of CreateVerifiers ways.create_verifiers ∷ change_of Owners ways.owners ∷ []) (change_of Wcc ways.wcc) _ _ ten c.in_ok-push_change-11.ensures
+    let eleven = told_more (change_of Times ways.times ∷ change_of Stamps ways.stamps ∷ change_of Machines ways.machines ∷ change_of Space ways.space ∷ change_of Ids ways.ids ∷ change_of Fsids ways.fsids ∷ change_of Cookies ways.cookies ∷ change_of CookieVerifiers ways.cookie_verifiers ∷ change_of CreateVerifiers ways.create_verifiers ∷ change_of Owners ways.owners ∷ []) (change_of Wcc ways.wcc) _ _ ten c.in_ok-push_change-11.ensures in
+    told_more (change_of Times ways.times ∷ change_of Stamps ways.stamps ∷ change_of Machines ways.machines ∷ change_of Space ways.space ∷ change_of Ids ways.ids ∷ change_of Fsids ways.fsids ∷ change_of Cookies ways.cookies ∷ change_of CookieVerifiers ways.cookie_verifiers ∷ change_of CreateVerifiers ways.create_verifiers ∷ change_of Owners ways.owners ∷ change_of Wcc ways.wcc ∷ []) (change_of SillyNames ways.silly_names) _ _ eleven c.in_ok-push_change-12.ensures
