@@ -21,7 +21,7 @@ from .layouts import BY_NAME, MOUNTSTAT, NFSSTAT, RAW, VALUES
 from .programs import lines_of_program
 from .taken import TakenConnection
 
-NUMBERS = re.compile(r'.* RAW mtype=0 rpcvers=2 prog=(\d+) vers=(\d+) proc=(\d+) ')
+NUMBERS = re.compile(r'(?:\S+ ){4}RAW mtype=0 rpcvers=2 prog=(\d+) vers=(\d+) proc=(\d+) ')
 STATUS = re.compile(r'mtype=1 reply_stat=(?:0 verf_flavor=\d+ verf_body=\w* accept_stat=(\d+)(?: status=(\d+))?'
                     r'|1 reject_stat=(\d+)(?: auth_stat=(\d+))?)')
 SUCCESS = 'mtype=1 reply_stat=0 verf_flavor=0 verf_body= accept_stat=0 status=0 '  # as most replies begin
