@@ -1,7 +1,7 @@
 """How often each procedure was called in a connection, how that ended, how many bytes it took, and how long.
 
     counted = counted_of(program, connection, is_refused=False)
-    counted['NFSPROC3_READ'].latency(0.99)       # nanoseconds
+    counted['NFSPROC3_READ'].ranked((0.5, 0.99))     # nanoseconds
 
 What the messages say is read from the listing of `nfs3canon show`. How many bytes they have, and when they were complete, is known from the
 recording.
