@@ -47,6 +47,8 @@ complete -c nfs3-compare -l order -x -a 'strict any' -d 'Whether the order of ca
 complete -c nfs3-compare -l extra -x -a 'asking none' -d 'What is left out in any order'
 complete -c nfs3-compare -l ignore -x -d 'Fields that are left out of the explanation'
 complete -c nfs3-compare -l all -d 'Print each finding by itself'
+complete -c nfs3-compare -l brief -d 'Print a line for each finding'
+complete -c nfs3-compare -l junit -r -d 'Write JUnit XML'
 complete -c nfs3-compare -l html -r -d 'Write a page for a browser'
 complete -c nfs3-compare -l json -r -d 'Write the verdict and all findings as JSON'
 complete -c nfs3-compare -l program -r -d 'nfs3canon'

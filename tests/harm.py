@@ -73,7 +73,10 @@ def writers(tools: Tools, file: str, *inputs: str) -> list[list[str]]:
     return [['verdicts', '--program', tools.program, '--junit', file, *inputs],
             ['verdicts', '--program', tools.program, '--json', file, *inputs],
             ['compare', '--program', tools.program, '--html', file, *compared],
-            ['compare', '--program', tools.program, '--json', file, *compared], ['from_pcap', inputs[-1], file]]
+            ['compare', '--program', tools.program, '--json', file, *compared],
+            ['compare', '--program', tools.program, '--junit', file, *compared],
+            ['procedures', '--program', tools.program, '--json', file, *inputs],
+            ['procedures', '--program', tools.program, '--csv', file, *inputs], ['from_pcap', inputs[-1], file]]
 
 
 def outputs_that_are_inputs(tools: Tools) -> None:

@@ -60,6 +60,56 @@ def works(place: Place, prefix: pathlib.Path) -> None:
         place.want(path, (prefix / 'share' / path).is_file(), True)
 
 
+OTHER_NAMES = r'tools/|(?<!nfs3-)\b(?:from_pcap|where|verdicts|procedures|compare|explain|cut)(?: - |\(1\))|\bfrom_pcap\b'
+
+
+def named_as_installed(place: Place) -> None:
+    """The help and the manual page of each tool have the names under which the tools are installed, and no others."""
+    prefix = pathlib.Path(place.folder, 'prefix')
+    place.want('install', place.tool('install', 'prefix')[0], 0)
+    for tool in TOOLS:
+        name = 'nfs3-' + tool
+        status, out, _ = place.command(str(prefix / 'bin' / name), '--help')
+        place.want('usage of ' + tool, (status, out.splitlines()[0].split()[:2], re.findall(OTHER_NAMES, out)), (0, ['usage:', name], []))
+        page = (prefix / f'share/man/man1/{name}.1').read_text().replace('\\-', '-')
+        place.want('page of ' + tool, re.findall(r'^\.SH NAME\n(\S+) - ', page, re.M), [name])
+        place.want('heading of ' + tool, page.split()[:2], ['.TH', name.upper()])
+        told = re.sub(r'^\.\w+ |\.(?:EX|EE)$', '', page, flags=re.M).replace(' (1)', '(1)')
+        place.want('other names of ' + tool, re.findall(OTHER_NAMES, told), [])
+        examples = re.findall(r'^\.EX\n(.*?)^\.EE', page, re.M | re.S)
+        place.want('examples of ' + tool, [name in example for example in examples], [True] * len(examples))
+        plain = place.command(str(TOP / 'tools' / tool.replace('-', '_')), '--help')[1]
+        place.want('in the repository', plain.split()[1], tool.replace('-', '_'))
+    page = (prefix / 'share/man/man1/nfs3canon.1').read_text()
+    place.want('nfs3canon.1', ('tools/' in page, 'nfs3\\-from\\-pcap before.pcap' in page), (False, True))
+
+
+def completions_load(place: Place) -> None:
+    """Each shell that is there finds the completion of each tool by its name, with an option of its own."""
+    own = {'from-pcap': '--midstream', 'where': '--filter', 'verdicts': '--junit', 'procedures': '--beside', 'compare': '--brief',
+           'explain': '--midstream', 'cut': '--origins'}
+    place.want('install', place.tool('install', 'prefix')[0], 0)
+    share = pathlib.Path(place.folder, 'prefix/share')
+    for tool, option in own.items():
+        name = 'nfs3-' + tool
+        file = str(share / 'bash-completion/completions' / name)
+        status, out, error = place.command('bash', '--norc', '-c', '. "$1"; complete -p "$2"', 'bash', file, name)
+        place.want('bash: ' + name, (status, option in out.replace("'", ' ').split(), error), (0, True, ''))
+        if shutil.which('zsh'):
+            script = 'fpath=("$1" $fpath); autoload -Uz compinit; compinit -u -D; print $_comps[$2]'
+            answer = place.command('zsh', '-f', '-c', script, 'zsh', str(share / 'zsh/site-functions'), name)
+            place.want('zsh: ' + name, answer, (0, '_nfs3canon\n', ''))
+            place.want('zsh: syntax', place.command('zsh', '-n', str(share / 'zsh/site-functions/_nfs3canon'))[::2], (0, ''))
+        if shutil.which('fish'):
+            path = f'PATH={share.parent / "bin"}:{os.environ["PATH"]}'
+            words = ['env', path, f'XDG_DATA_DIRS={share}', f'HOME={place.folder}', 'fish', '-c', f'complete -C "{name} --"']
+            status, out, error = place.command(*words)
+            place.want('fish: ' + name, (status, option in out.split()), (0, True))
+    texts = [(TOP / 'completions' / file).read_text() for file in ('nfs3canon.bash', '_nfs3canon', 'nfs3canon.fish')]
+    for tool in TOOLS:
+        place.want('in all three: ' + tool, [f'nfs3-{tool}' in text for text in texts], [True] * 3)
+
+
 def under_a_prefix(place: Place) -> None:
     """Twice, since an older version is replaced."""
     for _ in range(2):
@@ -177,8 +227,9 @@ def version_of_the_launcher(place: Place) -> None:
         place.want('version', place.command(str(TOP / name), '--version'), (0, '%s %s\n' % (name, version()), ''))
 
 
-TESTS: list[Callable[[Place], None]] = [under_a_prefix, where_nothing_can_be_written, without_a_program, on_a_full_disk, removed_again,
-                                        removed_from_elsewhere, as_a_release, version_of_the_launcher]
+TESTS: list[Callable[[Place], None]] = [under_a_prefix, named_as_installed, completions_load, where_nothing_can_be_written,
+                                        without_a_program, on_a_full_disk, removed_again, removed_from_elsewhere, as_a_release,
+                                        version_of_the_launcher]
 
 
 if __name__ == '__main__':

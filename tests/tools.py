@@ -153,13 +153,13 @@ def is_printed(wanted: list[str], printed: list[str]) -> bool:
 def commands_of_the_readme(tools: Tools) -> None:
     """Each is run, in order, and prints what stands below it. The status is told by what is printed."""
     commands = console_of(README)
-    tools.want('commands', len(commands), 12)
+    tools.want('commands', len(commands), 13)
     for command, wanted in commands:
         here = {'/tmp/': tools.folder + '/', './nfs3canon': tools.program, './nfs3mask': program_named('nfs3mask', tools.program)}
         words = command
         for word, local in here.items():
             words = words.replace(word, local)
-        words = re.sub(r'^tools/(verdicts|compare) ', r'tools/\1 --program %s ' % tools.program, words)
+        words = re.sub(r'^tools/(verdicts|compare|procedures) ', r'tools/\1 --program %s ' % tools.program, words)
         _, out, _ = ended(['sh', '-c', words], TOP, stderr=subprocess.STDOUT, limit=None).text()
         printed = out.splitlines()
         tools.want(command, 'as written' if is_printed(wanted, printed) else printed, 'as written')

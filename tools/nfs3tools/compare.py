@@ -1,6 +1,7 @@
 """Compares two ordinary runs: are they the same but for what two runs never share, and if not, what differs.
 
-    tools/compare [--mask CLASS,..] [--order strict|any] [--ignore PROCEDURE.FIELD,..] [--all] [--html FILE] [--json FILE] A B
+    tools/compare [--mask CLASS,..] [--order strict|any] [--ignore PROCEDURE.FIELD,..] [--all] [--brief] [--html FILE] [--json FILE]
+                  [--junit FILE] A B
 
 A and B are recordings (pcap, pcapng; a pattern in quotes names the parts of one) or captures. Values that each run has its own
 of are masked first: of the classes below, those marked with a star by default. What is masked is always printed. Then
@@ -13,13 +14,16 @@ If the runs differ, calls are brought together over all connections and in any o
 class wcc, if that is not enough), and calls that only ask (GETATTR, LOOKUP ..) and that one run alone has are left out; all that is
 told. Otherwise each difference is printed as `diff` would: which call, which field and whose (`dir after.size`), both values, and the
 frames. Of values of over 60 characters it is the bytes round the first that differs. Messages of one procedure that differ in the same
-way are printed once, with their number.
+way are printed once, with their number. --brief prints a line for each.
 
 --order strict tries no other order. With --order any the status of `same in another order` is 0. --extra none leaves out no calls.
 
 --mask times,ids masks these classes alone, --mask +owners one more, --mask=-times one less, --mask none nothing; NAME=zero and
 NAME=number say how. --ignore NFSPROC3_GETATTR.obj.nlink,*.eof leaves fields out of what is printed and written of the differences, by
 their labels, or by the name of items, as `nlink`, whose ever they are; the verdict is that of the mask all the same.
+
+--junit writes a test case for the verdict, which fails if the status is 1, and then one that fails for each difference. Runs that cannot
+be compared are a case with an error.
 
 FILE is written beside its name, and gets it once it is whole. It is refused if it is an input, or begins as a recording or a
 capture. The status is 0 if the runs are the same under the mask (with --allow-losses also in part), 1 if they differ or are the
@@ -39,7 +43,7 @@ from .classes import CLASSES, in_any_order, mask_word, told
 from .comparing import Compared, Run
 from .ignoring import ignored_of, without
 from .listings import Message
-from .messages import REFUSED, add_losses, add_options, options_of, parser_of
+from .messages import REFUSED, add_losses, add_options, advice_on, options_of, parser_of
 from .orders import Choices, Found, Orders
 from .outputs import check_output, held, write_file
 from .pages import Content, Recorded
@@ -48,10 +52,10 @@ from .parts import files_of
 from .places import Place, parse_fault
 from .printed import escaped
 from .programs import CHECKED, program_path, run_program
-from .reports import Report, Size, json_of
+from .reports import Report, Size, json_of, junit_of, junit_of_error
 from .selection import count
 from .shown import Around
-from .taken import Taken, take
+from .taken import NotTaken, Taken, take
 from .trial import Trial
 
 SAME, DIFFERENT = range(2)
@@ -85,8 +89,10 @@ def words_of(words: list[str]) -> argparse.Namespace:
                         help='fields that are left out of the explanation; * is any procedure')
     parser.add_argument('--all', action='store_true',
                         help=f'prints each finding by itself; by default, equal ones are one, and {FINDINGS_AT_MOST} are printed')
+    parser.add_argument('--brief', action='store_true', help='prints a line for each finding')
     parser.add_argument('--html', metavar='FILE', help='writes a page for a browser with what differs and the calls around it')
     parser.add_argument('--json', metavar='FILE', help='writes the verdict and all findings as JSON')
+    parser.add_argument('--junit', metavar='FILE', help='writes the verdict and the findings as JUnit XML')
     add_options(parser)
     add_losses(parser, 'same in part')
     parser.add_argument('--program', help='the program, if it is not the one of this folder')
@@ -149,7 +155,7 @@ def compared_runs(words: argparse.Namespace, stack: ExitStack) -> int:
     program = program_path(words.program)
     names = [words.first, words.second]
     inputs = [file for name in names for file in files_of(name)]
-    for path in [path for path in (words.html, words.json) if path]:
+    for path in [path for path in (words.html, words.json, words.junit) if path]:
         check_output(path, inputs)
     with held():
         folder = Path(stack.enter_context(tempfile.TemporaryDirectory(prefix='nfs3canon')))
@@ -171,24 +177,38 @@ def compared_runs(words: argparse.Namespace, stack: ExitStack) -> int:
     line = line_of(said, summing.of_same(found, masks[0]) if is_turned else sizes[0], losses)
     print(line, flush=True)
     report = Report(verdict, masks[0], (names[0], names[1]), (sizes[0], sizes[1]), (runs[0].missing, runs[1].missing), found.same_under)
-    explain(words, inputs, line, report, found.compared, [first, second], [recorded_of(*one) for one in zip(runs, names) if words.html])
     is_same = verdict == 'same' or is_turned and words.order == 'any'
-    return SAME if is_same and (words.allow_losses or not losses) else DIFFERENT
+    is_good = is_same and (words.allow_losses or not losses)
+    explain(words, inputs, line, report, found.compared, [first, second], [recorded_of(*one) for one in zip(runs, names) if words.html],
+            is_good)
+    return SAME if is_good else DIFFERENT
 
 
 def explain(words: argparse.Namespace, inputs: list[str], line: str, report: Report, whole: Compared, runs: list[Run],
-            recorded: list[Recorded]) -> None:
+            recorded: list[Recorded], is_good: bool) -> None:
     """Writes and prints what differs between two runs. Findings that do not count in another order are printed if all are asked for."""
     compared, left_out = without(whole, words.ignore)
+    counts = report.same_under is None or words.all
+    if words.junit:
+        findings = compared.findings if counts else []
+        write_file(words.junit, [junit_of(line, report, findings, [run.frames for run in runs], is_good)], inputs)
     if words.html:
         write_page(words.html, inputs, Content(line, report, compared, words.ignore, left_out, runs, recorded))
     if words.json:
         write_file(words.json, json_of(report, compared, left_out, [run.frames for run in runs]), inputs)
     if report.verdict != 'same':
-        if report.same_under is None or words.all:
-            for text in telling.of_compared(compared, runs[0].frames, runs[1].frames, None if words.all else FINDINGS_AT_MOST, left_out):
+        if counts:
+            for text in telling.of_compared(compared, runs[0].frames, runs[1].frames, None if words.all else FINDINGS_AT_MOST, left_out,
+                                            words.brief):
                 print(text)
         print(summing.of_compared(compared))
+
+
+def write_error(words: argparse.Namespace, message: str) -> None:
+    """Writes for those who read JUnit XML that the runs could not be compared."""
+    if words.junit:
+        names = [words.first, words.second]
+        write_file(words.junit, [junit_of_error(names, message)], [file for name in names for file in files_of(name)])
 
 
 def main(words: list[str]) -> int:
@@ -196,7 +216,11 @@ def main(words: list[str]) -> int:
     try:
         return compared_runs(chosen, stack)
     except Ended as end:
+        write_error(chosen, str(end))
         print(end, file=sys.stderr)
         return end.status
+    except NotTaken as refused:
+        write_error(chosen, advice_on(refused, 'compare'))
+        raise
     finally:
         stack.close()

@@ -9,16 +9,20 @@ Under the prefix there are
     share/nfs3canon/installed                    what was put there, which `--remove` takes away again
     share/man/man1/                              the manual pages
     share/bash-completion/completions/, share/zsh/site-functions/, share/fish/vendor_completions.d/
+                                                 completions; bash and fish look for them under the name of each tool
+
+The manual pages have the names under which the tools are installed.
 """
 import argparse
 import hashlib
+import re
 import tarfile
 import tempfile
 from collections.abc import Iterator
 from pathlib import Path
 
 from .installed import Installed, Made
-from .messages import parser_of
+from .messages import installed_name, parser_of
 from .outputs import COMPRESSED, write_file
 from .printed import escaped
 from .programs import Missing, made_programs, program_beside
@@ -33,13 +37,12 @@ COMPLETIONS = {file.format(name): place.format(name) for name in PROGRAMS for fi
 HOME = 'share/nfs3canon'
 LIST = f'{HOME}/installed'
 EXECUTABLE = 0o100
+# The names of tools in manual pages: after these macros, and in examples at the beginning of a command.
+ONE_OF_TOOLS = f'(?P<tool>{"|".join(TOOLS)})'
+IN_TEXT = rf'(?P<before>^(?:\.TH |\.BR? |(?:\.I )?tools/)?)(?i:{ONE_OF_TOOLS})(?= 1 | \(1\)| \\-|\n)'
+IN_EXAMPLES = rf'(?P<before>^|\| |tools/){ONE_OF_TOOLS}(?= )'
 # The time of each file in a release, so that the same sources give the same bytes.
 RELEASED = 0
-
-
-def name_of(tool: str) -> str:
-    """Returns the name of a tool's link: plain names as `where` and `compare` are others' as well."""
-    return 'nfs3-' + tool.replace('_', '-')
 
 
 def files(program: Path) -> Iterator[tuple[Path, str]]:
@@ -49,7 +52,7 @@ def files(program: Path) -> Iterator[tuple[Path, str]]:
         yield TOP / 'man' / f'{name}.1', f'share/man/man1/{name}.1'
     for tool in TOOLS:
         yield TOP / 'tools' / tool, f'{HOME}/tools/{tool}'
-        yield TOP / 'man' / f'{tool}.1', f'share/man/man1/{name_of(tool)}.1'
+        yield TOP / 'man' / f'{tool}.1', f'share/man/man1/{installed_name(tool)}.1'
     for module in sorted((TOP / 'tools/nfs3tools').glob('*.py')):
         yield module, f'{HOME}/tools/nfs3tools/{module.name}'
     for name in ('CHANGELOG.md', 'LICENSE-MIT', 'LICENSE-APACHE'):
@@ -61,7 +64,28 @@ def files(program: Path) -> Iterator[tuple[Path, str]]:
 def links() -> Iterator[tuple[str, str]]:
     """Returns each link under the prefix, and where it leads from its folder."""
     for tool in TOOLS:
-        yield f'bin/{name_of(tool)}', f'../{HOME}/tools/{tool}'
+        yield f'bin/{installed_name(tool)}', f'../{HOME}/tools/{tool}'
+        yield f'share/bash-completion/completions/{installed_name(tool)}', 'nfs3canon'
+        yield f'share/fish/vendor_completions.d/{installed_name(tool)}.fish', 'nfs3canon.fish'
+
+
+def content_of(source: Path, place: str) -> bytes:
+    """Returns what a file has that is installed."""
+    return page_of(source.read_text()).encode() if place.startswith('share/man/') else source.read_bytes()
+
+
+def page_of(text: str) -> str:
+    """Returns a manual page with the names under which the tools are installed: in its head, where it is about the tool itself, where it
+    names other pages, and in the commands of examples."""
+    pieces = re.split(r'(^\.EX\n.*?^\.EE$)', text, flags=re.MULTILINE | re.DOTALL)
+    patterns = (IN_EXAMPLES if piece.startswith('.EX') else IN_TEXT for piece in pieces)
+    return ''.join(re.sub(pattern, named_in_page, piece, flags=re.MULTILINE) for pattern, piece in zip(patterns, pieces))
+
+
+def named_in_page(found: re.Match[str]) -> str:
+    """Returns the name of a tool as roff has it, in capitals if it was found so."""
+    name = installed_name(found['tool'].lower()).replace('-', r'\-')
+    return found['before'].removesuffix('tools/') + (name.upper() if found['tool'].isupper() else name)
 
 
 def install(prefix: Path, program: Path, is_listed: bool = True) -> None:
@@ -74,7 +98,7 @@ def install(prefix: Path, program: Path, is_listed: bool = True) -> None:
         raise Missing(f'{escaped(str(program))} is missing, or cannot be run')
     with Made(prefix) as made:
         for source, place in files(program):
-            made.write(place, source.read_bytes(), 0o755 if source.stat().st_mode & EXECUTABLE else 0o644)
+            made.write(place, content_of(source, place), 0o755 if source.stat().st_mode & EXECUTABLE else 0o644)
         for place, target in links():
             made.link(place, target)
         if is_listed:

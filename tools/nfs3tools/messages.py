@@ -1,6 +1,7 @@
 """How the tools speak and end: messages on standard error, a status, and never a traceback."""
 import argparse
 import os
+import re
 import signal
 import sys
 import typing
@@ -16,6 +17,7 @@ from .version import version
 ABSENT, REFUSED, FAILED, INTERRUPTED = 1, 2, 3, 130  # ABSENT: no such place
 
 
+INSTALLED = 'nfs3-'  # begins the names under which the tools are installed
 # How a tool reads a recording from standard input.
 READING = {'from_pcap': '- OUT', 'where': '- PLACE', 'explain': '- PLACE', 'verdicts': '-', 'procedures': '-', 'cut': '- PLACE OUT'}
 
@@ -108,7 +110,7 @@ def advice_on(refused: NotTaken, name: str) -> str:
     if not refused.packed_by:
         return str(refused)
     called, unpack = os.path.basename(sys.argv[0]), f'{refused.packed_by} -dc'
-    tool = called if called.startswith('nfs3-') else f'tools/{name}'
+    tool = called if called.startswith(INSTALLED) else f'tools/{name}'
     line = f'{unpack} FILE | {tool} {READING[name]}' if name in READING else f'{tool} <({unpack} A) <({unpack} B)'
     return f'{refused}: decompress it first, as in `{line}`'
 
@@ -152,10 +154,19 @@ class Parser(argparse.ArgumentParser):
 
 
 def parser_of(text: str | None, words: str) -> argparse.ArgumentParser:
-    """A parser of command lines, whose help is the text of a module."""
+    """A parser of command lines, whose help is the text of a module. A tool that is called by the name under which it is installed has that
+    name in it, and so have the others."""
+    called = os.path.basename(sys.argv[0])
+    if called.startswith(INSTALLED):
+        text, words = re.sub(r'\btools/(\w+)', lambda found: installed_name(found[1]), text or ''), called
     parser = Parser(prog=words, description=text, formatter_class=argparse.RawDescriptionHelpFormatter)
     parser.add_argument('--version', action='version', version=f'{words} {version()}')
     return parser
+
+
+def installed_name(tool: str) -> str:
+    """Returns the name under which a tool is installed: plain names as `where` and `compare` are others' as well."""
+    return INSTALLED + tool.replace('_', '-')
 
 
 def add_options(parser: argparse.ArgumentParser) -> None:

@@ -1,15 +1,21 @@
-"""A comparison as JSON."""
+"""A comparison as JSON, and as JUnit XML."""
 import json
+import xml.etree.ElementTree
 from collections import Counter
-from collections.abc import Iterator, Sequence
+from collections.abc import Iterable, Iterator, Sequence
 from typing import Any, NamedTuple
 
 from .classes import Mask
 from .comparing import Compared, Finding, Framing
 from .differing import Difference
 from .listings import Message
+from .printed import escaped, printable
 from .selection import count
 from .summing import IN_ANOTHER_ORDER
+from .telling import brief_of, folded, of_group
+
+
+CASES_AT_MOST = 1_000  # of findings
 
 
 class Size(NamedTuple):
@@ -82,3 +88,50 @@ def of_difference(difference: Difference) -> dict[str, Any]:
         'sizes': difference.apart.sizes}
     return {'field': difference.field, 'label': difference.label, 'first': difference.first, 'second': difference.second,
             'remark': difference.remark, 'names': [name or None for name in difference.meanings], 'apart': parting}
+
+
+# --- JUnit XML ---
+
+class Suite:
+    """A suite of test cases about two runs."""
+
+    def __init__(self, names: Sequence[str]) -> None:
+        self.root, self.names = xml.etree.ElementTree.Element('testsuites'), names
+        self.suite = xml.etree.ElementTree.SubElement(self.root, 'testsuite', name='nfs3canon compare')
+
+    def add(self, name: str, tag: str | None = None, message: str = '', text: Iterable[str] = (), **attributes: str) -> None:
+        """Adds a case, which passed if there is no tag."""
+        element = xml.etree.ElementTree.SubElement
+        case = element(self.suite, 'testcase', classname=' | '.join(map(escaped, self.names)), name=printable(name))
+        lines = '\n'.join(map(printable, text))
+        if tag:
+            element(case, tag, attributes, message=printable(message)).text = lines or None
+        elif lines:
+            element(case, 'system-out').text = lines
+
+    def written(self) -> bytes:
+        for tag, total in (('failure', 'failures'), ('error', 'errors'), ('skipped', 'skipped')):
+            self.suite.set(total, str(len(self.suite.findall(f'testcase/{tag}'))))
+        self.suite.set('tests', str(len(self.suite)))
+        return bytes(xml.etree.ElementTree.tostring(self.root, encoding='utf-8', xml_declaration=True)) + b'\n'
+
+
+def junit_of(line: str, report: Report, findings: Sequence[Finding], framings: Sequence[Framing], is_good: bool) -> bytes:
+    """The verdict as a case, which passed if it is good, and else each finding as one that failed. Findings that say the same are one."""
+    suite, groups = Suite(report.names), [] if is_good else folded(findings)
+    more = [f'{len(groups) - CASES_AT_MOST:,} more findings have no case'] if len(groups) > CASES_AT_MOST else []
+    if is_good:
+        suite.add('the runs are the same', text=[line])
+    else:
+        suite.add('the runs are the same', 'failure', line, more, type=report.word())
+    for group in groups[:CASES_AT_MOST]:
+        said = brief_of(group, *framings)
+        suite.add(said.partition(' | ')[0], 'failure', said, of_group(group, *framings), type=group[0].kind)
+    return suite.written()
+
+
+def junit_of_error(names: Sequence[str], message: str) -> bytes:
+    """Runs that were not compared, as a case with an error."""
+    suite = Suite(names)
+    suite.add('the runs are the same', 'error', message)
+    return suite.written()

@@ -1,7 +1,7 @@
 """How often each procedure was called in a connection, how that ended, how many bytes it took, and how long.
 
     counted = counted_of(program, connection, is_refused=False)
-    counted['NFSPROC3_READ'].latency(0.99)       # nanoseconds
+    counted['NFSPROC3_READ'].ranked((0.5, 0.99))     # nanoseconds
 
 What the messages say is read from the listing of `nfs3canon show`. How many bytes they have, and when they were complete, is known from the
 recording.
@@ -21,7 +21,7 @@ from .layouts import BY_NAME, MOUNTSTAT, NFSSTAT, RAW, VALUES
 from .programs import lines_of_program
 from .taken import TakenConnection
 
-NUMBERS = re.compile(r'.* RAW mtype=0 rpcvers=2 prog=(\d+) vers=(\d+) proc=(\d+) ')
+NUMBERS = re.compile(r'(?:\S+ ){4}RAW mtype=0 rpcvers=2 prog=(\d+) vers=(\d+) proc=(\d+) ')
 STATUS = re.compile(r'mtype=1 reply_stat=(?:0 verf_flavor=\d+ verf_body=\w* accept_stat=(\d+)(?: status=(\d+))?'
                     r'|1 reject_stat=(\d+)(?: auth_stat=(\d+))?)')
 SUCCESS = 'mtype=1 reply_stat=0 verf_flavor=0 verf_body= accept_stat=0 status=0 '  # as most replies begin

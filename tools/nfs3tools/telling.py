@@ -104,12 +104,30 @@ def of_group(findings: Sequence[Finding], first: Framing, second: Framing) -> It
         yield from of_difference(difference)
 
 
-def of_compared(compared: Compared, first: Framing, second: Framing, most: int | None, left_out: Counter[tuple[str, str]]) -> Iterator[str]:
-    """The findings, those together that say the same, up to `most` of such groups, or each by itself. Then which fields differ how often,
-    and which were left out."""
+def brief_of(findings: Sequence[Finding], first: Framing, second: Framing) -> str:
+    """One line for findings that say the same."""
+    finding = findings[0]
+    said = [*([finding.remark] if finding.remark else []), *map(brief_difference, finding.differences)]
+    return ': '.join([heading_of(findings, first, second), *(['; '.join(said)] if said else [])])
+
+
+def brief_difference(difference: Difference) -> str:
+    """A difference in a part of a line. If one run alone has the item, it is as in `of_difference`."""
+    if difference.second is None:
+        return f'-{difference.label}={value_of(difference, 0)}'
+    if difference.first is None:
+        return f'+{difference.label}={value_of(difference, 1)}'
+    remark = f' ({remark_on(difference)})' if remark_on(difference) else ''
+    return f'{difference.label}={value_of(difference, 0)} -> {value_of(difference, 1)}{remark}'
+
+
+def of_compared(compared: Compared, first: Framing, second: Framing, most: int | None, left_out: Counter[tuple[str, str]],
+                is_brief: bool = False) -> Iterator[str]:
+    """The findings, those together that say the same, up to `most` of such groups, or each by itself, and each in a line if that is asked
+    for. Then which fields differ how often, and which were left out."""
     groups = [[finding] for finding in compared.findings] if most is None else folded(compared.findings)
     for group in groups[:most]:
-        yield from of_group(group, first, second)
+        yield from [brief_of(group, first, second)] if is_brief else of_group(group, first, second)
     if most is not None and len(groups) > most:
         yield f'.. and {len(groups) - most:,} more (--all prints them)'
     fields = compared.fields()
