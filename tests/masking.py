@@ -1,5 +1,6 @@
 """A masker by the layouts of `tools/nfs3tools/layouts.py`, with which nfs3mask is compared. It knows the classes by the names of `tools/compare`."""
 import random
+import re
 import sys
 from collections.abc import Iterable, Iterator
 from pathlib import Path
@@ -11,6 +12,7 @@ from nfs3tools.classes import CLASSES, Mask, ValueClass, Way  # noqa: E402
 from nfs3tools.layouts import Item, Message, Procedure, procedure_of  # noqa: E402
 
 NF3DIR = '2'
+SILLY_NAME = re.compile(rb'\.nfs[0-9a-f]{24}')
 
 
 def with_changing(items: Iterable[Item], is_call: bool) -> Iterator[tuple[Item, bool]]:
@@ -31,10 +33,12 @@ class Masker:
         self.mask = mask
         self.numbers: dict[str, dict[int, int]] = {name: {} for name, way in mask.items() if way is Way.NUMBER}
 
-    def class_of(self, name: str, is_call: bool, is_changing: bool) -> ValueClass | None:
-        """Returns the class that is masked of a value of this name, where it has one. The name of a machine is no value."""
-        found = next((one for one in CLASSES if one.name in self.mask and one.has(name, is_call) and name != 'machinename'), None)
-        return None if found and found.name == 'wcc' and not is_changing else found
+    def class_of(self, name: str, content: bytes, is_call: bool, is_changing: bool) -> ValueClass | None:
+        """Returns the class that is masked of a value of this name, where it has one."""
+        found = next((one for one in CLASSES if one.name in self.mask and one.has(name, is_call)), None)
+        if found and (found.name == 'wcc' and not is_changing or found.name == 'sillynames' and not SILLY_NAME.fullmatch(content)):
+            return None
+        return found
 
     def value(self, owner: ValueClass, content: bytes) -> bytes:
         """Returns what stands for a value, in its own width."""
@@ -47,25 +51,32 @@ class Masker:
         """Returns the body of a well-formed message with its masked values."""
         message = Message(body)
         message.read(is_call, procedure)
-        out = bytearray(body)
+        out, named = bytearray(body), list[tuple[ValueClass, Item]]()
         for item, is_changing in with_changing(message.items, is_call):
-            owner = self.class_of(item.name, is_call, is_changing)
-            if owner:
+            owner = self.class_of(item.name, body[item.begin:item.end], is_call, is_changing)
+            if owner and owner.has_names:
+                named.append((owner, item))
+            elif owner:
                 out[item.begin:item.end] = self.value(owner, body[item.begin:item.end])
-        places = {item.name: item for item in message.items}
-        return self.with_other_name(bytes(out), places) if 'machines' in self.mask and 'machinename' in places else bytes(out)
+        length = next((item for item in message.items if item.name == 'cred_length'), None)
+        # From the last to the first, so that those before are where they were.
+        for owner, item in reversed(named):
+            more = put_text(out, item, self.name_in(owner))
+            if length and item.name == 'machinename':
+                out[length.begin:length.end] = word(int.from_bytes(out[length.begin:length.end], 'big') + more)
+        return bytes(out)
 
-    def machine(self) -> bytes:
-        """Returns what stands for the name of a machine."""
-        return b''
+    def name_in(self, owner: ValueClass) -> bytes:
+        """Returns what stands for a name: of a machine, or of a file that was removed while it was open."""
+        return b'' if owner.name == 'machines' else b'.nfs' + b'0' * 24
 
-    def with_other_name(self, body: bytes, places: dict[str, Item]) -> bytes:
-        """Returns a call with another name of the machine, and the length of the credential with it."""
-        name, length = self.machine(), places['cred_length']
-        begin, end = places['machinename (its length)'].begin, places['machinename (residual bytes)'].end
-        spelled = word(len(name)) + name + bytes(-len(name) % 4)
-        size = int.from_bytes(body[length.begin:length.end], 'big') - (end - begin) + len(spelled)
-        return body[:length.begin] + word(size) + body[length.end:begin] + spelled + body[end:]
+
+def put_text(body: bytearray, item: Item, text: bytes) -> int:
+    """Puts a text in place of one, with its length and residual bytes, and returns how many bytes more there are."""
+    begin, end = item.begin - 4, item.end + -(item.end - item.begin) % 4
+    spelled = word(len(text)) + text + bytes(-len(text) % 4)
+    body[begin:end] = spelled
+    return len(spelled) - (end - begin)
 
 
 def masked_bodies(connections: Iterable[Bodies], masker: Masker) -> Iterator[Bodies]:
@@ -78,7 +89,7 @@ def masked_bodies(connections: Iterable[Bodies], masker: Masker) -> Iterator[Bod
 
 class Renamer(Masker):
     """Puts other values in the place of those of the classes: one to one if they are numbered, and any if they become zero. Any name of a
-    machine stands for another."""
+    machine stands for another, and so does any name of a removed file."""
 
     def __init__(self, mask: Mask, chance: random.Random) -> None:
         super().__init__(mask)
@@ -97,5 +108,7 @@ class Renamer(Masker):
                 others[number] = other
         return others[number].to_bytes(len(content), 'big')
 
-    def machine(self) -> bytes:
-        return self.chance.randbytes(self.chance.randrange(256))
+    def name_in(self, owner: ValueClass) -> bytes:
+        if owner.name == 'machines':
+            return self.chance.randbytes(self.chance.randrange(256))
+        return b'.nfs' + bytes(self.chance.choices(b'0123456789abcdef', k=24))

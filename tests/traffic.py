@@ -63,7 +63,7 @@ MOUNT_PROCEDURES: list[tuple[Part, Part]] = [
     (lambda t: b'', lambda t: mountlist(t.some(lambda: (t.text(), t.text())))),
     (lambda t: t.string(), lambda t: b''),
     (lambda t: b'', lambda t: b''),
-    (lambda t: b'', lambda t: exports(t.some(lambda: (t.text(), t.some(t.text)))))]
+    (lambda t: b'', lambda t: exports(t.some(lambda: (t.text(), t.some(t.name)))))]
 
 
 @dataclass(frozen=True)
@@ -244,8 +244,16 @@ class Traffic:
         self.here.append(('verifiers', number))
         return self.names.verifiers[number]
 
+    def name(self) -> bytes:
+        """Returns the name of a file. Of four, one is of the form that Linux gives to removed files that are open, or nearly."""
+        if self.chance.randrange(4):
+            return self.text()
+        digits = bytes(self.chance.choices(b'0123456789abcdef', k=24))
+        return self.chance.choice((b'.nfs' + digits, b'.nfs' + digits, b'.nfs' + digits[1:], b'.nfs' + digits + b'0', b'.nfs' + digits.upper(),
+                                   b'.nfs' + digits[1:] + b'g', b'.nfS' + digits))
+
     def dirop(self) -> bytes:
-        return dirop(self.handle(), self.text())
+        return dirop(self.handle(), self.name())
 
     def how(self) -> bytes:
         mode = self.chance.randrange(3)
@@ -276,10 +284,10 @@ class Traffic:
         return made(self.maybe(self.handle), self.maybe(self.fattr), self.wcc())
 
     def entry(self) -> bytes:
-        return entry(self.chance.randrange(1 << 64), self.text(), self.chance.randrange(1 << 64))
+        return entry(self.chance.randrange(1 << 64), self.name(), self.chance.randrange(1 << 64))
 
     def entryplus(self) -> bytes:
-        number, name, cookie = self.chance.randrange(1 << 64), self.text(), self.chance.randrange(1 << 64)
+        number, name, cookie = self.chance.randrange(1 << 64), self.name(), self.chance.randrange(1 << 64)
         return entryplus(number, name, cookie, self.maybe(self.fattr), self.maybe(self.handle))
 
     def entries(self, make: Callable[[], bytes]) -> bytes:
