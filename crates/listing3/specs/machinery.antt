@@ -3,4 +3,3 @@ pub mod LineWriter
 pub mod Digits
 pub mod Halves
 pub mod Fields
-pub mod DigitTable

@@ -1,7 +1,6 @@
 //! The listing of a capture: one line for each message.
 #![tactic(auto)]
 
-mod digit_table;
 pub mod examples;
 mod gathering;
 pub mod laws;

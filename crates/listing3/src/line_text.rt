@@ -5,7 +5,6 @@ ghost use Rattle.hex.specs.Hex.{encode_lower};
 ghost use Rattle.xdr3.specs.Visit.{body_limit};
 ghost use Rattle.listing3.specs.Listing.{opening, prefix, quoted};
 
-use crate::digit_table::DigitTable;
 use crate::room::{DIGITS, put_decimal, put_hex, put_name, put_number, put_quoted, put_short};
 use crate::run::put_run;
 use std::alloc::{AllocError, Global};
@@ -20,7 +19,6 @@ pub(crate) struct LineText {
     // It begins with the text, and what stands after the text means nothing.
     room: Vec<u8>,
     end: usize,
-    table: DigitTable,
 }
 
 impl Model for LineText {
@@ -40,7 +38,6 @@ impl LineText {
         LineText {
             room: Vec::new(alloc),
             end: 0,
-            table: DigitTable::new(),
         }
     }
 
@@ -121,7 +118,7 @@ impl LineText {
         ensures err { OnErr result (self.new ≡ self.old) }
     {
         make_room(&mut self.room, self.end, name.len() + 2 + DIGITS)?;
-        self.end = put_number(&mut self.room, self.end, &mut self.table, name, n);
+        self.end = put_number(&mut self.room, self.end, name, n);
         Ok(())
     }
 
@@ -232,7 +229,7 @@ impl Visit for LineText {
 
     #[inline(always)]
     fn plain(&mut self, fields: &[PlainField], bytes: &[u8]) -> Result<(), AllocError> {
-        self.end = put_run(&mut self.room, self.end, &mut self.table, fields, bytes)?;
+        self.end = put_run(&mut self.room, self.end, fields, bytes)?;
         Ok(())
     }
 }

@@ -9,7 +9,6 @@ ghost use Rattle.listing3.specs.Listing.{is_plain, opening, quoted, quoted_byte}
 ghost use Rattle.listing3.specs.machinery.Digits.{eight_digits, four_digits, two_digits};
 ghost use Rattle.listing3.specs.machinery.Halves.{halves_in_order, AreHalves};
 
-use crate::digit_table::DigitTable;
 use std::alloc::AllocError;
 use xdr3::room::{make_room, put_bytes};
 
@@ -86,7 +85,7 @@ fn put_ends<const N: usize>(room: &mut [u8], at: usize, bytes: &[u8]) -> usize
 
 /// Returns the first `N` bytes. A copy cannot overlap what is written, so it stays in a register.
 #[inline(always)]
-pub(crate) fn block<const N: usize>(bytes: &[u8]) -> [u8; N]
+fn block<const N: usize>(bytes: &[u8]) -> [u8; N]
     requires { N ≤ length bytes.now }
     ensures { result ≡ take N bytes.now }
 {
@@ -146,7 +145,7 @@ fn put_front(room: &mut [u8], at: usize, n: u64) -> usize
 
 /// Writes a number of four bytes in decimal.
 #[inline(never)]
-pub(crate) fn put_word(room: &mut [u8], at: usize, n: u32) -> usize
+fn put_word(room: &mut [u8], at: usize, n: u32) -> usize
     requires { at + 10 ≤ length room.old }
     ensures within { (at ≤ result) × (result ≤ at + 10) }
     ensures written { take result room.new ≡ take at room.old ++ decimal n }
@@ -252,13 +251,7 @@ fn put_pair(room: &mut [u8], at: usize, n: u32) -> usize
 
 /// Writes ` name=` and a number in decimal.
 #[inline(always)]
-pub(crate) fn put_number(
-    room: &mut [u8],
-    at: usize,
-    table: &mut DigitTable,
-    name: &'static str,
-    n: u64,
-) -> usize
+pub(crate) fn put_number(room: &mut [u8], at: usize, name: &'static str, n: u64) -> usize
     requires { at + (length name.now + 2 + DIGITS) ≤ length room.old }
     ensures within { (at ≤ result) × (result ≤ at + (length name.now + 2 + DIGITS)) }
     ensures written { take result room.new
@@ -266,7 +259,7 @@ pub(crate) fn put_number(
     ensures len { length room.new ≡ length room.old }
 {
     let start = put_name(room, at, name);
-    table.put_decimal(room, start, n)
+    put_decimal(room, start, n)
 }
 
 /// Writes two lower-case hexadecimal digits for each byte. A file handle of the usual length is spelled

@@ -6,7 +6,6 @@ ghost use Rattle.xdr3.specs.Plain.{plain_item, run_items, run_size, width};
 ghost use Rattle.listing3.specs.Listing.{opening, shown_item, shown_items};
 ghost use Rattle.listing3.specs.machinery.Fields.{field_name, HasShortName};
 
-use crate::digit_table::DigitTable;
 use crate::room::{DIGITS, put_number};
 use byteorder::{BigEndian, ByteOrder};
 use std::alloc::AllocError;
@@ -26,7 +25,6 @@ const FIELD: usize = 64;
 pub(crate) fn put_run(
     room: &mut Vec<u8>,
     at: usize,
-    table: &mut DigitTable,
     fields: &[PlainField],
     bytes: &[u8],
 ) -> Result<usize, AllocError>
@@ -38,26 +36,26 @@ pub(crate) fn put_run(
     ensures len { vec_len room.old ≤ vec_len room.new }
 {
     if !are_short(fields) {
-        return put_each(room, at, table, fields, bytes);
+        return put_each(room, at, fields, bytes);
     }
     match fields.len() {
         2 => {
             make_room(room, at, 2 * FIELD)?;
-            Ok(put_two_fields(room, at, table, fields, bytes).0)
+            Ok(put_two_fields(room, at, fields, bytes).0)
         }
         3 => {
             make_room(room, at, 3 * FIELD)?;
-            Ok(put_three_fields(room, at, table, fields, bytes).0)
+            Ok(put_three_fields(room, at, fields, bytes).0)
         }
         5 => {
             make_room(room, at, 5 * FIELD)?;
-            Ok(put_five_fields(room, at, table, fields, bytes).0)
+            Ok(put_five_fields(room, at, fields, bytes).0)
         }
         16 => {
             make_room(room, at, 16 * FIELD)?;
-            Ok(put_sixteen_fields(room, at, table, fields, bytes).0)
+            Ok(put_sixteen_fields(room, at, fields, bytes).0)
         }
-        _ => put_each(room, at, table, fields, bytes),
+        _ => put_each(room, at, fields, bytes),
     }
 }
 
@@ -65,7 +63,6 @@ pub(crate) fn put_run(
 fn put_each(
     room: &mut Vec<u8>,
     at: usize,
-    table: &mut DigitTable,
     fields: &[PlainField],
     bytes: &[u8],
 ) -> Result<usize, AllocError>
@@ -81,7 +78,7 @@ fn put_each(
     for field in fields {
         let (name, n, width) = number_in(*field, rest);
         make_room(room, end, name.len() + 2 + DIGITS)?;
-        end = put_number(room, end, table, name, n);
+        end = put_number(room, end, name, n);
         rest = &rest[width..];
     }
     Ok(end)
@@ -111,13 +108,7 @@ fn field_name(field: PlainField) -> &'static str
 /// Writes ` name=value` for a field with a short name. Returns the position after it, and how many of
 /// the bytes it has.
 #[inline]
-fn put_field(
-    room: &mut [u8],
-    at: usize,
-    table: &mut DigitTable,
-    field: PlainField,
-    bytes: &[u8],
-) -> (usize, usize)
+fn put_field(room: &mut [u8], at: usize, field: PlainField, bytes: &[u8]) -> (usize, usize)
     requires short { HasShortName field }
     requires size { width field ≤ length bytes.now }
     requires room { at + FIELD ≤ length room.old }
@@ -128,18 +119,12 @@ fn put_field(
     ensures len { length room.new ≡ length room.old }
 {
     let (name, n, size) = number_in(field, bytes);
-    (put_number(room, at, table, name, n), size)
+    (put_number(room, at, name, n), size)
 }
 
 /// Writes ` name=value` for the only field of a run, as `put_field` does.
 #[inline(always)]
-fn put_one_field(
-    room: &mut [u8],
-    at: usize,
-    table: &mut DigitTable,
-    fields: &[PlainField],
-    bytes: &[u8],
-) -> (usize, usize)
+fn put_one_field(room: &mut [u8], at: usize, fields: &[PlainField], bytes: &[u8]) -> (usize, usize)
     requires count { length fields.now ≡ 1 }
     requires short { All HasShortName fields.now }
     requires size { run_size fields.now ≤ length bytes.now }
@@ -150,19 +135,13 @@ fn put_one_field(
         ≡ take at room.old ++ shown_items (run_items fields.now bytes.now) }
     ensures len { length room.new ≡ length room.old }
 {
-    put_field(room, at, table, fields[0], bytes)
+    put_field(room, at, fields[0], bytes)
 }
 
 /// Writes ` name=value` for each of two fields with short names. Returns the position after them, and
 /// how many of the bytes they have.
 #[inline(always)]
-fn put_two_fields(
-    room: &mut [u8],
-    at: usize,
-    table: &mut DigitTable,
-    fields: &[PlainField],
-    bytes: &[u8],
-) -> (usize, usize)
+fn put_two_fields(room: &mut [u8], at: usize, fields: &[PlainField], bytes: &[u8]) -> (usize, usize)
     requires count { length fields.now ≡ 2 }
     requires short { All HasShortName fields.now }
     requires size { run_size fields.now ≤ length bytes.now }
@@ -173,8 +152,8 @@ fn put_two_fields(
         ≡ take at room.old ++ shown_items (run_items fields.now bytes.now) }
     ensures len { length room.new ≡ length room.old }
 {
-    let (end, size) = put_field(room, at, table, fields[0], bytes);
-    let (last, more) = put_field(room, end, table, fields[1], &bytes[size..]);
+    let (end, size) = put_field(room, at, fields[0], bytes);
+    let (last, more) = put_field(room, end, fields[1], &bytes[size..]);
     (last, size + more)
 }
 
@@ -184,7 +163,6 @@ fn put_two_fields(
 fn put_three_fields(
     room: &mut [u8],
     at: usize,
-    table: &mut DigitTable,
     fields: &[PlainField],
     bytes: &[u8],
 ) -> (usize, usize)
@@ -198,8 +176,8 @@ fn put_three_fields(
         ≡ take at room.old ++ shown_items (run_items fields.now bytes.now) }
     ensures len { length room.new ≡ length room.old }
 {
-    let (end, size) = put_two_fields(room, at, table, &fields[..2], bytes);
-    let (last, more) = put_field(room, end, table, fields[2], &bytes[size..]);
+    let (end, size) = put_two_fields(room, at, &fields[..2], bytes);
+    let (last, more) = put_field(room, end, fields[2], &bytes[size..]);
     (last, size + more)
 }
 
@@ -209,7 +187,6 @@ fn put_three_fields(
 fn put_four_fields(
     room: &mut [u8],
     at: usize,
-    table: &mut DigitTable,
     fields: &[PlainField],
     bytes: &[u8],
 ) -> (usize, usize)
@@ -223,8 +200,8 @@ fn put_four_fields(
         ≡ take at room.old ++ shown_items (run_items fields.now bytes.now) }
     ensures len { length room.new ≡ length room.old }
 {
-    let (end, size) = put_two_fields(room, at, table, &fields[..2], bytes);
-    let (last, more) = put_two_fields(room, end, table, &fields[2..], &bytes[size..]);
+    let (end, size) = put_two_fields(room, at, &fields[..2], bytes);
+    let (last, more) = put_two_fields(room, end, &fields[2..], &bytes[size..]);
     (last, size + more)
 }
 
@@ -234,7 +211,6 @@ fn put_four_fields(
 fn put_five_fields(
     room: &mut [u8],
     at: usize,
-    table: &mut DigitTable,
     fields: &[PlainField],
     bytes: &[u8],
 ) -> (usize, usize)
@@ -248,8 +224,8 @@ fn put_five_fields(
         ≡ take at room.old ++ shown_items (run_items fields.now bytes.now) }
     ensures len { length room.new ≡ length room.old }
 {
-    let (end, size) = put_four_fields(room, at, table, &fields[..4], bytes);
-    let (last, more) = put_one_field(room, end, table, &fields[4..], &bytes[size..]);
+    let (end, size) = put_four_fields(room, at, &fields[..4], bytes);
+    let (last, more) = put_one_field(room, end, &fields[4..], &bytes[size..]);
     (last, size + more)
 }
 
@@ -259,7 +235,6 @@ fn put_five_fields(
 fn put_eight_fields(
     room: &mut [u8],
     at: usize,
-    table: &mut DigitTable,
     fields: &[PlainField],
     bytes: &[u8],
 ) -> (usize, usize)
@@ -273,8 +248,8 @@ fn put_eight_fields(
         ≡ take at room.old ++ shown_items (run_items fields.now bytes.now) }
     ensures len { length room.new ≡ length room.old }
 {
-    let (end, size) = put_four_fields(room, at, table, &fields[..4], bytes);
-    let (last, more) = put_four_fields(room, end, table, &fields[4..], &bytes[size..]);
+    let (end, size) = put_four_fields(room, at, &fields[..4], bytes);
+    let (last, more) = put_four_fields(room, end, &fields[4..], &bytes[size..]);
     (last, size + more)
 }
 
@@ -284,7 +259,6 @@ fn put_eight_fields(
 fn put_sixteen_fields(
     room: &mut [u8],
     at: usize,
-    table: &mut DigitTable,
     fields: &[PlainField],
     bytes: &[u8],
 ) -> (usize, usize)
@@ -298,8 +272,8 @@ fn put_sixteen_fields(
         ≡ take at room.old ++ shown_items (run_items fields.now bytes.now) }
     ensures len { length room.new ≡ length room.old }
 {
-    let (end, size) = put_eight_fields(room, at, table, &fields[..8], bytes);
-    let (last, more) = put_eight_fields(room, end, table, &fields[8..], &bytes[size..]);
+    let (end, size) = put_eight_fields(room, at, &fields[..8], bytes);
+    let (last, more) = put_eight_fields(room, end, &fields[8..], &bytes[size..]);
     (last, size + more)
 }
 

@@ -91,7 +91,12 @@ fn jobs_that_are_done(rt: HostRuntime) -> Result<(), Fail> {
         &Outcome::Masked(summary(), mask),
         &counts_and_mask,
     )?;
-    ends(&rt, alloc, &Outcome::Listed(Ok(message_counts())), &out(0, ""))?;
+    ends(
+        &rt,
+        alloc,
+        &Outcome::Listed(Ok(message_counts())),
+        &out(0, ""),
+    )?;
     ends(&rt, alloc, &Outcome::Packed(Ok(())), &out(0, ""))?;
     ends(
         &rt,
