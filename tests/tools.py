@@ -257,7 +257,7 @@ def pages_of_the_tools(tools: Tools) -> None:
 def what_is_believed(tools: Tools) -> None:
     """docs/PROOFS.md has the counts of tools/believed, which prints each definition once."""
     rows = re.findall(r'^\| `(\w+::\w+)` \| \d+ \| [\d,]+ \| \d+ \|$', (TOP / 'docs/PROOFS.md').read_text(), re.M)
-    tools.want('calls', rows, ['canon3::check', 'canon3::canon', 'canon3::same', 'listing3::show', 'masking3::mask', 'packing3::Packing',
+    tools.want('calls', rows, ['nfs3canon::answered', 'canon3::check', 'canon3::canon', 'canon3::same', 'listing3::show', 'masking3::mask', 'packing3::Packing',
                                'nfs3canon::run_check', 'program3::run_rewriting', 'nfs3canon::run_pack', 'nfs3mask::run_mask'])
     counted = tools.tool('believed', '--count', *rows)
     tools.want('counts', (counted[0], counted[1] in (TOP / 'docs/PROOFS.md').read_text(), counted[2]), (0, True, ''))
@@ -313,23 +313,30 @@ def trees_are_of_the_code(tools: Tools) -> None:
         tools.want(f'{new} for {old}', call_trees.calls_not_there(page.replace(old, new, 1)), wrong)
 
 
+PROMISES = re.compile(r'^## What is proved\n(.*?)(?=^## |\Z)', re.M | re.S)  # of the page of a crate
+
+
+def promises() -> dict[str, str]:
+    """Returns what is promised on the pages of the crates."""
+    texts = {path.parent.name: path.read_text() for path in sorted((TOP / 'crates').glob('*/README.md'))}
+    return {crate: found[1] for crate, text in texts.items() if (found := PROMISES.search(text))}
+
+
 def what_is_not_proved(tools: Tools) -> None:
-    """Each row that a table of docs/PROOFS.md marks N is in its list of what is not proved."""
-    crates, _, rest = (TOP / 'docs/PROOFS.md').read_text().partition('## Not proved and not tested')
-    rows = re.findall(r'^\| ([^|:.;]*)[^|]*\|[^|]*\| N \|$', crates, re.M)
+    """Each promise that is marked N on the page of its crate is in the list of docs/PROOFS.md of what is not proved."""
+    rows = re.findall(r'^\| ([^|:.;]*)[^|]*\|[^|]*\| N \|$', '\n'.join(promises().values()), re.M)
+    told = (TOP / 'docs/PROOFS.md').read_text().partition('## Not proved and not tested')[2].partition('\n## ')[0]
     tools.want('rows', len(rows), 2)
     for row in rows:
-        tools.want(row, row[0].lower() + row[1:] in rest.partition('\n## ')[0], True)
+        tools.want(row, row[0].lower() + row[1:] in told, True)
 
 
 def bugs_are_counted(tools: Tools) -> None:
-    """A heading of docs/PROOFS.md has the number of must-fail edits of its crates."""
-    headings = re.findall(r'^### (.*): .* \((\d+) bugs\)$', (TOP / 'docs/PROOFS.md').read_text(), re.M)
-    for names, number in headings:
-        crates = names.split(' and ')
-        tools.want(names, sum(len(list((TOP / 'crates' / crate / 'must-fail').glob('*.edit'))) for crate in crates), int(number))
-    told = {crate for names, _ in headings for crate in names.split(' and ')}
-    tools.want('crates', told, {path.parent.name for path in (TOP / 'crates').glob('*/must-fail')})
+    """The page of each crate has the number of its must-fail edits; that of nfs3canon counts those of nfs3mask, too."""
+    counts = {path.parent.name: len(list(path.glob('*.edit'))) for path in (TOP / 'crates').glob('*/must-fail')}
+    counts['nfs3canon'] += counts.pop('nfs3mask')
+    found = {crate: re.findall(r'must refuse the (\d+) bugs', text) for crate, text in promises().items()}
+    tools.want('bugs', found, {crate: [str(count)] for crate, count in sorted(counts.items())})
 
 
 def clauses_of_each_function(tools: Tools) -> None:
