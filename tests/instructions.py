@@ -25,11 +25,11 @@ import make  # noqa: E402
 LIMITS = {
     'check small': 7.1,
     'canon small': 11.1,
-    'show small': 20.7,
+    'show small': 15.9,
     'same small': 19.6,
     'check mixed': 5.4,
     'canon mixed': 12.9,
-    'show mixed': 17.9,
+    'show mixed': 16.8,
     'same mixed': 12.9,
     'pack small': 0.39,
     'nfs3mask small': 19.8,
