@@ -136,6 +136,7 @@ class Made:
         self.machine = b'host%d' % chance.randrange(10 ** chance.randrange(1, 9))
         self.xids = chance.sample(range(1 << 32), 20)
         self.sizes = {0: 4096, 1: 10, 2: 20}
+        self.silly = b'.nfs%016x%08x' % (self.ids[2], chance.randrange(1 << 32))  # as Linux calls a removed file that is open
 
     def attributes(self, file: int) -> bytes:
         plain = fattr(2 if file == 0 else 1, self.ids[file], self.sizes[file], fsid=self.fsid)
@@ -163,6 +164,7 @@ class Made:
             (7, y + hyper(0) + word(2) + word(0) + messages.opaque(b'hi'),
              ok(wcc(20, self.attributes(2)), word(2), word(0), self.verifier)),
             (21, y + hyper(0) + word(0), ok(wcc(None, self.attributes(2)), self.verifier)),
+            (12, dirop(self.handles[0], self.silly), ok(wcc())),
             (18, root, ok(post_op_attr(self.attributes(0)), space))]
 
     def conversation(self, script: list[tuple[int, bytes, bytes]] | None = None) -> Conversation:
@@ -211,7 +213,7 @@ def statuses_that_differ(place: Comparisons) -> None:
     lines = place.compare('a', 'b')[1][2:]
     place.want('status', lines[1:3], ['  - status=0 (NFS3_OK)', '  + status=13 (NFS3ERR_ACCES)'])
     place.want('one finding', len(lines), 5)
-    place.want('in words', lines[-1], '9 of 9 calls belong together; status in 1 reply')
+    place.want('in words', lines[-1], '10 of 10 calls belong together; status in 1 reply')
 
 
 def one_call_more(place: Comparisons) -> None:
@@ -222,7 +224,7 @@ def one_call_more(place: Comparisons) -> None:
     place.put('a', first.conversation())
     place.put('b', second.conversation(script))
     place.wants('one more', 1, ['only in the second run: NFSPROC3_GETATTR: connection 1 client record 3',
-                                '9 of 10 calls belong together; 1 more in the second run'], '--order', 'strict')
+                                '10 of 11 calls belong together; 1 more in the second run'], '--order', 'strict')
 
 
 def other_orders(place: Comparisons) -> None:
@@ -233,11 +235,11 @@ def other_orders(place: Comparisons) -> None:
     place.put('b', second.conversation([*script[:2], *script[3:6], script[2], *script[6:]]))
     lines = place.compare('--order', 'strict', 'a', 'b')[1][2:]
     place.want('turn', [line for line in lines if 'turn' in line], [
-        '  the call has changed its turn', '9 of 9 calls belong together; 1 in another turn; 1 reply in another turn'])
+        '  the call has changed its turn', '10 of 10 calls belong together; 1 in another turn; 1 reply in another turn'])
     calls, replies = second.conversation()
     place.put('b', (calls, [replies[1], replies[0], *replies[2:]]))
     lines = place.compare('--order', 'strict', 'a', 'b')[1][2:]
-    place.want('order', lines[:2], ['connection 1', '  1 of 9 replies of the connection come in another order'])
+    place.want('order', lines[:2], ['connection 1', '  1 of 10 replies of the connection come in another order'])
 
 
 def bound_values(place: Comparisons) -> None:
