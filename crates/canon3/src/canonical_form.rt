@@ -83,10 +83,7 @@ fn open<W: Sink>(counts: &EntryCounts, sink: &mut W) -> Result<(), Error>
     if counts.connections() > 0 {
         return Ok(());
     }
-    match write_all(sink, &pack_header()) {
-        Ok(()) => Ok(()),
-        Err(_) => Err(Error::Write),
-    }
+    write_all(sink, &pack_header())
 }
 
 /// Writes the entry after the magic, and begins the next message.

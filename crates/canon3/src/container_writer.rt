@@ -46,10 +46,7 @@ pub(crate) fn write_spelling<W: Sink, S: BuildHasher + Drop>(
             let Ok((len, rest)) = message_writer.compose_chunk(body) else {
                 return Err(Error::Memory);
             };
-            match write_both(sink, &message_writer.room[..len], rest) {
-                Ok(()) => Ok(()),
-                Err(_) => Err(Error::Write),
-            }
+            write_both(sink, &message_writer.room[..len], rest)
         }
     }
 }
@@ -66,10 +63,7 @@ pub fn write_word<W: Sink>(sink: &mut W, n: u32) -> Result<(), Error>
     ensures count { CountsWriting (W.failures sink.old) (W.failures sink.new) result }
     ensures error { IfErr result IsOfWriting }
 {
-    match write_all(sink, &pack_chunk(n)) {
-        Ok(()) => Ok(()),
-        Err(_) => Err(Error::Write),
-    }
+    write_all(sink, &pack_chunk(n))
 }
 
 /// Writes a message as one chunk, which is one record of one fragment. After an error a prefix of
@@ -93,8 +87,5 @@ pub fn write_message<W: Sink>(sink: &mut W, message: &[u8]) -> Result<(), Error>
     if message.len() > BODY_LIMIT as usize {
         return Err(Error::Memory);
     }
-    match write_record(sink, message) {
-        Ok(()) => Ok(()),
-        Err(_) => Err(Error::Write),
-    }
+    write_record(sink, message)
 }

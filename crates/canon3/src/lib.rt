@@ -35,4 +35,4 @@ pub use sink::{Sink, ToWrite};
 pub use summary::{MessageCounts, Summary, check};
 pub use traced::Traced;
 pub use verdict::{SameError, Verdict, Which};
-pub use whole_writes::write_all;
+pub use whole_writes::{write_all, write_both};

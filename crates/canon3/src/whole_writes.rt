@@ -1,15 +1,15 @@
 //! Bytes that a sink takes whole.
 
-ghost use Rattle.std.specs.Prelude.{◌≡◌, ◌≤◌, ◌+◌, ◌^◌, ◌++◌, length, OnErr, OnOk};
+ghost use Rattle.std.specs.Prelude.{◌≡◌, ◌≤◌, ◌+◌, ◌^◌, ◌++◌, length, IfErr, OnErr, OnOk};
 ghost use Rattle.std.specs.Io.KnownBytes.{Appends};
-ghost use Rattle.capture3.specs.Device.{Counts};
 ghost use Rattle.record_mark.specs.RecordMark.{max_body};
 ghost use Rattle.xdr3.specs.Item.{word_bytes};
 ghost use Rattle.canon3.specs.Bytes.{chunk_bytes, record_bytes};
 ghost use Rattle.canon3.specs.SinkWrites.{AppendsFront};
+ghost use Rattle.canon3.specs.WriteErrors.{CountsWriting};
 
 use crate::sink::Sink;
-use capture3::{DeviceFailed, pack_chunk};
+use capture3::{Error, pack_chunk};
 use record_mark::{BODY_LIMIT, header};
 
 /// How many bytes are before the body in the chunk of a record of one fragment.
@@ -17,30 +17,39 @@ pub(crate) const HEAD: usize = 8;
 
 /// Writes all of the bytes, in as many pieces as the sink takes them. After an error a prefix of
 /// them was written.
-pub fn write_all<W: Sink>(sink: &mut W, bytes: &[u8]) -> Result<(), DeviceFailed>
+///
+/// # Errors
+///
+/// `Write` if a write failed.
+pub fn write_all<W: Sink>(sink: &mut W, bytes: &[u8]) -> Result<(), Error>
     ensures ok { OnOk result (Appends (W.written sink.old) (W.written sink.new) bytes.now) }
     ensures err { OnErr result (AppendsFront (W.written sink.old) (W.written sink.new) bytes.now) }
-    ensures count { Counts (W.failures sink.old) (W.failures sink.new) result }
+    ensures count { CountsWriting (W.failures sink.old) (W.failures sink.new) result }
+    ensures error { IfErr result (λ error. error ≡ Error.Write) }
 {
     let mut rest = bytes;
     while !rest.is_empty() {
-        let count = sink.write_some(rest)?;
-        rest = &rest[count..];
+        match sink.write_some(rest) {
+            Ok(count) => rest = &rest[count..],
+            Err(_) => return Err(Error::Write),
+        }
     }
     Ok(())
 }
 
 /// Writes both, one after the other. After an error a prefix of both was written.
-pub(crate) fn write_both<W: Sink>(
-    sink: &mut W,
-    first: &[u8],
-    second: &[u8],
-) -> Result<(), DeviceFailed>
+///
+/// # Errors
+///
+/// `Write` if a write failed.
+#[inline(always)]
+pub fn write_both<W: Sink>(sink: &mut W, first: &[u8], second: &[u8]) -> Result<(), Error>
     ensures ok { OnOk result (Appends (W.written sink.old) (W.written sink.new)
         (first.now ++ second.now)) }
     ensures err { OnErr result (AppendsFront (W.written sink.old) (W.written sink.new)
         (first.now ++ second.now)) }
-    ensures count { Counts (W.failures sink.old) (W.failures sink.new) result }
+    ensures count { CountsWriting (W.failures sink.old) (W.failures sink.new) result }
+    ensures error { IfErr result (λ error. error ≡ Error.Write) }
 {
     write_all(sink, first)?;
     write_all(sink, second)
@@ -48,13 +57,14 @@ pub(crate) fn write_both<W: Sink>(
 
 /// Writes a record's body, of at most 16,777,216 bytes, as one chunk that is one last fragment. After
 /// an error a prefix of the chunk was written.
-pub(crate) fn write_record<W: Sink>(sink: &mut W, body: &[u8]) -> Result<(), DeviceFailed>
+pub(crate) fn write_record<W: Sink>(sink: &mut W, body: &[u8]) -> Result<(), Error>
     requires { length body.now ≤ max_body }
     ensures ok { OnOk result (Appends (W.written sink.old) (W.written sink.new)
         (chunk_bytes (record_bytes body.now))) }
     ensures err { OnErr result (AppendsFront (W.written sink.old) (W.written sink.new)
         (chunk_bytes (record_bytes body.now))) }
-    ensures count { Counts (W.failures sink.old) (W.failures sink.new) result }
+    ensures count { CountsWriting (W.failures sink.old) (W.failures sink.new) result }
+    ensures error { IfErr result (λ error. error ≡ Error.Write) }
 {
     write_both(sink, &chunk_head(body.len() as u32), body)
 }

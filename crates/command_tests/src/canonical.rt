@@ -2,7 +2,7 @@
 
 use crate::asserts::{assert_same, ok};
 use crate::samples::{commits, hashers};
-use canon3::{MemSink, Numbers, Sink, Summary, ToWrite, canon, write_all};
+use canon3::{MemSink, Numbers, Sink, Summary, ToWrite, canon, write_all, write_both};
 use capture3::{DeviceFailed, Error, Fault, MemSource, Place};
 use std::alloc::AllocError;
 use std::hash::{BuildHasherDefault, FoldHasher, Hash};
@@ -75,8 +75,12 @@ fn a_sink_over_a_writer(rt: HostRuntime) {
 fn all_bytes_in_pieces(rt: HostRuntime) {
     let mut sink = ok(&rt, MemSink::new(rt.alloc(), 7, 3, 0));
     assert_same!(rt; write_all(&mut sink, b"abcde"), Ok(()));
-    assert_same!(rt; write_all(&mut sink, b"fgh"), Err(DeviceFailed));
+    assert_same!(rt; write_all(&mut sink, b"fgh"), Err(Error::Write));
     assert_same!(rt; sink.bytes(), b"abcdefg".as_slice());
+    let mut both = ok(&rt, MemSink::new(rt.alloc(), 8, 3, 0));
+    assert_same!(rt; write_both(&mut both, b"abcd", b"efg"), Ok(()));
+    assert_same!(rt; write_both(&mut both, b"", b"hi"), Err(Error::Write));
+    assert_same!(rt; both.bytes(), b"abcdefgh".as_slice());
 }
 
 // In blocks of 7 bytes, where the read with this number fails.

@@ -6,7 +6,6 @@ ghost use Rattle.xdr3.specs.Item.{Handle as HandleKind, Item, Opaque, Word};
 ghost use Rattle.xdr3.specs.Plain.{run_items, run_size};
 ghost use Rattle.xdr3.specs.Visit.{Adds, Keeps};
 ghost use Rattle.rpc_head.specs.Names.{head_names};
-ghost use Rattle.capture3.specs.Device as devices;
 ghost use Rattle.capture3.specs.Entry as spec;
 ghost use Rattle.capture3.specs.Entry.{items_of};
 ghost use Rattle.capture3.specs.Kept.{IsOfKind};
@@ -21,8 +20,8 @@ ghost use Rattle.listing3.specs.Listing.{entry_line, line, opening, prefix, proc
 use crate::gathering::Gathering;
 use crate::line_text::LineText;
 use byteorder::{BigEndian, ByteOrder};
-use canon3::{CountingWriter, EntryCounts, EntryWriter, HandleTable, Sink, kind_of, write_all};
-use capture3::{DeviceFailed, EntryRef, Error, Kind};
+use canon3::{CountingWriter, EntryCounts, EntryWriter, HandleTable, Sink, kind_of, write_both};
+use capture3::{EntryRef, Error, Kind};
 use procs3::proc_name;
 use rpc_head::ProcId;
 use std::alloc::{AllocError, Global};
@@ -49,19 +48,6 @@ fn name_of_procedure(id: ProcId) -> &'static str
         Some(name) => name,
         None => "RAW",
     }
-}
-
-/// Writes all of one piece and then of the other.
-#[inline(always)]
-fn write_two<W: Sink>(sink: &mut W, first: &[u8], second: &[u8]) -> Result<(), DeviceFailed>
-    ensures ok { OnOk result
-        (Appends (W.written sink.old) (W.written sink.new) (first.now ++ second.now)) }
-    ensures err { OnErr result
-        (AppendsFront (W.written sink.old) (W.written sink.new) (first.now ++ second.now)) }
-    ensures count { devices.Counts (W.failures sink.old) (W.failures sink.new) result }
-{
-    write_all(sink, first)?;
-    write_all(sink, second)
 }
 
 impl<H: Gathering + Drop> LineWriter<H> {
@@ -157,10 +143,7 @@ impl<H: Gathering + Drop> LineWriter<H> {
         ensures count { CountsWriting (W.failures sink.old) (W.failures sink.new) result }
         ensures error { IfErr result (λ error. error ≡ Error.Write) }
     {
-        match write_two(sink, self.head.bytes(), self.items.bytes()) {
-            Ok(()) => Ok(()),
-            Err(_) => Err(Error::Write),
-        }
+        write_both(sink, self.head.bytes(), self.items.bytes())
     }
 
     /// Writes the line of the message whose items were visited. Each message has an xid.

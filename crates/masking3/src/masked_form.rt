@@ -96,10 +96,7 @@ fn open<W: Sink>(counts: &EntryCounts, sink: &mut W) -> Result<(), Error>
     if counts.connections() > 0 {
         return Ok(());
     }
-    match write_all(sink, &pack_header()) {
-        Ok(()) => Ok(()),
-        Err(_) => Err(Error::Write),
-    }
+    write_all(sink, &pack_header())
 }
 
 impl<P: Plan, S: BuildHasher + Drop> EntryWriter for MaskingWriter<P, S> {

@@ -13,8 +13,8 @@ ghost use Rattle.packing3.specs.Devices.{CountsReadings};
 ghost use Rattle.packing3.specs.machinery.Streaming.{HasConnection};
 
 use crate::block::zeros;
-use crate::stream::{Extent, FULL_CHUNK, write, write_connection};
-use canon3::Sink;
+use crate::stream::{Extent, FULL_CHUNK, write_connection};
+use canon3::{Sink, write_all};
 use capture3::{Error, MAX_CONNECTIONS, Source, pack_chunk, pack_header};
 use std::alloc::Global;
 use xdr3::Reason;
@@ -60,7 +60,7 @@ impl<W: Sink> Packing<W> {
             Ok(block) => block,
             Err(_) => return Err((Error::Memory, sink)),
         };
-        match write(&mut sink, &pack_header()) {
+        match write_all(&mut sink, &pack_header()) {
             Ok(()) => Ok(Packing {
                 sink,
                 block,
@@ -209,7 +209,7 @@ impl<W: Sink> Packing<W> {
         ensures error { IfErr result (λ error. error ≡ Error.Write) }
         ensures write { CountsWrites W.failures self.old self.new result }
     {
-        write(&mut self.sink, &pack_chunk(0))?;
+        write_all(&mut self.sink, &pack_chunk(0))?;
         match self.sink.flush_all() {
             Ok(()) => Ok(()),
             Err(_) => Err(Error::Write),

@@ -68,7 +68,7 @@ pub(crate) fn write_connection<C: Source, S: Source, W: Sink>(
         (S.failures server.old) (S.failures server.new) result }
     ensures write { CountsWriting (W.failures sink.old) (W.failures sink.new) result }
 {
-    write(sink, &pack_chunk(1))?;
+    write_all(sink, &pack_chunk(1))?;
     extent.at += 4;
     write_stream(sink, block, extent, client)?;
     write_stream(sink, block, extent, server)
@@ -108,7 +108,7 @@ fn write_stream<R: Source, W: Sink>(
             break;
         }
     }
-    write(sink, &pack_chunk(0))?;
+    write_all(sink, &pack_chunk(0))?;
     extent.at += 4;
     Ok(())
 }
@@ -145,22 +145,9 @@ fn write_chunk<R: Source, W: Sink>(
     if count == 0 {
         return Ok(0);
     }
-    write(sink, &pack_chunk(count as u32))?;
-    write(sink, &block[..count])?;
+    write_all(sink, &pack_chunk(count as u32))?;
+    write_all(sink, &block[..count])?;
     extent.streamed += count as u32;
     extent.at += 4 + count as u64;
     Ok(count)
-}
-
-/// Writes all of the bytes. After an error a prefix of them was written.
-pub(crate) fn write<W: Sink>(sink: &mut W, bytes: &[u8]) -> Result<(), Error>
-    ensures ok { OnOk result (Appends (W.written sink.old) (W.written sink.new) bytes.now) }
-    ensures err { OnErr result (AppendsFront (W.written sink.old) (W.written sink.new) bytes.now) }
-    ensures error { IfErr result (λ error. error ≡ Error.Write) }
-    ensures count { CountsWriting (W.failures sink.old) (W.failures sink.new) result }
-{
-    match write_all(sink, bytes) {
-        Ok(()) => Ok(()),
-        Err(_) => Err(Error::Write),
-    }
 }

@@ -24,14 +24,14 @@ loop-count-preserved g c =
       write = c.in_ok-count.ensures.write ∙ inv.write;
     }
 
-pub returns-in_err-write-clause-err : goal.returns-in_err-write-clause-err
-returns-in_err-write-clause-err g c =
-    let front = subst (AppendsFront (g.W.Sink.written c.write_chunk.new.sink) (g.W.Sink.written c.write.new.sink)) c.pack_chunk.ensures c.in_err-write.ensures.err in
-    rw (error_is _ _ c.from_residual-in_err-write.ensures)
-    (stops_at_end (g.R.Source.told c.args.source.now) (g.R.Source.told c.loop-count.source) (g.R.Source.told c.write_chunk.new.source) (g.W.Sink.written c.args.sink.now) (g.W.Sink.written c.loop-count.sink) (g.W.Sink.written c.write_chunk.new.sink) (g.W.Sink.written c.write.new.sink) c.args.extent.now c.loop-count.extent c.write_chunk.new.extent c.in_ok-count.count _ c.loop-count.invariant.full c.in_ok-count.ensures.ok c.in_err-write.ensures.error front)
+pub returns-in_err-write_all-clause-err : goal.returns-in_err-write_all-clause-err
+returns-in_err-write_all-clause-err g c =
+    let front = subst (AppendsFront (g.W.Sink.written c.write_chunk.new.sink) (g.W.Sink.written c.write_all.new.sink)) c.pack_chunk.ensures c.in_err-write_all.ensures.err in
+    rw (error_is _ _ c.from_residual-in_err-write_all.ensures)
+    (stops_at_end (g.R.Source.told c.args.source.now) (g.R.Source.told c.loop-count.source) (g.R.Source.told c.write_chunk.new.source) (g.W.Sink.written c.args.sink.now) (g.W.Sink.written c.loop-count.sink) (g.W.Sink.written c.write_chunk.new.sink) (g.W.Sink.written c.write_all.new.sink) c.args.extent.now c.loop-count.extent c.write_chunk.new.extent c.in_ok-count.count _ c.loop-count.invariant.full c.in_ok-count.ensures.ok c.in_err-write_all.ensures.error front)
 
 pub returns-clause-ok : goal.returns-clause-ok
 returns-clause-ok g c =
     let less : c.in_ok-count.count < full_size = search rules in
-    let word = subst (Appends (g.W.Sink.written c.write_chunk.new.sink) (g.W.Sink.written c.write.new.sink)) c.pack_chunk.ensures c.in_ok-write.ensures.ok in
-    whole_stream (g.R.Source.told c.args.source.now) (g.R.Source.told c.loop-count.source) (g.R.Source.told c.write_chunk.new.source) (g.W.Sink.written c.args.sink.now) (g.W.Sink.written c.loop-count.sink) (g.W.Sink.written c.write_chunk.new.sink) (g.W.Sink.written c.write.new.sink) c.args.extent.now c.loop-count.extent c.write_chunk.new.extent _ c.in_ok-count.count c.loop-count.invariant.full c.in_ok-count.ensures.ok less word (one_word 0 c.write_chunk.new.extent _ refl refl)
+    let word = subst (Appends (g.W.Sink.written c.write_chunk.new.sink) (g.W.Sink.written c.write_all.new.sink)) c.pack_chunk.ensures c.in_ok-write_all.ensures.ok in
+    whole_stream (g.R.Source.told c.args.source.now) (g.R.Source.told c.loop-count.source) (g.R.Source.told c.write_chunk.new.source) (g.W.Sink.written c.args.sink.now) (g.W.Sink.written c.loop-count.sink) (g.W.Sink.written c.write_chunk.new.sink) (g.W.Sink.written c.write_all.new.sink) c.args.extent.now c.loop-count.extent c.write_chunk.new.extent _ c.in_ok-count.count c.loop-count.invariant.full c.in_ok-count.ensures.ok less word (one_word 0 c.write_chunk.new.extent _ refl refl)
