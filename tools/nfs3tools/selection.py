@@ -101,7 +101,7 @@ def has_calls(stream: Stream) -> bool:
 
 def keep_front(stream: Stream, side: Side, options: Options, is_closed: bool) -> Kept:
     """Keeps a stream from its beginning up to the first gap."""
-    kept, parts, gaps = Kept(lacks=not stream.is_begin, missing=missing_of(stream)), parts_of(stream), gaps_of(stream)
+    kept, parts, gaps = Kept(lacks=stream.lacks or not stream.is_begin, missing=missing_of(stream)), parts_of(stream), gaps_of(stream)
     if not stream.is_begin:
         if stream.stored.size:
             kept.missing += stream.stored.size
@@ -118,9 +118,9 @@ def keep_front(stream: Stream, side: Side, options: Options, is_closed: bool) ->
 def keep_midstream(stream: Stream, side: Side, options: Options, is_closed: bool) -> Kept:
     """Keeps of each run of a stream what follows from the first record on."""
     kept, gaps, parts = Kept(missing=missing_of(stream)), gaps_of(stream), parts_of(stream)
-    kept.lacks, left_out = bool(gaps) or not stream.is_begin, 0
+    kept.lacks, left_out = bool(gaps) or stream.lacks or not stream.is_begin, 0
     for part in parts:
-        is_first = part.begin == 0 and not stream.runs[0].gap
+        is_first = part.begin == stream.begin and not stream.runs[0].gap
         begin = part.begin if is_first and stream.is_begin else Search(stream.stored, side, part.begin, part.end).first()
         if is_first and begin != part.begin:
             skipped = part.end if begin is None else begin
