@@ -359,16 +359,15 @@ class Stream:
         while self.held.begins:
             self.give_up_gap()
 
-    def drop(self, begin: int, lacks: bool) -> int:
-        """Forgets the stored bytes before a place at which a record begins, and returns how many bytes are missing among them. `lacks` says
-        whether anything is."""
+    def drop(self, begin: int) -> None:
+        """Forgets the stored bytes before a place at which a record begins."""
         passed = [run for run in self.runs if run.begin <= begin]
+        self.lacks |= not self.is_begin or any(run.gap for run in passed)
         self.runs = [Run(begin, None), *self.runs[len(passed):]]
-        self.begin, self.is_begin, self.lacks = begin, True, lacks
+        self.begin, self.is_begin = begin, True
         self.stored.drop(begin)
         if self.frames is not None:
             self.frames.drop(begin)
-        return sum(run.gap.size for run in passed if run.gap)
 
     def close(self) -> None:
         """Forgets all bytes. Nothing is taken after this."""

@@ -28,6 +28,7 @@ import time
 import typing
 import xml.etree.ElementTree
 
+from .following import follow
 from .judging import HEADS, Verdict, error_of, of_left_out, row_of, status_of, sums_of, tell_notes, told, verdict_of
 from .messages import add_losses, add_options, advice_on, options_of, parser_of, words_of
 from .outputs import check_output, write_file
@@ -106,18 +107,24 @@ def main(words: list[str]) -> int:
     parser.add_argument('recordings', metavar='RECORDING|CAPTURE', nargs='+')
     parser.add_argument('--junit', metavar='FILE', help='writes the verdicts as JUnit XML')
     parser.add_argument('--json', metavar='FILE', help='writes the verdicts as JSON')
-    parser.add_argument('-j', metavar='N', type=positive, default=os.cpu_count() or 1, help='judges N recordings at once')
+    parser.add_argument('-j', metavar='N', type=positive, help='judges N recordings at once')
+    parser.add_argument('--follow', action='store_true', help='judges one recording while it is made, and prints each verdict at once')
     parser.add_argument('--program', metavar='PROGRAM', help='nfs3canon')
     add_options(parser)
     add_losses(parser, 'ok in part')
     chosen = parser.parse_args(words)
-    at_once = max(1, min(CONNECTIONS_AT_ONCE, chosen.j // len(chosen.recordings)))
+    if chosen.follow:
+        if len(chosen.recordings) > 1 or any((chosen.j, chosen.junit, chosen.json, chosen.filter)):
+            parser.error('--follow takes one recording, and none of -j, --junit, --json and --filter')
+        return follow(chosen.recordings[0], program_path(chosen.program), options_of(chosen), chosen.allow_losses)
+    recordings_at_once = chosen.j or os.cpu_count() or 1
+    at_once = max(1, min(CONNECTIONS_AT_ONCE, recordings_at_once // len(chosen.recordings)))
     inputs = [file for recording in chosen.recordings for file in files_of(recording)]
     for path in [path for path in (chosen.junit, chosen.json) if path]:
         check_output(path, inputs)
     judge = Judge(program_path(chosen.program), options_of(chosen), at_once, len(chosen.recordings) == 1)
     try:
-        verdicts = list(judged(judge, chosen.recordings, chosen.j))
+        verdicts = list(judged(judge, chosen.recordings, recordings_at_once))
     except concurrent.futures.BrokenExecutor as broken:
         raise OSError('a process that judged a recording was killed, as when memory runs out') from broken
     print_table(verdicts)
