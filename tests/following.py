@@ -17,7 +17,7 @@ import time
 import typing
 
 from running import begin, pipe_of, try_tests
-from scripts import ALL, CALLS, REPLIES, TOP, Tools, stream, whole
+from scripts import ALL, CALLS, TOP, Tools, stream, whole
 from messages import NFS, call, fh, fragment, hyper, opaque, success, word
 from packets import ACK, RST, Talk, pcap
 from nfs3tools.streams import Spool, Stored

@@ -33,7 +33,8 @@ from .unpacking import Damaged
 FIRST_SIZE = 1 << 16  # bytes of a section that is judged for the first time, if it has not had its turn before
 SECTION = 8 << 20  # bytes of a section that is forgotten once it is judged
 KEPT_AT_MOST = 8 * SECTION  # bytes of a connection; then it is judged as at the end
-CARRIED_AT_MOST = 4 << 20  # bytes of calls without a reply that are put before a section
+CARRIED_AT_MOST = 32 << 20  # bytes of calls without a reply that are put before a section, in the temporary file
+CALLS_AT_MOST = 16_384  # the number of these calls
 HELD_BY_ALL = 12 << 20  # bytes behind gaps
 OPEN_AT_MOST = 2_048  # connections; the one without segments for the longest time is judged as at the end
 REMEMBERED = 1_024  # connections that were judged, whose last segments are no new connection
@@ -367,18 +368,19 @@ Call = tuple[TakenStream, int, int]  # where it begins and ends in a stream
 
 
 def without_reply(streams: list[TakenStream], server: TakenStream) -> tuple[list[Call], bool]:
-    """The calls that have fewer replies than their xid has calls, up to 4 MiB of the last ones, and whether others are left out."""
+    """The last calls of those that have fewer replies than their xid has calls, as many as are kept, and whether others are left out."""
     replies = collections.Counter(xid for _, xid, _ in xids(Window(server), 0, server.size))
-    calls = list[Call]()
+    calls, is_any_left_out = collections.deque[Call](maxlen=CALLS_AT_MOST), False
     for stream in streams:
         for extent, xid, _ in xids(Window(stream), 0, stream.size):
             if replies.get(xid, 0):
                 replies[xid] -= 1
             else:
+                is_any_left_out |= len(calls) == CALLS_AT_MOST
                 calls.append((stream, extent.begin, extent.end))
     sizes = itertools.accumulate(end - begin for _, begin, end in reversed(calls))
     number = sum(1 for _ in itertools.takewhile(lambda size: size <= CARRIED_AT_MOST, sizes))
-    return calls[len(calls) - number:], number < len(calls)
+    return list(calls)[len(calls) - number:], is_any_left_out or number < len(calls)
 
 
 # --- The command ---

@@ -1,6 +1,7 @@
 """Judges each connection of recordings and captures by itself.
 
     tools/verdicts [--junit FILE] [--json FILE] [-j N] RECORDING|CAPTURE ..
+    tcpdump -i any -U -w - port 2049 | tools/verdicts --follow -
 
 Each connection is a capture of its own, which `nfs3canon check` judges, so a fault in one hides nothing of another. Printed is
 a table with a row for each: the recording, the connection's number and ends, its calls and replies, and the verdict: `ok`, or
@@ -12,6 +13,9 @@ The recordings are taken as by `tools/from_pcap` (--midstream, --whole-records, 
 recording); `-` is standard input. --junit writes the verdicts as JUnit XML, as Jenkins and GitLab take it, and --json as a list
 with an object for each row and for each note on a recording. N recordings are judged at once, as many as there are processors if
 it is not said.
+
+--follow judges one recording while it is made: `-`, a fifo or a file that grows. The line of a connection is printed once it is closed,
+or once a fault of it is seen; at the end, or at SIGINT or SIGTERM, the others are judged. The manual page says when a fault is seen.
 
 FILE is written beside its name, and gets it once it is whole. It is refused if it is an input, or begins as a recording or a
 capture. The status is 0 if all are ok (with --allow-losses also if they are ok in part), 1 if one is not, 2 if the command line
