@@ -24,7 +24,7 @@ from .printed import escaped
 from .programs import CHECKED, Died, run_program
 from .recordings import NANOSECONDS, Frame, NoRecording, Recording, Source, opened
 from .records import Window, end_of_whole, xids
-from .segments import FIN, RST, Segment, Segments
+from .segments import ACK, RST, Segment, Segments
 from .selection import Kept, Options, Selected, select
 from .streams import Connection, Connections, Spool, Stored, Stream
 from .taken import NotTaken, Taken, TakenStream, add, notes_of, taken_connection, whole
@@ -116,6 +116,7 @@ class Open:
     before: what was judged of it and is forgotten; `carried` and `known` have the calls without a reply among that, and their xids
     next_size: how many bytes its section has when it is judged again
     doubted: a fault that may go away, since the call of a reply may come yet
+    sent: how many bytes each end had sent when the connection was reset, as far as that segment shows
     """
     connection: Connection
     number: int = 0
@@ -125,6 +126,7 @@ class Open:
     next_size: int = FIRST_SIZE
     doubted: str | None = None
     is_reset: bool = False
+    sent: list[int] = dataclasses.field(default_factory=lambda: [0, 0])
     time: int = 0
     frame: int = 0
 
@@ -137,19 +139,28 @@ class Open:
     def is_complete(self) -> bool:
         """Whether it is closed by both sides or reset, and no byte is missing."""
         return self.connection.is_closed and not self.lacks and all(
-            self.is_reset or stream.end is not None for stream in self.connection.streams)
+            stream.next >= sent if self.is_reset else stream.end is not None for stream, sent in zip(self.connection.streams, self.sent))
 
     @property
     def lacks(self) -> bool:
         """Whether bytes that may come yet are missing."""
         return any(stream.held.begins or stream.gap_at_end() for stream in self.connection.streams)
 
+    def reset(self, side: int, segment: Segment) -> None:
+        """Takes the segment by which an end resets the connection. It has the numbers of the next bytes of both ends."""
+        self.is_reset = True
+        for end, sequence in ((side, segment.sequence), *([(1 - side, segment.acknowledged)] if segment.flags & ACK else [])):
+            stream = self.connection.streams[end]
+            position = stream.position(sequence)
+            if stream.first is not None and stream.is_likely(position):
+                self.sent[end] = max(self.sent[end], position if stream.end is None else min(position, stream.end))
+
     def is_over(self, midstream: bool) -> bool:
         """Whether nothing that comes can be of use: without --midstream after bytes that are missing for good, or if the beginning is."""
         streams = self.connection.streams
         return self.size > KEPT_AT_MOST or not midstream and (
             any(stream.runs and (stream.runs[0].gap or len(stream.runs) > 1) for stream in streams)
-            or not any(stream.is_begin for stream in streams) and any(stream.stored.size for stream in streams))
+            or self.size >= FIRST_SIZE and not any(stream.is_begin for stream in streams))
 
     def client_stream(self, client: TakenStream) -> Streamed:
         """The stream of a section, after the calls that have no reply in earlier ones."""
@@ -178,7 +189,7 @@ class Following:
         self.open: dict[int, Open] = {}
         self.judged: collections.OrderedDict[int, Connection] = collections.OrderedDict()
         self.waiting: dict[int, int] = {}  # since when a connection has bytes that are not judged
-        self.numbered = self.next_turn = self.next_look = self.looked = 0
+        self.taken = self.numbered = self.next_turn = self.next_look = self.looked = 0
 
     def take(self, frame: Frame) -> None:
         segment = self.segments.segment(frame)
@@ -201,8 +212,8 @@ class Following:
         one.time, one.frame = time, number
         if segment.payload:
             self.grown(one)
-        if segment.flags & (FIN | RST):
-            one.is_reset |= bool(segment.flags & RST)
+        if segment.flags & RST:
+            one.reset(self.connections.sides[segment.key][1], segment)
         if connection.is_closed and not connection.is_judged and one.is_complete:
             self.end(connection.number)
 
@@ -304,6 +315,7 @@ class Following:
         """Keeps nothing of a connection but that it was judged."""
         connection = one.connection
         self.say(verdict)
+        self.taken += verdict.connection is not None
         del self.open[connection.number]
         self.waiting.pop(connection.number, None)
         connection.is_judged = True
@@ -447,5 +459,5 @@ def take_all(following: Following, growing: Growing) -> None:
         following.say(Verdict(following.recording, state='note', message=note))
     if recording.damage:
         following.say(error_of(following.recording, recording.damage))
-    elif not following.numbered:
+    elif not following.taken:
         following.say(error_of(following.recording, 'no connection to judge'))
