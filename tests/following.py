@@ -236,7 +236,8 @@ def what_is_refused(tools: Tools) -> None:
     tools.want('no file', tools.exists('x'), False)
     recording = (TOP / 'examples/null.nfs3cap').read_bytes()
     for name, content, line in (('-', recording, 'it is a capture, and only a recording can be followed'),
-                                ('-', b'no recording', 'it is neither pcap nor pcapng'), ('absent', b'', 'absent: No such file or directory'),
+                                ('-', b'no recording', 'it is neither pcap nor pcapng'),
+                                ('absent', b'', 'absent: No such file or directory'),
                                 ('-', pcap([]), 'no connection to judge'),
                                 ('-', pcap([]) + b'\xff' * 16, 'the recording is damaged after frame 0: frame 1 claims 4294967295 bytes')):
         status, out, _ = tools.tool('verdicts', '--follow', '--program', tools.program, name, stdin=content)
@@ -251,7 +252,8 @@ def the_same_verdicts(tools: Tools) -> None:
         content = path.read_bytes()
         for options, begun in (([], 0), (['--midstream'], 0), (['--midstream'], 40)):
             recording = content[:24] + content[at_frame(content, begun):]
-            answers = [tools.tool('verdicts', '--program', tools.program, *options, *words, '-', stdin=recording) for words in ([], ['--follow'])]
+            named = ['--program', tools.program, *options]
+            answers = [tools.tool('verdicts', *named, *words, '-', stdin=recording) for words in ([], ['--follow'])]
             (status, out, error), found = [(status, sorted(re.split('  +', line) for line in out.splitlines()), sorted(error.splitlines()))
                                            for status, out, error in answers]
             tools.want(f'{path.name} {options} {begun}', found, (status, out, error))
