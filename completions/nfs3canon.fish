@@ -28,6 +28,7 @@ for tool in verdicts nfs3-verdicts procedures nfs3-procedures nfs3-compare
     complete -c $tool -l allow-losses -d 'Take runs in part as the status 0'
 end
 for tool in verdicts nfs3-verdicts
+    complete -c $tool -l follow -d 'Judge one recording while it is made'
     complete -c $tool -l junit -r -d 'Write JUnit XML'
     complete -c $tool -l json -r -d 'Write JSON'
     complete -c $tool -s j -x -d 'Judge so many recordings at once'

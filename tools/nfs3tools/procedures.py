@@ -30,6 +30,7 @@ import typing
 from collections import Counter
 from collections.abc import Iterator, Sequence
 
+from .judging import Verdict, named, status_of, sums_of, tell_notes
 from .messages import add_losses, add_options, options_of, parser_of
 from .outputs import check_output, write_file
 from .parts import files_of
@@ -37,7 +38,7 @@ from .printed import columns, escaped, printable
 from .programs import program_path
 from .taken import Taken, TakenConnection
 from .tallies import Tallies, Tally, counted_of, in_order, sum_of
-from .verdicts import CONNECTIONS_AT_ONCE, Judge, Verdict, named, objects_of, status_of, sums_of, tell_notes
+from .verdicts import CONNECTIONS_AT_ONCE, Judge, objects_of
 
 PARTS = (0.5, 0.99, 1)  # of the latencies: the median, the 99th percentile, and the longest
 COUNTS = ('calls', 'again', 'replies', 'unanswered', 'call_bytes', 'reply_bytes')

@@ -65,14 +65,14 @@ def missing_of(stream: Stream) -> int:
     return sum(gap.size for gap in gaps_of(stream))
 
 
-def select(connection: Connection, options: Options) -> Selected:
-    """Chooses what is kept of a connection."""
+def select(connection: Connection, options: Options, known: typing.Iterable[int] = ()) -> Selected:
+    """Chooses what is kept of a connection. `known` has the xids of calls that were kept before."""
     client, why = client_of(connection, options)
     streams = connection.streams[client], connection.streams[1 - client]
     choose = keep_midstream if options.midstream else keep_front
     calls, replies = (choose(stream, side, options, connection.is_closed) for stream, side in zip(streams, SIDES))
     if calls.lacks and replies.ranges:
-        leave_out_replies(streams, calls, replies)
+        leave_out_replies(streams, calls, replies, known)
     for stream, kept in zip(streams, (calls, replies)):
         if stream.conflicts:
             kept.notes.append(f'{count(stream.conflicts, "frame")} {plural(stream.conflicts, "repeats", "repeat")} bytes with '
@@ -101,7 +101,7 @@ def has_calls(stream: Stream) -> bool:
 
 def keep_front(stream: Stream, side: Side, options: Options, is_closed: bool) -> Kept:
     """Keeps a stream from its beginning up to the first gap."""
-    kept, parts, gaps = Kept(lacks=not stream.is_begin, missing=missing_of(stream)), parts_of(stream), gaps_of(stream)
+    kept, parts, gaps = Kept(lacks=stream.lacks or not stream.is_begin, missing=missing_of(stream)), parts_of(stream), gaps_of(stream)
     if not stream.is_begin:
         if stream.stored.size:
             kept.missing += stream.stored.size
@@ -118,9 +118,9 @@ def keep_front(stream: Stream, side: Side, options: Options, is_closed: bool) ->
 def keep_midstream(stream: Stream, side: Side, options: Options, is_closed: bool) -> Kept:
     """Keeps of each run of a stream what follows from the first record on."""
     kept, gaps, parts = Kept(missing=missing_of(stream)), gaps_of(stream), parts_of(stream)
-    kept.lacks, left_out = bool(gaps) or not stream.is_begin, 0
+    kept.lacks, left_out = bool(gaps) or stream.lacks or not stream.is_begin, 0
     for part in parts:
-        is_first = part.begin == 0 and not stream.runs[0].gap
+        is_first = part.begin == stream.begin and not stream.runs[0].gap
         begin = part.begin if is_first and stream.is_begin else Search(stream.stored, side, part.begin, part.end).first()
         if is_first and begin != part.begin:
             skipped = part.end if begin is None else begin
@@ -154,10 +154,10 @@ def keep_up_to_whole(stream: Stream, part: Part, side: Side, kept: Kept, is_whol
     return dropped
 
 
-def leave_out_replies(streams: tuple[Stream, Stream], calls: Kept, replies: Kept) -> None:
-    """Leaves out the replies whose calls are not kept."""
+def leave_out_replies(streams: tuple[Stream, Stream], calls: Kept, replies: Kept, before: typing.Iterable[int]) -> None:
+    """Leaves out the replies whose calls are not kept and were not kept before."""
     window = Window(streams[0].stored)
-    known = {xid for begin, end in calls.ranges for _, xid, _ in xids(window, begin, end)}
+    known = {*before, *(xid for begin, end in calls.ranges for _, xid, _ in xids(window, begin, end))}
     window, ranges, left_out = Window(streams[1].stored), list[tuple[int, int]](), 0
     for begin, end in replies.ranges:
         kept, count_of_range = with_calls(window, begin, end, known)

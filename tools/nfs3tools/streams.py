@@ -16,29 +16,76 @@ HELD_BY_ALL = 64 << 20  # the same of all streams together
 LIKELY_AT_MOST = 64 << 20  # bytes that were sent beyond the last that is known
 
 
+class Room:
+    """Which bytes of a file are free to be written again: ranges in order, none of which touch. All bytes from `end` on are free."""
+
+    def __init__(self) -> None:
+        self.begins: list[int] = []
+        self.sizes: list[int] = []
+        self.end = 0
+
+    def take(self, size: int) -> int:
+        """Takes the first free range that is large enough, and returns where it begins."""
+        for at, there in enumerate(self.sizes):
+            if there >= size:
+                begin = self.begins[at]
+                self.set(at, begin + size, there - size)
+                return begin
+        self.end += size
+        return self.end - size
+
+    def set(self, at: int, begin: int, size: int) -> None:
+        if size:
+            self.begins[at], self.sizes[at] = begin, size
+        else:
+            del self.begins[at], self.sizes[at]
+
+    def give(self, begin: int, size: int) -> None:
+        """Makes a range free, joined with those that it touches."""
+        at = bisect.bisect(self.begins, begin)
+        if at < len(self.begins) and begin + size == self.begins[at]:
+            size += self.sizes[at]
+            self.set(at, 0, 0)
+        if at and self.begins[at - 1] + self.sizes[at - 1] == begin:
+            at -= 1
+            begin, size = self.begins[at], self.sizes[at] + size
+            self.set(at, 0, 0)
+        if begin + size == self.end:
+            self.end = begin
+        else:
+            self.begins.insert(at, begin)
+            self.sizes.insert(at, size)
+
+
 class Spool:
     """The temporary file in which streams stand. It is made when the first bytes are written."""
 
     def __init__(self) -> None:
         self.file: typing.IO[bytes] | None = None
-        self.size = self.unwritten = 0
-        self.stored: list['Stored'] = []
+        self.room, self.unwritten = Room(), 0
+        self.stored: dict['Stored', None] = {}  # in the order in which they were begun
 
     def append(self, piece: bytes | bytearray) -> int:
         """Writes a piece, and gives where it stands."""
-        begin, done = self.size, 0
-        self.size += len(piece)
+        begin, done = self.room.take(len(piece)), 0
         try:
             if self.file is None:
                 self.file = tempfile.TemporaryFile(prefix='nfs3canon', buffering=0)
             while done < len(piece):
-                done += self.file.write(piece[done:] if done else piece)
+                done += os.pwrite(self.file.fileno(), piece[done:] if done else piece, begin + done)
         except OSError as failed:
             raise OSError(failed.errno, failed.strerror or str(failed), 'a temporary file') from failed
         return begin
 
     def read(self, begin: int, size: int) -> bytes:
         return os.pread(self.file.fileno(), size, begin) if self.file else b''
+
+    def free(self, begin: int, size: int) -> None:
+        """Has the room of bytes used again. What is free at the end of the file is cut off."""
+        before = self.room.end
+        self.room.give(begin, size)
+        if self.file and self.room.end < before:
+            self.file.truncate(self.room.end)
 
     def spare(self) -> None:
         """Writes what all streams hold in memory, if it is much."""
@@ -65,7 +112,7 @@ class Stored:
         self.written = 0
         self.begins, self.places = NONE_WRITTEN, NONE_WRITTEN  # of each part that was written
         self.unwritten = bytearray()
-        spool.stored.append(self)
+        spool.stored[self] = None
 
     def append(self, piece: bytes) -> None:
         self.unwritten += piece
@@ -103,12 +150,30 @@ class Stored:
             pieces.append(bytes(self.unwritten[begin - self.written:end - self.written]))
         return pieces[0] if len(pieces) == 1 else b''.join(pieces)
 
+    def drop(self, end: int) -> None:
+        """Forgets the bytes before a position, as far as whole parts go. They must not be read again."""
+        parts = len(self.begins) if end >= self.written else max(0, bisect.bisect_right(self.begins, end) - 1)
+        ends = [*self.begins[1:parts + 1], self.written][:parts]
+        for begin, part_end, place in zip(self.begins, ends, self.places):
+            self.spool.free(place, part_end - begin)
+        if parts:
+            del self.begins[:parts], self.places[:parts]
+        if end > self.written:
+            self.spool.unwritten -= end - self.written
+            del self.unwritten[:end - self.written]
+            self.written = end
+
+    def close(self) -> None:
+        """Forgets all bytes. Nothing is appended after this."""
+        self.drop(self.size)
+        self.spool.stored.pop(self, None)
+
 
 class Budget:
-    """The bytes that all streams together hold back."""
+    """The bytes that all streams together hold back, and how many these may be."""
 
-    def __init__(self) -> None:
-        self.held = 0
+    def __init__(self, most: int = HELD_BY_ALL) -> None:
+        self.held, self.most = 0, most
 
 
 class Gap(typing.NamedTuple):
@@ -133,10 +198,11 @@ class Brought(typing.NamedTuple):
 
 class Frames:
     """Which frame brought which of the stored bytes, in order. It is stored as the bytes are, so little memory follows the frames."""
-    __slots__ = 'stored', 'firsts'
+    __slots__ = 'stored', 'firsts', 'dropped'
 
     def __init__(self, spool: Spool) -> None:
         self.stored, self.firsts = Stored(spool), array.array('Q')  # where the bytes of every 128th frame begin
+        self.dropped = 0  # blocks of 128 frames
 
     def append(self, begin: int, number: int, time: int) -> None:
         if not self.stored.size % BLOCK_OF_FRAMES:
@@ -156,20 +222,30 @@ class Frames:
         if last:
             yield last
 
+    def drop(self, begin: int) -> None:
+        """Forgets the frames that brought bytes before a position, in whole blocks."""
+        blocks = max(0, bisect.bisect_right(self.firsts, begin) - 1)
+        del self.firsts[:blocks]
+        self.dropped += blocks
+        self.stored.drop(self.dropped * BLOCK_OF_FRAMES)
+
     def noted_from(self, block: int) -> typing.Iterator[Brought]:
-        for at in range(block * BLOCK_OF_FRAMES, self.stored.size, BLOCK_OF_FRAMES):
+        """Iterates over the frames from a block on, the first of those that are kept being 0."""
+        for at in range((self.dropped + block) * BLOCK_OF_FRAMES, self.stored.size, BLOCK_OF_FRAMES):
             yield from map(Brought._make, BROUGHT.iter_unpack(self.stored.read(at, BLOCK_OF_FRAMES)))
 
 
 class Stream:
     """The bytes that one end sends, in order. Positions count the bytes from the first one on."""
-    __slots__ = ('stored', 'budget', 'frames', 'first', 'is_begin', 'next', 'expected', 'acknowledged', 'runs', 'held', 'end',
-                 'known_end', 'known_by', 'conflicts', 'conflict')
+    __slots__ = ('stored', 'budget', 'frames', 'first', 'is_begin', 'begin', 'lacks', 'next', 'expected', 'acknowledged', 'runs', 'held',
+                 'end', 'known_end', 'known_by', 'conflicts', 'conflict')
 
     def __init__(self, spool: Spool, budget: Budget, frames: Frames | None) -> None:
         self.stored, self.budget, self.frames = Stored(spool), budget, frames
         self.first: int | None = None  # the sequence number of position 0
-        self.is_begin = False  # position 0 is the first byte that was sent
+        self.is_begin = False  # the bytes at `begin` are the first that were sent, or the first of a record
+        self.begin = 0  # the stored bytes before it are forgotten
+        self.lacks = False  # some of these were not whole
         self.next = 0  # the position after the last byte in order
         self.expected: int | None = None  # its sequence number
         self.acknowledged: int | None = None  # the sequence number that was acknowledged last
@@ -239,7 +315,7 @@ class Stream:
         if payload and not self.held.add(position, payload, number, time):
             self.differs(number)
         self.budget.held += self.held.cost - cost
-        if self.held.cost > HELD_AT_MOST or self.budget.held > HELD_BY_ALL and self.held.begins:
+        if self.held.cost > HELD_AT_MOST or self.budget.held > self.budget.most and self.held.begins:
             self.give_up_gap()
 
     def take_late(self, position: int, payload: bytes, number: int, time: int) -> None:
@@ -256,8 +332,9 @@ class Stream:
             self.drain()
 
     def bytes_at(self, position: int, size: int) -> bytes | None:
-        """The bytes of positions that were taken, unless a gap is before them."""
-        return self.stored.read(position, size) if len(self.runs) == 1 and not self.runs[0].gap else None
+        """The bytes of positions that were taken, unless a gap is before them or they are forgotten."""
+        begin = self.stored.size - (self.next - position)
+        return self.stored.read(begin, size) if len(self.runs) == 1 and not self.runs[0].gap and begin >= self.begin else None
 
     def differs(self, number: int) -> None:
         self.conflict = self.conflict or number
@@ -282,6 +359,24 @@ class Stream:
         while self.held.begins:
             self.give_up_gap()
 
+    def drop(self, begin: int) -> None:
+        """Forgets the stored bytes before a place at which a record begins."""
+        passed = [run for run in self.runs if run.begin <= begin]
+        self.lacks |= not self.is_begin or any(run.gap for run in passed)
+        self.runs = [Run(begin, None), *self.runs[len(passed):]]
+        self.begin, self.is_begin = begin, True
+        self.stored.drop(begin)
+        if self.frames is not None:
+            self.frames.drop(begin)
+
+    def close(self) -> None:
+        """Forgets all bytes. Nothing is taken after this."""
+        self.budget.held -= self.held.cost
+        self.held = Held()
+        self.stored.close()
+        if self.frames is not None:
+            self.frames.stored.close()
+
     def gap_at_end(self) -> Gap | None:
         """The bytes that are missing after the last one."""
         is_end_acknowledged = self.end is None and self.known_end == self.next + 1
@@ -292,13 +387,14 @@ class Stream:
 
 class Connection:
     """Two ends, 0 the one that sent the first segment, each with its stream."""
-    __slots__ = 'number', 'key', 'client', 'first_payload', 'is_closed', 'is_chosen', 'streams'
+    __slots__ = 'number', 'key', 'client', 'first_payload', 'is_closed', 'is_chosen', 'is_judged', 'streams'
 
     def __init__(self, number: int, key: bytes, spool: Spool, budget: Budget, keeps_frames: bool) -> None:
         self.number, self.key = number, key  # the number as Wireshark counts tcp.stream, from 0
         self.client: int | None = None  # the end that sent SYN
         self.first_payload: int | None = None  # the end that sent payload first
         self.is_closed = self.is_chosen = False
+        self.is_judged = False  # nothing of it is wanted any more
         self.streams = [Stream(spool, budget, Frames(spool) if keeps_frames else None) for _ in range(2)]
 
     @property
@@ -345,30 +441,39 @@ class Connection:
 class Connections:
     """The connections of a recording, in the order of their first segments."""
 
-    def __init__(self, keeps_frames: bool) -> None:
-        self.spool, self.budget, self.keeps_frames = Spool(), Budget(), keeps_frames
-        self.all: list[Connection] = []
+    def __init__(self, keeps_frames: bool, held_by_all: int = HELD_BY_ALL) -> None:
+        self.spool, self.budget, self.keeps_frames = Spool(), Budget(held_by_all), keeps_frames
+        self.count = 0  # of those that were begun
+        self.all: dict[int, Connection] = {}
         self.sides: dict[bytes, tuple[Connection, int]] = {}
 
-    def take(self, segment: Segment, number: int, time: int, is_chosen: bool) -> None:
-        """Takes a segment. One that is not chosen only counts as one of its connection."""
+    def take(self, segment: Segment, number: int, time: int, is_chosen: bool) -> Connection:
+        """Takes a segment, and returns its connection. One that is not chosen only counts as one of its connection."""
         found = self.sides.get(segment.key)
         if found is None or segment.flags & SYN and found[0].is_other(found[1], segment):
             found = self.begin(segment.key), 0
-        if is_chosen:
+        if is_chosen and not found[0].is_judged:
             found[0].is_chosen = True
             found[0].take(found[1], segment, number, time)
+        return found[0]
 
     def begin(self, key: bytes) -> Connection:
-        connection = Connection(len(self.all), key, self.spool, self.budget, self.keeps_frames)
-        self.all.append(connection)
+        connection = self.all[self.count] = Connection(self.count, key, self.spool, self.budget, self.keeps_frames)
+        self.count += 1
         self.sides[turned(key)] = connection, 1
         self.sides[key] = connection, 0
         return connection
 
+    def forget(self, connection: Connection) -> None:
+        """Segments of the same ends are those of another connection from now on."""
+        self.all.pop(connection.number, None)
+        for key in (connection.key, turned(connection.key)):
+            if key in self.sides and self.sides[key][0] is connection:
+                del self.sides[key]
+
     def finish(self) -> list[Connection]:
         """The connections of which a segment was chosen. Nothing is taken after this."""
-        chosen = [connection for connection in self.all if connection.is_chosen]
+        chosen = [connection for connection in self.all.values() if connection.is_chosen]
         for connection in chosen:
             connection.streams[0].finish()
             connection.streams[1].finish()

@@ -423,17 +423,22 @@ def notes_of(segments: Segments) -> list[str]:
 def add(taken: Taken, connection: Connection, selected: Selected, options: Options) -> None:
     """Takes a connection, or says why it is left out."""
     ends = ' and '.join(connection.ends)
-    streams = connection.streams[selected.client], connection.streams[1 - selected.client]
     if not any(kept.ranges for kept in selected.kept):
         is_for_losses = connection.client is not None or options.midstream
         missing = sum(kept.missing for kept in selected.kept) if is_for_losses else 0
         is_begun_before = connection.client is None and connection.first_payload is not None
         taken.left_out.append(LeftOut(ends, why_left_out(connection, options), missing, is_begun_before))
         return
+    taken.connections.append(taken_connection(len(taken.connections) + 1, connection, selected))
+
+
+def taken_connection(number: int, connection: Connection, selected: Selected) -> TakenConnection:
+    """What is taken of a connection."""
+    streams = connection.streams[selected.client], connection.streams[1 - selected.client]
     client, server = (TakenStream(stream.stored, stream.frames, kept.ranges) for stream, kept in zip(streams, selected.kept))
     notes, missing = [note for kept in selected.kept for note in kept.notes], sum(kept.missing for kept in selected.kept)
-    taken.connections.append(TakenConnection(len(taken.connections) + 1, connection.number, connection.ends[selected.client],
-                                             connection.ends[1 - selected.client], ends, selected.why, client, server, notes, missing))
+    return TakenConnection(number, connection.number, connection.ends[selected.client], connection.ends[1 - selected.client],
+                           ' and '.join(connection.ends), selected.why, client, server, notes, missing)
 
 
 def why_left_out(connection: Connection, options: Options) -> str:

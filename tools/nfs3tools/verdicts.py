@@ -1,6 +1,7 @@
 """Judges each connection of recordings and captures by itself.
 
     tools/verdicts [--junit FILE] [--json FILE] [-j N] RECORDING|CAPTURE ..
+    tcpdump -i any -U -w - port 2049 | tools/verdicts --follow -
 
 Each connection is a capture of its own, which `nfs3canon check` judges, so a fault in one hides nothing of another. Printed is
 a table with a row for each: the recording, the connection's number and ends, its calls and replies, and the verdict: `ok`, or
@@ -13,6 +14,9 @@ recording); `-` is standard input. --junit writes the verdicts as JUnit XML, as 
 with an object for each row and for each note on a recording. N recordings are judged at once, as many as there are processors if
 it is not said.
 
+--follow judges one recording while it is made: `-`, a fifo or a file that grows. The line of a connection is printed once it is closed,
+or once a fault of it is seen; at the end, or at SIGINT or SIGTERM, the others are judged. The manual page says when a fault is seen.
+
 FILE is written beside its name, and gets it once it is whole. It is refused if it is an input, or begins as a recording or a
 capture. The status is 0 if all are ok (with --allow-losses also if they are ok in part), 1 if one is not, 2 if the command line
 or FILE is refused or the program is missing, 3 if FILE cannot be written or a program died.
@@ -22,51 +26,24 @@ import contextlib
 import functools
 import json
 import os
-import re
 import signal
 import sys
 import time
 import typing
 import xml.etree.ElementTree
 
+from .following import follow
+from .judging import HEADS, Verdict, error_of, of_left_out, row_of, status_of, sums_of, tell_notes, told, verdict_of
 from .messages import add_losses, add_options, advice_on, options_of, parser_of, words_of
 from .outputs import check_output, write_file
 from .parts import files_of
-from .places import FilePlace, Place, parse_fault
+from .places import Place, parse_fault
 from .printed import columns, escaped, printable
-from .programs import CHECKED, Answer, Died, FilterRefused, Missing, program_path, run_program
-from .selection import Options, count
-from .taken import FrameRef, LeftOut, NotTaken, Taken, TakenConnection, take
+from .programs import CHECKED, Died, FilterRefused, Missing, program_path, run_program
+from .selection import Options
+from .taken import NotTaken, Taken, TakenConnection, take
 
-NOT_ALL_OK = 1
 CONNECTIONS_AT_ONCE = 32  # of a recording
-State = typing.Literal['ok', 'in part', 'refused', 'error', 'skipped', 'note']
-COUNTS = re.compile(r'ok connections=1 calls=(\d+) replies=(\d+) handles=\d+\n')
-
-
-class Verdict(typing.NamedTuple):
-    """What is said of a connection, or of a recording or capture as a whole (then the connection is None). A note is no verdict.
-
-    place: where its first fault is, without the connection; reason: that of the program; message: all of it in words
-    missing: how many of its bytes the recording lacks
-    """
-    recording: str
-    connection: int | None = None
-    tcp_stream: int | None = None
-    client: str = ''
-    server: str = ''
-    calls: int | None = None
-    replies: int | None = None
-    state: State = 'ok'
-    message: str = 'ok'
-    place: str | None = None
-    reason: str | None = None
-    missing: int = 0
-    frames: list[FrameRef] = []
-    notes: list[str] = []
-    seconds: float = 0.0
-
-
 Look = typing.Callable[[Taken, list[Verdict]], object]
 
 
@@ -127,44 +104,6 @@ class Judge(typing.NamedTuple):
         return [Verdict(recording, at, state='refused', message=str(fault), place=str(fault.place), reason=fault.reason)]
 
 
-def verdict_of(recording: str, taken: Taken, connection: TakenConnection, answer: Answer) -> Verdict:
-    """What the program's answer on a connection's capture says."""
-    verdict = Verdict(recording, connection.number, connection.stream_number, connection.client_end, connection.server_end)
-    counts, fault = COUNTS.fullmatch(answer.out), parse_fault(answer.error)
-    verdict = verdict._replace(missing=connection.missing)
-    if answer.status == 0 and counts:
-        verdict = verdict._replace(calls=int(counts[1]), replies=int(counts[2]))
-        return verdict._replace(state='in part', message=in_part(int(counts[1]), connection.missing)) if connection.missing else verdict
-    calls, replies = connection.client.count_records(), connection.server.count_records()
-    verdict = verdict._replace(calls=calls, replies=replies)
-    if answer.status != 2 or fault is None or isinstance(fault.place, FilePlace):
-        return verdict._replace(state='error', message=told(answer))
-    frames = taken.frames(fault.place._replace(connection=connection.number))
-    place = str(fault.place).removeprefix('connection 1 ')
-    message = f'{place}: {fault.reason}' + ''.join(f', frame {frame.number}' for frame in frames)
-    return verdict._replace(state='refused', message=message, place=place, reason=fault.reason, frames=frames)
-
-
-def in_part(calls: int, missing: int) -> str:
-    return f'ok in part: {count(calls, "call")}, {count(missing, "byte")} missing'
-
-
-def of_left_out(recording: str, left_out: LeftOut) -> Verdict:
-    """A connection that is left out is skipped, but not if it is for bytes that the recording lacks."""
-    if left_out.missing:
-        return Verdict(recording, state='in part', message=f'left out: {left_out}', missing=left_out.missing)
-    return Verdict(recording, state='skipped', message=str(left_out))
-
-
-def error_of(recording: str, message: str) -> Verdict:
-    return Verdict(recording, state='error', message=message)
-
-
-def told(answer: Answer) -> str:
-    """What the program said last."""
-    return (answer.error or answer.out).strip() or f'the program ended with status {answer.status}'
-
-
 # --- The command ---
 
 def main(words: list[str]) -> int:
@@ -172,18 +111,24 @@ def main(words: list[str]) -> int:
     parser.add_argument('recordings', metavar='RECORDING|CAPTURE', nargs='+')
     parser.add_argument('--junit', metavar='FILE', help='writes the verdicts as JUnit XML')
     parser.add_argument('--json', metavar='FILE', help='writes the verdicts as JSON')
-    parser.add_argument('-j', metavar='N', type=positive, default=os.cpu_count() or 1, help='judges N recordings at once')
+    parser.add_argument('-j', metavar='N', type=positive, help='judges N recordings at once')
+    parser.add_argument('--follow', action='store_true', help='judges one recording while it is made, and prints each verdict at once')
     parser.add_argument('--program', metavar='PROGRAM', help='nfs3canon')
     add_options(parser)
     add_losses(parser, 'ok in part')
     chosen = parser.parse_args(words)
-    at_once = max(1, min(CONNECTIONS_AT_ONCE, chosen.j // len(chosen.recordings)))
+    if chosen.follow:
+        if len(chosen.recordings) > 1 or any((chosen.j, chosen.junit, chosen.json, chosen.filter)):
+            parser.error('--follow takes one recording, and none of -j, --junit, --json and --filter')
+        return follow(chosen.recordings[0], program_path(chosen.program), options_of(chosen), chosen.allow_losses)
+    recordings_at_once = chosen.j or os.cpu_count() or 1
+    at_once = max(1, min(CONNECTIONS_AT_ONCE, recordings_at_once // len(chosen.recordings)))
     inputs = [file for recording in chosen.recordings for file in files_of(recording)]
     for path in [path for path in (chosen.junit, chosen.json) if path]:
         check_output(path, inputs)
     judge = Judge(program_path(chosen.program), options_of(chosen), at_once, len(chosen.recordings) == 1)
     try:
-        verdicts = list(judged(judge, chosen.recordings, chosen.j))
+        verdicts = list(judged(judge, chosen.recordings, recordings_at_once))
     except concurrent.futures.BrokenExecutor as broken:
         raise OSError('a process that judged a recording was killed, as when memory runs out') from broken
     print_table(verdicts)
@@ -192,12 +137,6 @@ def main(words: list[str]) -> int:
     if chosen.json:
         write_file(chosen.json, [json_of(verdicts)], inputs)
     return status_of(verdicts, chosen.allow_losses)
-
-
-def status_of(verdicts: list[Verdict], allows_losses: bool) -> int:
-    """The status of a tool after these verdicts."""
-    good = ['ok', 'skipped', 'note', *(['in part'] if allows_losses else [])]
-    return 0 if all(verdict.state in good for verdict in verdicts) else NOT_ALL_OK
 
 
 def positive(word: str) -> int:
@@ -234,36 +173,9 @@ def leave_interrupts() -> None:
 def print_table(verdicts: list[Verdict]) -> None:
     """Prints a row for each verdict but those on connections that are left out, which with all notes go to standard error."""
     tell_notes(verdicts)
-    heads = ('recording', 'connection', 'client', 'server', 'calls', 'replies', 'verdict')
-    for line in columns([heads, *(row_of(verdict) for verdict in verdicts if verdict.state not in ('skipped', 'note'))]):
+    for line in columns([HEADS, *(row_of(verdict) for verdict in verdicts if verdict.state not in ('skipped', 'note'))]):
         print(line)
     print(sums_of(verdicts))
-
-
-def tell_notes(verdicts: list[Verdict]) -> None:
-    """Prints on standard error what is missing from recordings, and which connections are left out."""
-    for verdict in verdicts:
-        said = {'skipped': [f'left out: {verdict.message}'], 'note': [verdict.message]}.get(verdict.state, [])
-        for line in [*verdict.notes, *said]:
-            print(printable(f'{named(verdict)}: {line}'), file=sys.stderr)
-
-
-def named(verdict: Verdict) -> str:
-    """The recording of a verdict, and its connection if it is on one."""
-    name = escaped(verdict.recording)
-    return name if verdict.connection is None else f'{name}: connection {verdict.connection}'
-
-
-def sums_of(verdicts: list[Verdict]) -> str:
-    states = [verdict.state for verdict in verdicts]
-    return f'{states.count("ok")} ok, {states.count("in part")} in part, {states.count("refused")} refused, {states.count("error")} errors'
-
-
-def row_of(verdict: Verdict) -> tuple[str, ...]:
-    numbers = (verdict.connection, verdict.calls, verdict.replies)
-    connection, calls, replies = ('-' if number is None else str(number) for number in numbers)
-    return (escaped(verdict.recording), connection, verdict.client or '-', verdict.server or '-', calls, replies,
-            printable(verdict.message))
 
 
 def junit_of(verdicts: list[Verdict], allows_losses: bool) -> bytes:
