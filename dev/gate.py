@@ -37,8 +37,8 @@ TRIED = ('message_tests', 'capture_tests', 'command_tests', 'mask_tests', 'progr
 # What the tests of tests/ run, by crates.
 BUILT = {'nfs3canon': 'nfs3canon', 'nfs3mask': 'nfs3mask', 'memory_tests': 'memory_tests_tests'}
 TESTS = ('shipped', 'must_fail', 'run', 'captures', 'fuzz', 'failures', 'memory', 'hostile', 'large', 'tools', 'from_pcap', 'lossy',
-         'verdicts', 'following', 'procedures', 'compare', 'orders', 'findings', 'page', 'ci', 'explain', 'cut', 'installing', 'harm',
-         'instructions')
+         'verdicts', 'following', 'procedures', 'compare', 'orders', 'marks', 'findings', 'page', 'ci', 'explain', 'cut', 'installing',
+         'harm', 'instructions')
 PROVED = re.compile(r'^rt: (\w+) (?:proved$|is kept: )')
 COUNTS = re.compile(r'^(?:rt: )?(\d+) passed, (\d+) failed')
 TRIED_COUNTS = re.compile(r'^test result: .*?(\d+) passed; (\d+) failed', re.MULTILINE)

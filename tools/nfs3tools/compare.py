@@ -1,7 +1,7 @@
 """Compares two ordinary runs: are they the same but for what two runs never share, and if not, what differs.
 
-    tools/compare [--mask CLASS,..] [--order strict|any] [--ignore PROCEDURE.FIELD,..] [--all] [--brief] [--html FILE] [--json FILE]
-                  [--junit FILE] A B
+    tools/compare [--mask CLASS,..] [--order strict|any] [--ignore PROCEDURE.FIELD,..] [--marks PATTERN] [--all] [--brief] [--html FILE]
+                  [--json FILE] [--junit FILE] A B
 
 A and B are recordings (pcap, pcapng; a pattern in quotes names the parts of one) or captures. Values that each run has its own
 of are masked first: of the classes below, those marked with a star by default. What is masked is always printed. Then
@@ -22,6 +22,11 @@ way are printed once, with their number. --brief prints a line for each.
 NAME=number say how. --ignore NFSPROC3_GETATTR.obj.nlink,*.eof leaves fields out of what is printed and written of the differences, by
 their labels, or by the name of items, as `nlink`, whose ever they are; the verdict is that of the mask all the same.
 
+--marks compares the parts of a test run one by one, each as a run of its own. A part begins with a call of LOOKUP, CREATE or MKDIR whose
+name fits PATTERN (of the shell, as 'test_*'), and has that name. It has the calls that were sent up to the next mark, over all connections,
+and their replies. What is before the first mark is a part, too. A line for each part has its verdict. Then come the findings of those that
+differ, and last how many parts have which verdict. The status is 1 if a part differs, or is in one run alone.
+
 --junit writes a test case for the verdict, which fails if the status is 1, and then one that fails for each difference. Runs that cannot
 be compared are a case with an error.
 
@@ -35,24 +40,27 @@ import os
 import re
 import sys
 import tempfile
+from collections import Counter
 from contextlib import ExitStack
 from pathlib import Path
+from typing import NamedTuple
 
 from . import pages, summing, telling
 from .classes import CLASSES, in_any_order, mask_word, told
-from .comparing import Compared, Run
+from .comparing import Compared, Framing, Run
+from .deciding import judged, run_of
 from .ignoring import ignored_of, without
-from .listings import Message
 from .messages import REFUSED, add_losses, add_options, advice_on, options_of, parser_of
-from .orders import Choices, Found, Orders
+from .orders import Choices
 from .outputs import check_output, held, write_file
 from .pages import Content, Recorded
 from .pairing import ASKING
+from .part_by_part import PartByPart
 from .parts import files_of
 from .places import Place, parse_fault
 from .printed import escaped
 from .programs import CHECKED, program_path, run_program
-from .reports import Report, Size, json_of, junit_of, junit_of_error
+from .reports import Report, Size, json_of, json_of_parts, junit_of, junit_of_error, junit_of_parts
 from .selection import count
 from .shown import Around
 from .taken import NotTaken, Taken, take
@@ -87,6 +95,8 @@ def words_of(words: list[str]) -> argparse.Namespace:
                         help='what is left out in any order if one run alone has it: calls that ask and change nothing, or none')
     parser.add_argument('--ignore', type=ignored_of, action='extend', default=[], metavar='PROCEDURE.FIELD,..',
                         help='fields that are left out of the explanation; * is any procedure')
+    parser.add_argument('--marks', metavar='PATTERN',
+                        help='compares the parts that begin at calls of LOOKUP, CREATE and MKDIR whose name fits a pattern of the shell')
     parser.add_argument('--all', action='store_true',
                         help=f'prints each finding by itself; by default, equal ones are one, and {FINDINGS_AT_MOST} are printed')
     parser.add_argument('--brief', action='store_true', help='prints a line for each finding')
@@ -98,7 +108,10 @@ def words_of(words: list[str]) -> argparse.Namespace:
     parser.add_argument('--program', help='the program, if it is not the one of this folder')
     parser.add_argument('first', metavar='A')
     parser.add_argument('second', metavar='B')
-    return parser.parse_args(words)
+    chosen = parser.parse_args(words)
+    if chosen.marks is not None and chosen.html:
+        parser.error('--html is not for parts: --marks has --json and --junit')
+    return chosen
 
 
 def tell(name: str, taken: Taken) -> None:
@@ -121,13 +134,6 @@ def checked(program: str, taken: Taken, capture: str, name: str) -> Size:
     raise Ended(REFUSED, f'{escaped(name)}: {line}' + ''.join(f' (frame {frame.number})' for frame in frames))
 
 
-def run_of(trial: Trial, taken: Taken, capture: str, name: str) -> Run:
-    def frames(message: Message) -> list[int]:
-        place = Place(message.connection, 'client' if message.is_call else 'server', message.record)
-        return [frame.number for frame in taken.frames(place)] if taken.has_frames else []
-    return Run(escaped(name), trial.listing(capture), frames)
-
-
 def recorded_of(taken: Taken, name: str) -> Recorded:
     files = files_of(name)
     is_known = all(os.path.isfile(file) for file in files)
@@ -144,11 +150,17 @@ def losses_of(first: Taken, second: Taken) -> str:
     return ', '.join(f'{count(missing, "byte")} missing from the {name} run' for name, missing in lost if missing)
 
 
-def line_of(verdict: str, compared: Size | str, losses: str) -> str:
-    """What is printed of the verdict: how much was compared, and in which part."""
-    if verdict.startswith('differ'):
-        return f'{verdict}\ncompared in part: {losses}' if losses else verdict
-    return f'{verdict} in part: {compared}, {losses}' if losses else f'{verdict}: {compared}'
+class Whole(NamedTuple):
+    """Both runs as they were taken, checked and written as captures."""
+    names: list[str]
+    inputs: list[str]  # their files
+    taken: list[Taken]
+    trial: Trial
+    sizes: list[Size]
+    runs: list[Run]
+
+    def framings(self) -> list[Framing]:
+        return [run.frames for run in self.runs]
 
 
 def compared_runs(words: argparse.Namespace, stack: ExitStack) -> int:
@@ -164,44 +176,73 @@ def compared_runs(words: argparse.Namespace, stack: ExitStack) -> int:
     for taken, name in zip(runs, names):
         tell(name, taken)
     sizes = [checked(program, *one) for one in zip(runs, trial.captures, names)]
+    whole = Whole(names, inputs, runs, trial, sizes, [run_of(trial, *one) for one in zip(runs, trial.captures, names)])
     masks = in_any_order(words.mask)
     print(f'masked: {told(masks[0])}', flush=True)
-    verdict, losses = trial.same(trial.masked(trial.captures, masks[0])), losses_of(*runs)
-    first, second = (run_of(trial, *one) for one in zip(runs, trial.captures, names))
-    found = Found(Compared(exchanges=sizes[0].calls, calls=(sizes[0].calls, sizes[1].calls)))
-    if verdict != 'same' or words.html:
-        leaves_out, order = frozenset() if words.extra == 'none' else ASKING, 'strict' if verdict == 'same' else words.order
-        found = Orders(trial, first, second, Choices(order, masks, leaves_out, AROUND if words.html else None)).found()
-    is_turned = found.same_under is not None
-    said = summing.IN_ANOTHER_ORDER if is_turned else 'differ in any order' if verdict != 'same' and words.order == 'any' else verdict
-    line = line_of(said, summing.of_same(found, masks[0]) if is_turned else sizes[0], losses)
+    choices = Choices(words.order, masks, frozenset() if words.extra == 'none' else ASKING, AROUND if words.html else None)
+    is_same = (compared_whole if words.marks is None else compared_by_parts)(words, whole, choices, losses_of(*runs))
+    return SAME if is_same else DIFFERENT
+
+
+def compared_whole(words: argparse.Namespace, whole: Whole, choices: Choices, losses: str) -> bool:
+    """Compares the runs as wholes. Returns whether they are the same."""
+    said = judged(whole.trial, whole.runs, whole.sizes, choices)
+    line = said.line(choices, whole.sizes[0], losses)
     print(line, flush=True)
-    report = Report(verdict, masks[0], (names[0], names[1]), (sizes[0], sizes[1]), (runs[0].missing, runs[1].missing), found.same_under)
-    is_same = verdict == 'same' or is_turned and words.order == 'any'
-    is_good = is_same and (words.allow_losses or not losses)
-    explain(words, inputs, line, report, found.compared, [first, second], [recorded_of(*one) for one in zip(runs, names) if words.html],
-            is_good)
-    return SAME if is_good else DIFFERENT
+    is_good = said.is_same and (words.allow_losses or not losses)
+    report = said.report(choices, whole.names, whole.sizes, (whole.taken[0].missing, whole.taken[1].missing))
+    explain(words, whole, line, report, said.found.compared, is_good)
+    return is_good
 
 
-def explain(words: argparse.Namespace, inputs: list[str], line: str, report: Report, whole: Compared, runs: list[Run],
-            recorded: list[Recorded], is_good: bool) -> None:
-    """Writes and prints what differs between two runs. Findings that do not count in another order are printed if all are asked for."""
-    compared, left_out = without(whole, words.ignore)
-    counts = report.same_under is None or words.all
+def explain(words: argparse.Namespace, whole: Whole, line: str, report: Report, found: Compared, is_good: bool) -> None:
+    """Writes and prints what differs between two runs."""
+    compared, left_out = without(found, words.ignore)
     if words.junit:
-        findings = compared.findings if counts else []
-        write_file(words.junit, [junit_of(line, report, findings, [run.frames for run in runs], is_good)], inputs)
+        findings = compared.findings if is_told(words, report) else []
+        write_file(words.junit, [junit_of(line, report, findings, whole.framings(), is_good)], whole.inputs)
     if words.html:
-        write_page(words.html, inputs, Content(line, report, compared, words.ignore, left_out, runs, recorded))
+        recorded = [recorded_of(*one) for one in zip(whole.taken, whole.names)]
+        write_page(words.html, whole.inputs, Content(line, report, compared, words.ignore, left_out, whole.runs, recorded))
     if words.json:
-        write_file(words.json, json_of(report, compared, left_out, [run.frames for run in runs]), inputs)
-    if report.verdict != 'same':
-        if counts:
-            for text in telling.of_compared(compared, runs[0].frames, runs[1].frames, None if words.all else FINDINGS_AT_MOST, left_out,
-                                            words.brief):
-                print(text)
-        print(summing.of_compared(compared))
+        write_file(words.json, json_of(report, compared, left_out, whole.framings()), whole.inputs)
+    print_found(words, whole, report, compared, left_out)
+
+
+def is_told(words: argparse.Namespace, report: Report) -> bool:
+    """Whether findings are told. Those that do not count in another order are if all are asked for."""
+    return report.same_under is None or bool(words.all)
+
+
+def print_found(words: argparse.Namespace, whole: Whole, report: Report, compared: Compared, left_out: Counter[tuple[str, str]]) -> None:
+    if report.verdict == 'same':
+        return
+    if is_told(words, report):
+        first, second = whole.framings()
+        for text in telling.of_compared(compared, first, second, None if words.all else FINDINGS_AT_MOST, left_out, words.brief):
+            print(text)
+    print(summing.of_compared(compared))
+
+
+def compared_by_parts(words: argparse.Namespace, whole: Whole, choices: Choices, losses: str) -> bool:
+    """Compares the parts that begin at marks. Returns whether all are the same."""
+    parts = PartByPart(whole.trial, whole.names, whole.runs, words.marks, choices).reports(words.ignore)
+    for part in parts:
+        print(part.line)
+    counts = '' if words.allow_losses else losses
+    if words.junit:
+        write_file(words.junit, [junit_of_parts(whole.names, counts, parts, whole.framings())], whole.inputs)
+    if words.json:
+        missing = [taken.missing for taken in whole.taken]
+        write_file(words.json, json_of_parts(words.marks, missing, parts, whole.framings()), whole.inputs)
+    for part in parts:
+        if part.report and part.report.verdict != 'same' and is_told(words, part.report):
+            print(part.label)
+            print_found(words, whole, part.report, part.compared, part.left_out)
+    if losses:
+        print(f'compared in part: {losses}')
+    print(summing.of_parts([part.word() for part in parts]))
+    return not counts and all(part.is_good for part in parts)
 
 
 def write_error(words: argparse.Namespace, message: str) -> None:

@@ -51,7 +51,7 @@ class Cut(NamedTuple):
     records: dict[Side, dict[int, Extent]]
 
     def streams(self) -> tuple[TakenStream, TakenStream]:
-        client, server = (self.connection.stream(side).part(self.records[side].values()) for side in SIDES)
+        client, server = (self.connection.stream(side).part(extent[:2] for extent in self.records[side].values()) for side in SIDES)
         return client, server
 
 

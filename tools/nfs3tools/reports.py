@@ -43,6 +43,30 @@ class Report(NamedTuple):
         return f'{verdict} in part' if verdict.startswith('same') and any(self.missing) else verdict
 
 
+class PartReport(NamedTuple):
+    """What is said of a part of two runs.
+
+    label: its name as it is printed
+    name, number: the name of its mark, None before the first mark, and how often parts had that name so far
+    line: what is printed of it
+    is_good: whether it is the same, if the order counts as was asked for
+    only: 'first' or 'second' if one run alone has it
+    report, compared, left_out: if both runs have it, as of whole runs
+    """
+    label: str
+    name: str | None
+    number: int
+    line: str
+    is_good: bool
+    only: str | None
+    report: Report | None
+    compared: Compared
+    left_out: Counter[tuple[str, str]]
+
+    def word(self) -> str:
+        return self.report.word() if self.report else f'only in the {self.only} run'
+
+
 def json_of(report: Report, compared: Compared, left_out: Counter[tuple[str, str]], framings: Sequence[Framing]) -> Iterator[bytes]:
     """The comparison, in pieces: an object, each of whose findings is a line. Without findings there need be no framings."""
     runs = zip(report.names, report.sizes, report.missing, compared.lonely, compared.left_out)
@@ -58,6 +82,17 @@ def json_of(report: Report, compared: Compared, left_out: Counter[tuple[str, str
     for number, finding in enumerate(compared.findings):
         yield b',\n  ' if number else b'\n  '
         yield json.dumps(of_finding(finding, *framings)).encode()
+    yield b'\n ]\n}\n'
+
+
+def json_of_parts(marks: str, missing: Sequence[int], parts: Sequence[PartReport], framings: Sequence[Framing]) -> Iterator[bytes]:
+    """The comparison of parts, in pieces: an object with a list of the parts. What is said of a part is an object as of whole runs."""
+    yield json.dumps({'marks': marks, 'missing': list(missing)}, indent=1).removesuffix('\n}').encode() + b',\n "parts": ['
+    for turn, part in enumerate(parts):
+        head = {'name': part.name, 'number': part.number, 'verdict': part.word(), 'only': part.only}
+        yield (b',\n' if turn else b'\n') + json.dumps(head).removesuffix('}').encode() + b', "comparison": '
+        yield from json_of(part.report, part.compared, part.left_out, framings) if part.report else [b'null\n']
+        yield b'}'
     yield b'\n ]\n}\n'
 
 
@@ -127,6 +162,22 @@ def junit_of(line: str, report: Report, findings: Sequence[Finding], framings: S
     for group in groups[:CASES_AT_MOST]:
         said = brief_of(group, *framings)
         suite.add(said.partition(' | ')[0], 'failure', said, of_group(group, *framings), type=group[0].kind)
+    return suite.written()
+
+
+def junit_of_parts(names: Sequence[str], losses: str, parts: Sequence[PartReport], framings: Sequence[Framing]) -> bytes:
+    """A case for each part, which passed if the part is good, with what differs. Before them one for what is missing, if that counts."""
+    suite = Suite(names)
+    if losses:
+        suite.add('the runs are whole', 'failure', losses, type='same in part')
+    for part in parts:
+        if part.is_good:
+            suite.add(part.label, text=[part.line])
+        else:
+            groups = folded(part.compared.findings)
+            texts = [line for group in groups[:CASES_AT_MOST] for line in of_group(group, *framings)]
+            more = [f'{len(groups) - CASES_AT_MOST:,} more findings'] if len(groups) > CASES_AT_MOST else []
+            suite.add(part.label, 'failure', part.line, [*texts, *more], type=part.word())
     return suite.written()
 
 

@@ -1,6 +1,6 @@
 """What is said of a comparison as a whole."""
 from collections import Counter
-from collections.abc import Iterator
+from collections.abc import Iterator, Sequence
 
 from .classes import Mask, told
 from .comparing import Compared
@@ -10,6 +10,7 @@ from .selection import count, plural
 FIELDS_AT_MOST = 4
 RUNS = ('first', 'second')
 IN_ANOTHER_ORDER = 'same in another order'
+VERDICTS = ('same', IN_ANOTHER_ORDER, 'differ', 'only in the first run', 'only in the second run')  # on a part
 
 
 def short(procedure: str) -> str:
@@ -70,3 +71,11 @@ def of_compared(compared: Compared) -> str:
     words += [f'{what} more in the {name} run' for what, name in left_out(compared)]
     words += [f'{number:,} more in the {name} run' for name, number in zip(RUNS, compared.lonely) if number]
     return '; '.join([*words, *fields_of(compared)])
+
+
+def of_parts(verdicts: Sequence[str]) -> str:
+    """The verdicts of all parts in words: how many have each."""
+    counts = Counter(verdicts)
+    words = [f'{number:,} {plural(number, "differs", "differ") if verdict == "differ" else verdict}'
+             for verdict, number in sorted(counts.items(), key=lambda one: VERDICTS.index(one[0]))]
+    return f'{count(len(verdicts), "part")}: {", ".join(words) or "nothing to compare"}'

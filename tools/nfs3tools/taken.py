@@ -83,9 +83,9 @@ class TakenStream:
             yield begin + shift, part_end + shift
             begin, part = part_end, part + 1
 
-    def part(self, extents: typing.Iterable[Extent]) -> 'TakenStream':
-        """Returns a stream of some records, in their order."""
-        ranges = [piece for extent in extents for piece in self.ranges_of(extent.begin, extent.end)]
+    def part(self, runs: typing.Iterable[tuple[int, int]]) -> 'TakenStream':
+        """Returns a stream of some of the bytes: of runs from where each begins to where it ends, in their order."""
+        ranges = [piece for begin, end in runs for piece in self.ranges_of(begin, end)]
         return TakenStream(self.stored, self.noted, ranges)
 
     def blocks(self) -> typing.Iterator[bytes]:
@@ -127,6 +127,15 @@ class TakenStream:
                 held, following = following, next(brought, NOTHING_MORE)
                 last = held if held.number > last.number else last
             yield end - begin, last.time
+
+    def first_frames(self) -> typing.Iterator[int]:
+        """Iterates over the records in order: the number of the frame that brought the first byte of each, 0 if frames are not noted."""
+        brought, held = self.brought(), NOTHING
+        following = next(brought, NOTHING_MORE)
+        for extent in extents(Window(self), 0, self.size):
+            while following.begin <= extent.begin:
+                held, following = following, next(brought, NOTHING_MORE)
+            yield held.number
 
     def count_records(self) -> int:
         """Returns the number of records, of which the last may be cut."""
