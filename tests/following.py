@@ -5,6 +5,7 @@
 
 PROGRAM is crates/nfs3canon/out/nfs3canon if none is named. The last line is 'N passed, M failed', and the status is 1 if any failed.
 """
+import contextlib
 import os
 import pathlib
 import random
@@ -82,8 +83,11 @@ class Fed:
 
     def stored(self) -> int:
         """The bytes of the temporary files that are open."""
-        folder = pathlib.Path(f'/proc/{self.process.pid}/fd')
-        return sum(file.stat().st_size for file in folder.iterdir() if '(deleted)' in os.readlink(file))
+        size = 0
+        for file in pathlib.Path(f'/proc/{self.process.pid}/fd').iterdir():
+            with contextlib.suppress(FileNotFoundError):  # it may have been closed meanwhile
+                size += file.stat().st_size if '(deleted)' in os.readlink(file) else 0
+        return size
 
 
 def take_signals() -> None:
